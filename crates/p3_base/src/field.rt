@@ -1,4 +1,4 @@
-ghost use Rattle.std.specs.Prelude.{◌≡◌, ◌≢◌, ◌↔◌, ℕ, IsTrue, MatchOption, Option, Some, Decides};
+ghost use Rattle.std.specs.Prelude.{◌≡◌, ◌≢◌, ◌↔◌, ℕ, IsTrue, MatchOption, Some, Decides, List};
 ghost use Rattle.p3_theory.specs.Ring.{Ops, Invertible, IsInverse};
 ghost use Rattle.p3_theory.specs.Residues.{AreResidues};
 
@@ -11,6 +11,9 @@ use std::ops::{Div, DivAssign};
 /// inverse need not be zero: residues modulo a composite number and reducible extensions have
 /// these laws too, and `try_inverse` is exact there.
 pub trait Field: PrimeCharacteristicRing + Eq + Display + Div<Output = Self> + DivAssign {
+    /// The text that `Display` writes.
+    ghost text: { Self → List ℕ };
+
     /// Whether the value is zero.
     #[inline]
     fn is_zero(&self) -> bool
@@ -55,8 +58,8 @@ pub trait Field: PrimeCharacteristicRing + Eq + Display + Div<Output = Self> + D
 
     ghost divide_assigns: { (x y r : Self) → Self.div_assign_gives x y r → Self.ops.mul r y ≡ x };
 
-    /// Every value has a text.
-    ghost shows: { (x : Self) → (text : _) × (Self.output x ≡ Some text) };
+    /// `Display` writes exactly the text.
+    ghost shows: { (x : Self) → Self.output x ≡ Some (text x) };
 }
 
 /// The residues modulo an order, which need not be prime. Upstream's `PrimeField`.

@@ -29,3 +29,7 @@ pub mod Iteration
 pub mod Places
 pub mod PowerLaws
 pub mod Reify
+pub mod Accumulation
+pub mod ProductPlaces
+pub mod Text
+pub mod TextSteps

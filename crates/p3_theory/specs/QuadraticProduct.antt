@@ -19,6 +19,13 @@ pair-set (x ∷ []) u v h = absurd (omega arith)
 pair-set (x ∷ y ∷ []) u v h = refl
 pair-set (x ∷ y ∷ z ∷ xs) u v h = absurd (omega arith)
 
+-- writing both items of a pair over two items leaves the pair
+pub pair-copied : {A : Type 0} (xs ys : List A) (d e : A) → length xs ≡ 2 → length ys ≡ 2 → set (set xs 0 (get_or ys 0 d)) 1 (get_or ys 1 e) ≡ ys
+pair-copied xs [] d e h k = absurd (omega arith)
+pair-copied xs (u ∷ []) d e h k = absurd (omega arith)
+pair-copied xs (u ∷ v ∷ []) d e h k = pair-set xs u v h
+pair-copied xs (u ∷ v ∷ z ∷ ys) d e h k = absurd (omega arith)
+
 module _ {A : Type 0} (R : Ring A) where
   quadratic_formula : (a0 a1 b0 b1 w : A) → quotient_mul R.ops 2 (binomial R.ops 2 w) (a0 ∷ a1 ∷ []) (b0 ∷ b1 ∷ [])
       ≡ R.add (R.mul a0 b0) (R.mul a1 (R.mul b1 w)) ∷ R.add (R.mul a0 b1) (R.mul a1 b0) ∷ []

@@ -1,0 +1,18 @@
+use Rattle.p3_theory.specs.Ring.{ring_of}
+use Rattle.p3_theory.specs.Accumulation.{sum_from_zero}
+use Rattle.p3_theory.specs.Places.{zero-list}
+use Rattle.p3_ext.specs.Values.{ext_laws, is_sum, same_value, constant}
+use Rattle.p3_ext.proofs.extension.ext_field.ExtFieldSum.sum.Goals as goal
+
+pub returns : goal.returns
+returns g c =
+    let o = g.A.PrimeCharacteristicRing.ops in
+    let m = g.met.A.ExtensionAlgebra in
+    let f = g.A.ExtensionAlgebra.modulus in
+    let ran = c.sum_from.ensures.ran in
+    record {
+      ran = (ran.0, λ _. ran.1,
+        sum_from_zero (ext_laws (ring_of g.met.A.PrimeCharacteristicRing.ring) g.row.D m.at_least_two f m.monic) _
+          (λ x y r h. is_sum o f g.A.Add.add_gives g.met.A.PrimeCharacteristicRing.adds.answer x y r h) _
+          (same_value _ (constant o o.zero) (zero-list o g.row.D c.zero.result c.zero.ensures)) ran.0 c.sum_from.result ran.2);
+    }

@@ -1,0 +1,132 @@
+-- The Frobenius map of values, their norm, and which of them have an inverse.
+use Rattle.std.specs.Prelude.{◌≡◌, ◌<◌, ◌≤◌, ◌-◌, ◌+◌, ◌≢◌, ℕ, List, length, refl, get_or}
+use Rattle.std.proofs.Common.{ap, ap₂, arith, ◌∙◌, sym, zero, suc, subst}
+use Rattle.std.proofs.lemmas.List.{get_or_default}
+use Rattle.p3_theory.specs.Ring.{Ops, Ring, RingLaws, Invertible}
+use Rattle.p3_theory.specs.Polynomial as P
+use Rattle.p3_theory.specs.Polynomial.{IsMonic}
+use Rattle.p3_theory.specs.QuotientRing.{Ext, extension, Ext-path}
+use Rattle.p3_theory.specs.Frobenius.{orbit_product, iterate}
+use Rattle.p3_theory.specs.Substitution as Sg
+use Rattle.p3_theory.specs.FrobeniusTable.{frobenius_list, IsFrobeniusTable}
+use Rattle.p3_theory.specs.FrobeniusTableLaws.{length-frobenius_list}
+use Rattle.p3_theory.specs.FrobeniusNorm as T
+use Rattle.p3_theory.specs.Iteration.{orbit}
+use Rattle.p3_ext.specs.Values.{value_of, constant, ext_ops, same_value, ext_laws}
+use Rattle.p3_ext.specs.declared.extension.ext_field.ExtField.{ExtField}
+
+module _ {F S A : Type 0} {D : ℕ} (o : Ops A) (f phi : List A) where
+  -- the Frobenius map: X becomes phi
+  abbrev pub frobenius_map : ExtField F D S A → ExtField F D S A
+  frobenius_map x = value_of (frobenius_list o D f phi x.value) (length-frobenius_list o D f phi x.value)
+
+  -- the product of the images after 1 to D - 1 times
+  abbrev pub conjugate_product : ExtField F D S A → ExtField F D S A
+  conjugate_product x = orbit (ext_ops o f) frobenius_map (D - 1) (frobenius_map x)
+
+  abbrev pub norm_of : ExtField F D S A → A
+  norm_of x = get_or ((ext_ops o f).mul x (conjugate_product x)).value 0 o.zero
+
+module _ (F S : Type 0) {A : Type 0} (R : Ring A) where
+  module _ (d : ℕ) (f : List A) (m : IsMonic R.ops (suc d) f) (phi : List A) (L : IsFrobeniusTable R.ops (suc d) f phi) where
+    abbrev B : Type 0
+    B = ExtField F (suc d) S A
+
+    abbrev E : Ring (Ext R d f m)
+    E = extension R d f m
+
+    abbrev to : B → Ext R d f m
+    to x = (x.value, x.sized)
+
+    abbrev M : B → B → B
+    M = (ext_ops R.ops f).mul
+
+    abbrev e : B
+    e = constant R.ops R.one
+
+    orbit-to : (n : ℕ) (x : B) → to (orbit (ext_ops R.ops f) (frobenius_map R.ops f phi) n x) ≡ orbit_product R.ops E.ops (Sg.emb R d f m) n (T.sig R d f m phi L) (to x)
+    orbit-to zero x = Ext-path R d f m _ _ refl
+    orbit-to (suc n) x = Ext-path R d f m _ _ refl ∙ ap (E.mul (to x)) (orbit-to n (frobenius_map R.ops f phi x))
+
+    norm-to : (x : B) → P.quotient_mul R.ops (suc d) f x.value (orbit (ext_ops R.ops f) (frobenius_map R.ops f phi) d (frobenius_map R.ops f phi x)).value
+        ≡ P.embed R.ops (suc d) (T.norm R d f m phi L (to x))
+    norm-to x = ap (λ z. z.0) (orbit-to (suc d) x ∙ T.norm_is R d f m phi L (to x))
+
+    exact-suc : (x : B) (n : A) → M x (orbit (ext_ops R.ops f) (frobenius_map R.ops f phi) d (frobenius_map R.ops f phi x)) ≡ constant R.ops n
+        → ((y : B) × (M x y ≡ e)) → Invertible R.ops n
+    exact-suc x n is (y, h) =
+        let same : T.norm R d f m phi L (to x) ≡ n = ap (λ l. get_or l 0 R.zero) (sym (norm-to x) ∙ ap (λ (z : B). z.value) is) in
+        subst (Invertible R.ops) same ((T.inverse_exact R d f m phi L (to x)).0 (to y, Ext-path R d f m _ _ (ap (λ (z : B). z.value) h)))
+
+    is-constant-suc : (x : B) → M x (orbit (ext_ops R.ops f) (frobenius_map R.ops f phi) d (frobenius_map R.ops f phi x))
+        ≡ constant R.ops (get_or (M x (orbit (ext_ops R.ops f) (frobenius_map R.ops f phi) d (frobenius_map R.ops f phi x))).value 0 R.zero)
+    is-constant-suc x = same_value _ _ (norm-to x ∙ ap (P.embed R.ops (suc d)) (sym (ap (λ l. get_or l 0 R.zero) (norm-to x))))
+
+  module _ (f phi : List A) where
+    pub norm_is : (D : ℕ) → 2 ≤ D → IsMonic R.ops D f → IsFrobeniusTable R.ops D f phi
+        → (x : ExtField F D S A) → (ext_ops R.ops f).mul x (conjugate_product R.ops f phi x) ≡ constant R.ops (norm_of R.ops f phi x)
+    norm_is zero h m L x = absurd (omega arith)
+    norm_is (suc d) h m L x =
+        let n : suc d - 1 ≡ d = omega arith in
+        subst (λ j. let r = orbit (ext_ops R.ops f) (frobenius_map R.ops f phi) j (frobenius_map R.ops f phi x) in
+          (ext_ops R.ops f).mul x r ≡ constant R.ops (get_or ((ext_ops R.ops f).mul x r).value 0 R.zero)) (sym n) (is-constant-suc d f m phi L x)
+
+    pub norm_decides : (D : ℕ) → 2 ≤ D → IsMonic R.ops D f → IsFrobeniusTable R.ops D f phi
+        → (x : ExtField F D S A) → ((y : ExtField F D S A) × ((ext_ops R.ops f).mul x y ≡ constant R.ops R.one)) → Invertible R.ops (norm_of R.ops f phi x)
+    norm_decides zero h m L x i = absurd (omega arith)
+    norm_decides (suc d) h m L x i =
+        let n : suc d - 1 ≡ d = omega arith in
+        exact-suc d f m phi L x (norm_of R.ops f phi x)
+          (ap (λ j. (ext_ops R.ops f).mul x (orbit (ext_ops R.ops f) (frobenius_map R.ops f phi) j (frobenius_map R.ops f phi x))) (sym n)
+            ∙ norm_is (suc d) h m L x) i
+
+    constant_mul : (D : ℕ) → 2 ≤ D → IsMonic R.ops D f → (x y : A)
+        → (ext_ops {F = F} {D = D} {S = S} R.ops f).mul (constant R.ops x) (constant R.ops y) ≡ constant R.ops (R.mul x y)
+    constant_mul zero h m x y = absurd (omega arith)
+    constant_mul (suc d) h m x y = same_value _ _ (sym (ap (λ z. z.0) ((Sg.hom R d f m).mul x y)))
+
+    module _ (D : ℕ) (h : 2 ≤ D) (m : IsMonic R.ops D f) (L : IsFrobeniusTable R.ops D f phi) (x : ExtField F D S A) where
+      found : (i : A) → R.mul (norm_of R.ops f phi x) i ≡ R.one
+          → (ext_ops R.ops f).mul x ((ext_ops R.ops f).mul (conjugate_product R.ops f phi x) (constant R.ops i)) ≡ constant R.ops R.one
+      found i is =
+          let l = ext_laws {F = F} {S = S} R D h f m in
+          let M : ExtField F D S A → ExtField F D S A → ExtField F D S A = (ext_ops R.ops f).mul in
+          sym (l.mul_assoc x (conjugate_product R.ops f phi x) (constant R.ops i))
+            ∙ ap (λ z. M z (constant R.ops i)) (norm_is D h m L x)
+            ∙ constant_mul D h m (norm_of R.ops f phi x) i ∙ ap (constant R.ops) is
+
+      norm-by : (rest whole : ExtField F D S A) (n : A) → rest ≡ conjugate_product R.ops f phi x → whole.value ≡ P.quotient_mul R.ops D f x.value rest.value
+          → n ≡ get_or whole.value 0 n → n ≡ norm_of R.ops f phi x
+      norm-by rest whole n er ew en =
+          en ∙ get_or_default whole.value 0 n R.zero (omega (arith, whole.sized, h))
+            ∙ ap (λ l. get_or l 0 R.zero) (ew ∙ ap (λ (r : ExtField F D S A). P.quotient_mul R.ops D f x.value r.value) er)
+
+      -- from the steps of the code
+      pub found_by : (rest whole factor y : ExtField F D S A) (n i : A) → rest ≡ conjugate_product R.ops f phi x → whole.value ≡ P.quotient_mul R.ops D f x.value rest.value
+          → n ≡ get_or whole.value 0 n → R.mul n i ≡ R.one → factor.value ≡ P.embed R.ops D i → y.value ≡ P.quotient_mul R.ops D f rest.value factor.value
+          → (ext_ops R.ops f).mul x y ≡ constant R.ops R.one
+      found_by rest whole factor y n i er ew en ei ef ey =
+          ap ((ext_ops R.ops f).mul x) (same_value y ((ext_ops R.ops f).mul rest factor) ey
+            ∙ ap₂ ((ext_ops R.ops f).mul) er (same_value factor (constant R.ops i) ef))
+            ∙ found i (ap (λ k. R.mul k i) (sym (norm-by rest whole n er ew en)) ∙ ei)
+
+      pub absent_by : (rest whole : ExtField F D S A) (n : A) → rest ≡ conjugate_product R.ops f phi x → whole.value ≡ P.quotient_mul R.ops D f x.value rest.value
+          → n ≡ get_or whole.value 0 n → ((i : A) → R.mul n i ≢ R.one) → (y : ExtField F D S A) → (ext_ops R.ops f).mul x y ≢ constant R.ops R.one
+      absent_by rest whole n er ew en none y e =
+          let v = norm_decides D h m L x (y, e) in none v.0 (ap (λ k. R.mul k v.0) (norm-by rest whole n er ew en) ∙ v.1)
+
+-- the Frobenius map taken D times is the identity
+module _ {F S A : Type 0} {D : ℕ} (o : Ops A) (f phi : List A) where
+  iterate-value : (n : ℕ) (x : ExtField F D S A) → (iterate (frobenius_map o f phi) n x).value ≡ iterate (frobenius_list o D f phi) n x.value
+  iterate-value zero x = refl
+  iterate-value (suc n) x = iterate-value n (frobenius_map o f phi x)
+
+  pub whole_turn : IsFrobeniusTable o D f phi → (x : ExtField F D S A) → iterate (frobenius_map o f phi) D x ≡ x
+  whole_turn L x = same_value _ _ (iterate-value D x ∙ L.order x.value x.sized)
+
+-- a value times an inverse of y, times y, is the value
+pub divided : {F S A : Type 0} {D : ℕ} (o : Ops A) (f : List A) → RingLaws {A = ExtField F D S A} (ext_ops o f) → (x y i r : ExtField F D S A)
+    → r ≡ (ext_ops o f).mul x i → (ext_ops o f).mul y i ≡ (ext_ops o f).one → (ext_ops o f).mul r y ≡ x
+divided {F = F} {S = S} {A = A} {D = D} o f l x y i r p q =
+    let M : ExtField F D S A → ExtField F D S A → ExtField F D S A = (ext_ops o f).mul in
+    ap (λ z. M z y) p ∙ l.mul_assoc x i y ∙ ap (M x) (l.mul_comm i y ∙ q) ∙ l.mul_one x

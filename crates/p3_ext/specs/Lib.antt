@@ -1,0 +1,4 @@
+pub mod Values
+pub mod Bases
+pub mod Conjugates
+pub mod BinomialShape

@@ -1,0 +1,124 @@
+ghost use Rattle.std.specs.Prelude.{◌≡◌, ◌≤◌, ◌<◌, ℕ, List, length, replicate};
+ghost use Rattle.p3_theory.specs.Ring.{Ops, Invertible, subtract};
+ghost use Rattle.p3_theory.specs.Polynomial.{IsMonic, quotient_mul, binomial};
+ghost use Rattle.p3_theory.specs.Powers.{power};
+ghost use Rattle.p3_theory.specs.FrobeniusTable.{frobenius_list, IsFrobeniusTable};
+
+pub mod binomial_extension;
+pub mod display;
+pub mod ext_field;
+pub mod frobenius;
+
+use ext_field::ExtField;
+use p3_base::field::Field;
+use p3_base::ring::{Algebra, PrimeCharacteristicRing};
+use std::marker::PhantomData;
+
+mod sealed {
+    pub trait Sealed {}
+}
+
+/// How products of an extension fold back: the polynomial that is zero there. Sealed, this
+/// project's own; upstream has a type for each shape.
+pub trait ExtensionShape: Copy + sealed::Sealed {}
+
+/// The shape `X^D = W`, for a base field F.
+#[derive(Clone, Copy)]
+pub struct Binomial<F>(PhantomData<F>);
+
+impl<F: Copy> sealed::Sealed for Binomial<F> {}
+
+impl<F: Copy> ExtensionShape for Binomial<F> {}
+
+/// An extension of F modulo `X^D - W`. Upstream's `BinomialExtensionField`.
+pub type BinomialExtensionField<F, const D: usize, A = F> = ExtField<F, D, Binomial<F>, A>;
+
+/// The product of coefficient lists alone, under the smallest bounds. `*` of `ExtField` stands on
+/// it; upstream has the product in `ExtensionAlgebra`.
+pub trait ExtensionProduct<F, const D: usize, S>: Copy {
+    /// What the product may answer.
+    ghost ext_product_gives: { List Self → List Self → List Self → Type 0 };
+
+    /// The product of two lists of D coefficients, written to `res`, whatever it held.
+    fn ext_product(a: &[Self], b: &[Self], res: &mut [Self])
+        requires left { length a.now ≡ D }
+        requires right { length b.now ≡ D }
+        requires room { length res.old ≡ D }
+        ensures { ext_product_gives a.now b.now res.new };
+}
+
+/// A coefficient ring whose lists of D coefficients are multiplied modulo the shape's polynomial.
+/// Upstream's `ExtensionAlgebra`.
+pub trait ExtensionAlgebra<F: Copy, const D: usize, S: ExtensionShape>:
+    PrimeCharacteristicRing + ExtensionProduct<F, D, S>
+{
+    /// The polynomial that is zero in the extension, from its constant coefficient upward.
+    ghost modulus: { List Self };
+
+    /// The product of two lists, where `res` is all zero before.
+    #[inline]
+    fn ext_mul(a: &[Self], b: &[Self], res: &mut [Self])
+        requires left { length a.now ≡ D }
+        requires right { length b.now ≡ D }
+        requires zeroed { res.old ≡ replicate D Self.ops.zero }
+        ensures { res.new ≡ quotient_mul Self.ops D modulus a.now b.now };
+
+    /// The square of a list, where `res` is all zero before.
+    fn ext_square(a: &[Self], res: &mut [Self])
+        requires left { length a.now ≡ D }
+        requires zeroed { res.old ≡ replicate D Self.ops.zero }
+        ensures { res.new ≡ quotient_mul Self.ops D modulus a.now a.now };
+
+    /// The degree is two or more.
+    ghost at_least_two: { 2 ≤ D };
+
+    /// The polynomial is monic, of degree D.
+    ghost monic: { IsMonic Self.ops D modulus };
+
+    /// The product is the remainder of the convolution modulo the polynomial.
+    ghost ext_products: { (a b r : List Self) → Self.ext_product_gives a b r → r ≡ quotient_mul Self.ops D modulus a b };
+}
+
+/// A field with a W and a root of unity, for the extension of degree D by `X^D = W`. Upstream's
+/// `BinomiallyExtendable`.
+pub trait BinomiallyExtendable<const D: usize>: Field + ExtensionAlgebra<Self, D, Binomial<Self>> {
+    ghost w: { Self };
+
+    ghost dth_root: { Self };
+
+    /// The W of `X^D = W`.
+    fn w() -> Self
+        ensures { result ≡ w };
+
+    /// A root of unity of order D: its D-th power is one, and its powers 1 to D - 1, each less
+    /// one, have inverses.
+    fn dth_root() -> Self
+        ensures { result ≡ dth_root };
+
+    /// The coefficient at `X^i` of a chosen element whose order has the full power of two.
+    fn ext_generator(i: usize) -> Self
+        requires { i < D };
+
+    ghost by_w: { Self.modulus ≡ binomial Self.ops D w };
+
+    ghost root_power: { power Self.ops dth_root D ≡ Self.ops.one };
+
+    ghost apart: { (k : ℕ) → 1 ≤ k → k < D → Invertible Self.ops (subtract Self.ops (power Self.ops dth_root k) Self.ops.one) };
+}
+
+/// A field whose extension has a Frobenius map: X becomes its image. It stands for what the
+/// shapes share; this project's own.
+pub trait FrobeniusExtendable<const D: usize, S: ExtensionShape>: Field + ExtensionAlgebra<Self, D, S> {
+    /// The image of X.
+    ghost image: { List Self };
+
+    /// The coefficients of the image of a value.
+    fn apply_frobenius(a: &[Self], res: &mut [Self])
+        requires input { length a.now ≡ D }
+        requires room { length res.old ≡ D }
+        ensures { res.new ≡ frobenius_list Self.ops D Self.modulus image a.now };
+
+    /// The map keeps sums and products, fixes the base, is the identity after D times, and leaves
+    /// only base values unchanged.
+    ghost frobenius_laws: { IsFrobeniusTable Self.ops D Self.modulus image };
+}
