@@ -5,3 +5,7 @@ pub use Rattle.p3_theory.specs.Polynomial
 pub use Rattle.p3_theory.specs.Frobenius
 pub use Rattle.p3_theory.specs.FrobeniusTable
 pub use Rattle.p3_theory.specs.Residues
+pub use Rattle.p3_theory.specs.Text
+pub use Rattle.p3_ext.specs.Values
+pub use Rattle.p3_ext.specs.Conjugates
+pub use Rattle.p3_runs.specs.Runs

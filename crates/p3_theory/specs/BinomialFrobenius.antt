@@ -3,7 +3,7 @@ use Rattle.std.proofs.Common.{◌≡◌, ◌≤◌, ◌<◌, ◌↔◌, ℕ, zer
 use mathlib.Core.Path.{fun_ext}
 use native.Mathlib.Omega.{arith}
 use Rattle.std.proofs.lemmas.Bool.{cases_lt}
-use Rattle.p3_theory.specs.Ring.{Ring, Invertible}
+use Rattle.p3_theory.specs.Ring.{Ops, Ring, Invertible}
 use Rattle.p3_theory.specs.Polynomial.{tabulate, at, IsMonic, embed, monomial, binomial}
 use Rattle.p3_theory.specs.Powers.{power, eval}
 use Rattle.p3_theory.specs.Frobenius.{iterate, IsFrobenius, orbit_product}
@@ -20,21 +20,27 @@ use Rattle.p3_theory.specs.Substitution as Sg
 use Rattle.p3_theory.specs.Substitution.{emb, sigma_of}
 use Rattle.p3_theory.specs.Norm as N
 
+module _ {A : Type 0} (O : Ops A) where
+  length-monomial : (d : ℕ) → length (monomial O d) ≡ suc d
+  length-monomial zero = refl
+  length-monomial (suc d) = ap suc (length-monomial d)
+
+  at-monomial : (d : ℕ) → at O (monomial O d) d ≡ O.one
+  at-monomial zero = refl
+  at-monomial (suc d) = at-monomial d
+
+  -- X^D - w is monic
+  pub binomial_is_monic : (D : ℕ) → 1 ≤ D → (w : A) → IsMonic O D (binomial O D w)
+  binomial_is_monic zero h w = absurd (omega arith)
+  binomial_is_monic (suc d) h w = record { degree = ap suc (length-monomial d); leading = at-monomial d }
+
 module _ {A : Type 0} (R : Ring A) where
   open R use {zero as 𝟎, one as 𝟏, add as ◌⊕◌, mul as ◌⊗◌, neg}
 
   infixl 60 ◌⊕◌
   infixl 70 ◌⊗◌
-  length-monomial : (d : ℕ) → length (monomial R.ops d) ≡ suc d
-  length-monomial zero = refl
-  length-monomial (suc d) = ap suc (length-monomial d)
-
-  at-monomial : (d : ℕ) → at R.ops (monomial R.ops d) d ≡ 𝟏
-  at-monomial zero = refl
-  at-monomial (suc d) = at-monomial d
-
   pub binomial_monic : (d : ℕ) (w : A) → IsMonic R.ops (suc d) (binomial R.ops (suc d) w)
-  binomial_monic d w = record { degree = ap suc (length-monomial d); leading = at-monomial d }
+  binomial_monic d w = record { degree = ap suc (length-monomial R.ops d); leading = at-monomial R.ops d }
 
   power-mul : (x y : A) (n : ℕ) → power R.ops (x ⊗ y) n ≡ power R.ops x n ⊗ power R.ops y n
   power-mul x y zero = sym (R.mul_one 𝟏)

@@ -33,3 +33,4 @@ pub mod Accumulation
 pub mod ProductPlaces
 pub mod Text
 pub mod TextSteps
+pub mod RootsOfUnity

@@ -1,0 +1,35 @@
+-- The values of a prime field on words of 32 bits, as residues.
+use Rattle.std.specs.Prelude.{◌≡◌, ◌<◌, ◌%◌, ℕ}
+use Rattle.std.proofs.Common.{ap, ◌∙◌, subst}
+use Rattle.std.proofs.Math.Nat.{mod-eq_of_lt}
+use Rattle.std.proofs.Math.Bridge.{le_prop}
+use Rattle.p3_theory.specs.Ring.{Ops}
+use Rattle.p3_theory.specs.Residues.{IsResidues, residue_ops}
+use Rattle.p3_bench_prime.specs.Forms.{remainder_below}
+use Rattle.p3_bench_prime.specs.declared.fp.Fp.{Fp}
+use Rattle.p3_bench_prime.specs.declared.form.Form.{Ghosts}
+
+module _ {W : Type 0} (form : Ghosts W) where
+  -- the canonical value
+  abbrev pub canon : Fp W form → ℕ
+  canon x = form.canon x.word
+
+  -- the value of a number's residue
+  abbrev pub of : ℕ → Fp W form
+  of n = record { word = form.word (n % form.ORDER); of = record {}; below = form.is_form.word_below (n % form.ORDER) (remainder_below form.ORDER n form.is_form.above_one) }
+
+  -- the operations of residues
+  abbrev pub ops : Ops (Fp W form)
+  ops = residue_ops form.ORDER canon of
+
+  pub same_word : (x y : Fp W form) → x.word ≡ y.word → x ≡ y
+  same_word x y e =
+      let by : (w : ℕ) → w < form.ORDER → Fp W form = λ w h. record { word = w; of = record {}; below = h } in
+      (subst (λ (v : ℕ). (k : v < form.ORDER) → by x.word x.below ≡ by v k) e (λ k. ap (by x.word) (le_prop x.below k))) y.below
+
+  pub is : IsResidues form.ORDER canon of
+  is = record {
+    above_one = form.is_form.above_one;
+    canon_of = λ n. form.is_form.canon_word (n % form.ORDER) (remainder_below form.ORDER n form.is_form.above_one);
+    of_canon = λ x. same_word _ _ (ap form.word (mod-eq_of_lt (form.is_form.canon_below x.word x.below)) ∙ form.is_form.word_canon x.word x.below);
+  }

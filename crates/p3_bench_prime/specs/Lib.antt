@@ -1,0 +1,5 @@
+pub mod Forms
+pub mod Elements
+pub mod ResidueMultiples
+pub mod Inverses
+pub mod GoldilocksElements

@@ -1,0 +1,83 @@
+ghost use Rattle.std.specs.Prelude.{◌≡◌, ◌<◌, ◌*◌, ◌%◌, ◌^◌, ℕ};
+ghost use Rattle.p3_bench_prime.specs.Forms.{IsForm};
+
+use std::marker::PhantomData;
+
+/// How words of 32 bits stand for the residues modulo an order. A type that implements it is a
+/// marker: `Fp` names its field by it.
+pub trait Form {
+    ghost ORDER: { ℕ };
+
+    /// The residue that a word stands for.
+    ghost canon: { ℕ → ℕ };
+
+    /// The word that stands for a residue.
+    ghost word: { ℕ → ℕ };
+
+    ghost is_form: { IsForm ORDER canon word };
+
+    /// The order: how many residues there are. It is from 2 to 2^31 - 1, so that two words add up
+    /// to a word.
+    const ORDER: u32;
+
+    /// The residue that a word stands for.
+    fn decode(stored: u32) -> u32
+        requires { stored < ORDER }
+        ensures { result ≡ canon stored };
+
+    /// The word that stands for a residue.
+    fn encode(residue: u32) -> u32
+        requires { residue < ORDER }
+        ensures { result ≡ word residue };
+
+    /// The word of the product of two residues, from their words.
+    fn product(left: u32, right: u32) -> u32
+        requires left { left < ORDER }
+        requires right { right < ORDER }
+        ensures below { result < ORDER }
+        ensures value { canon result ≡ (canon left * canon right) % ORDER };
+}
+
+/// A marker of an order.
+pub trait Modulus {
+    ghost ORDER: { ℕ };
+
+    ghost above_one: { 1 < ORDER };
+
+    ghost fits: { ORDER < 2 ^ 31 };
+
+    /// The order, from 2 to 2^31 - 1.
+    const ORDER: u32;
+}
+
+/// The form in which each residue of the order of M is its own word.
+pub struct Plain<M>(PhantomData<M>);
+
+impl<M: Modulus> Form for Plain<M> {
+    ghost use Rattle.p3_bench_prime.specs.Forms.{plain};
+
+    ghost ORDER = { M.ORDER };
+
+    ghost canon = { λ w. w };
+
+    ghost word = { λ n. n };
+
+    ghost is_form = { plain M.ORDER M.above_one M.fits };
+
+    const ORDER: u32 = M::ORDER;
+
+    #[inline]
+    fn decode(stored: u32) -> u32 {
+        stored
+    }
+
+    #[inline]
+    fn encode(residue: u32) -> u32 {
+        residue
+    }
+
+    #[inline]
+    fn product(left: u32, right: u32) -> u32 {
+        (left as u64 * right as u64 % M::ORDER as u64) as u32
+    }
+}

@@ -1,0 +1,494 @@
+ghost use Rattle.std.specs.Prelude.{◌≡◌, ◌≢◌, ◌<◌, ◌+◌, ◌-◌, ◌*◌, ◌%◌, ◌==◌, Some, MatchOption};
+ghost use Rattle.std.specs.Ordering.{nat_cmp};
+ghost use Rattle.std.specs.Fmt.{decimal};
+ghost use Rattle.p3_bench_prime.specs.declared.goldilocks.TheConstants.{P};
+
+use crate::inverse::inverse_modulo;
+use p3_base::accumulate::{product_from, sum_from};
+use p3_field::integers::integer::Integer;
+use p3_field::integers::{Quotient, QuotientMap};
+use p3_field::{Field, PrimeCharacteristicRing, PrimeField, PrimeField64};
+use std::alloc::AllocError;
+use std::cmp::Ordering;
+use std::fmt;
+use std::hash::{Hash, Hasher};
+use std::iter::{Product, Sum};
+use std::ops::{Add, AddAssign, Div, DivAssign, Mul, MulAssign, Neg, Sub, SubAssign};
+
+/// The order, 2^64 - 2^32 + 1.
+const P: u64 = 18446744069414584321;
+
+/// The remainder modulo the order. The 128 bits are low + 2^64 * middle + 2^96 * top; modulo the
+/// order 2^64 is 2^32 - 1 and 2^96 is minus one.
+#[inline]
+fn reduce128(x: u128) -> u64
+    ensures below { result < P }
+    ensures value { result ≡ x % P }
+{
+    let low = (x & 0xffff_ffff_ffff_ffff) as u64;
+    let high = (x >> 64) as u64;
+    let middle = high & 0xffff_ffff;
+    let top = high >> 32;
+    let rest = if low < P { low } else { low - P };
+    let less = if rest >= top {
+        rest - top
+    } else {
+        rest + (P - top)
+    };
+    let more = middle * 0xffff_ffff;
+    if less >= P - more {
+        less - (P - more)
+    } else {
+        less + more
+    }
+}
+
+/// The sum of two residues.
+#[inline]
+fn add_residues(a: u64, b: u64) -> u64
+    requires left { a < P }
+    requires right { b < P }
+    ensures { result ≡ (a + b) % P }
+{
+    let room = P - b;
+    if a < room { a + b } else { a - room }
+}
+
+/// The difference of two residues.
+#[inline]
+fn subtract_residues(a: u64, b: u64) -> u64
+    requires left { a < P }
+    requires right { b < P }
+    ensures { result ≡ (a + (P - b)) % P }
+{
+    if a < b { a + (P - b) } else { a - b }
+}
+
+/// A residue modulo 2^64 - 2^32 + 1. Upstream's `Goldilocks`.
+pub struct Goldilocks {
+    word: u64,
+    pub ghost below: { word < P },
+}
+
+impl Clone for Goldilocks {
+    #[inline]
+    fn clone(&self) -> Result<Self, AllocError> {
+        Ok(*self)
+    }
+}
+
+impl Copy for Goldilocks {}
+
+impl Goldilocks {
+    ghost use Rattle.p3_theory.specs.Ring.{IsInverse};
+    ghost use Rattle.p3_bench_prime.specs.GoldilocksElements.{canon, ops};
+    ghost use Rattle.p3_bench_prime.specs.declared.goldilocks.Goldilocks.{Goldilocks};
+
+    /// The residue of a number. Upstream's `new`.
+    #[inline]
+    pub fn new(value: u64) -> Self
+        ensures { canon result ≡ value % P }
+    {
+        Goldilocks {
+            word: if value < P { value } else { value - P },
+        }
+    }
+
+    /// An inverse, and `None` exactly where there is none.
+    #[inline]
+    fn find_inverse(self) -> Option<Self>
+        ensures { MatchOption result ((y : Goldilocks) → ops.mul self y ≢ ops.one)
+            (λ y. IsInverse ops self y) }
+    {
+        match inverse_modulo(self.word, P) {
+            Some(residue) => Some(Goldilocks { word: residue }),
+            None => None,
+        }
+    }
+}
+
+impl Default for Goldilocks {
+    ghost use Rattle.p3_bench_prime.specs.GoldilocksElements.{of};
+
+    ghost is_default = { λ x. x ≡ of 0 };
+
+    /// Zero.
+    #[inline]
+    fn default() -> Self {
+        Self::zero()
+    }
+}
+
+impl Add for Goldilocks {
+    ghost use Rattle.p3_bench_prime.specs.GoldilocksElements.{canon};
+
+    type Output = Self;
+
+    ghost add_gives = { λ x y r. canon r ≡ (canon x + canon y) % P };
+
+    #[inline]
+    fn add(self, other: Self) -> Self {
+        Goldilocks {
+            word: add_residues(self.word, other.word),
+        }
+    }
+}
+
+impl AddAssign for Goldilocks {
+    ghost use Rattle.p3_bench_prime.specs.GoldilocksElements.{canon};
+
+    ghost add_assign_gives = { λ x y r. canon r ≡ (canon x + canon y) % P };
+
+    #[inline]
+    fn add_assign(&mut self, other: Self) {
+        *self = *self + other;
+    }
+}
+
+impl Sub for Goldilocks {
+    ghost use Rattle.p3_bench_prime.specs.GoldilocksElements.{canon};
+
+    type Output = Self;
+
+    ghost sub_gives = { λ x y r. canon r ≡ (canon x + (P - canon y)) % P };
+
+    #[inline]
+    fn sub(self, other: Self) -> Self {
+        Goldilocks {
+            word: subtract_residues(self.word, other.word),
+        }
+    }
+}
+
+impl SubAssign for Goldilocks {
+    ghost use Rattle.p3_bench_prime.specs.GoldilocksElements.{canon};
+
+    ghost sub_assign_gives = { λ x y r. canon r ≡ (canon x + (P - canon y)) % P };
+
+    #[inline]
+    fn sub_assign(&mut self, other: Self) {
+        *self = *self - other;
+    }
+}
+
+impl Neg for Goldilocks {
+    ghost use Rattle.p3_bench_prime.specs.GoldilocksElements.{canon};
+
+    type Output = Self;
+
+    ghost neg_gives = { λ x r. canon r ≡ (P - canon x) % P };
+
+    #[inline]
+    fn neg(self) -> Self {
+        Goldilocks {
+            word: subtract_residues(0, self.word),
+        }
+    }
+}
+
+impl Mul for Goldilocks {
+    ghost use Rattle.p3_bench_prime.specs.GoldilocksElements.{canon};
+
+    type Output = Self;
+
+    ghost mul_gives = { λ x y r. canon r ≡ (canon x * canon y) % P };
+
+    #[inline]
+    fn mul(self, other: Self) -> Self {
+        Goldilocks {
+            word: reduce128(self.word as u128 * other.word as u128),
+        }
+    }
+}
+
+impl MulAssign for Goldilocks {
+    ghost use Rattle.p3_bench_prime.specs.GoldilocksElements.{canon};
+
+    ghost mul_assign_gives = { λ x y r. canon r ≡ (canon x * canon y) % P };
+
+    #[inline]
+    fn mul_assign(&mut self, other: Self) {
+        *self = *self * other;
+    }
+}
+
+impl Div for Goldilocks {
+    ghost use Rattle.p3_theory.specs.Ring.{Invertible};
+    ghost use Rattle.p3_bench_prime.specs.GoldilocksElements.{ops};
+
+    type Output = Self;
+
+    ghost can_div = { λ x y. Invertible ops y };
+
+    ghost div_gives = { λ x y r. ops.mul r y ≡ x };
+
+    #[inline]
+    fn div(self, other: Self) -> Self {
+        self * other.find_inverse().unwrap()
+    }
+}
+
+impl DivAssign for Goldilocks {
+    ghost use Rattle.p3_theory.specs.Ring.{Invertible};
+    ghost use Rattle.p3_bench_prime.specs.GoldilocksElements.{ops};
+
+    ghost can_div_assign = { λ x y. Invertible ops y };
+
+    ghost div_assign_gives = { λ x y r. ops.mul r y ≡ x };
+
+    #[inline]
+    fn div_assign(&mut self, other: Self) {
+        *self = *self / other;
+    }
+}
+
+impl Sum<Goldilocks> for Goldilocks {
+    ghost use Rattle.p3_theory.specs.Operators.{sum_list};
+    ghost use Rattle.p3_bench_prime.specs.GoldilocksElements.{ops};
+
+    ghost sum_gives = { λ xs r. r ≡ sum_list ops xs };
+
+    #[inline]
+    fn sum<I: Iterator<Item = Self>>(iter: I) -> Self {
+        sum_from(Self::new(0), iter)
+    }
+}
+
+impl Product<Goldilocks> for Goldilocks {
+    ghost use Rattle.p3_theory.specs.Operators.{product_list};
+    ghost use Rattle.p3_bench_prime.specs.GoldilocksElements.{ops};
+
+    ghost product_gives = { λ xs r. r ≡ product_list ops xs };
+
+    #[inline]
+    fn product<I: Iterator<Item = Self>>(iter: I) -> Self {
+        product_from(Self::new(1), iter)
+    }
+}
+
+impl PartialEq for Goldilocks {
+    ghost use Rattle.std.proofs.Common.{rules};
+    ghost use Rattle.std.specs.Cmp.Rules.{comparing};
+    ghost use Rattle.std.specs.Ordering.{on};
+    ghost use Rattle.p3_bench_prime.specs.GoldilocksElements.{canon};
+
+    ghost eq = { on canon ◌==◌ };
+
+    ghost laws = { Prim.search (comparing, rules) };
+
+    #[inline]
+    fn eq(&self, other: &Self) -> bool {
+        self.word == other.word
+    }
+}
+
+impl Eq for Goldilocks {
+    ghost use Rattle.std.proofs.Common.{rules};
+    ghost use Rattle.std.specs.Cmp.Rules.{comparing};
+
+    ghost laws = { Prim.search (comparing, rules) };
+}
+
+impl PartialOrd for Goldilocks {
+    ghost use Rattle.std.proofs.Common.{rules};
+    ghost use Rattle.std.specs.Cmp.Rules.{comparing};
+    ghost use Rattle.std.specs.Ordering.{on, as_partial_cmp};
+    ghost use Rattle.p3_bench_prime.specs.GoldilocksElements.{canon};
+
+    ghost partial_cmp = { as_partial_cmp (on canon nat_cmp) };
+
+    ghost laws = { Prim.search (comparing, rules) };
+
+    #[inline]
+    fn partial_cmp(&self, other: &Self) -> Option<Ordering> {
+        Some(self.cmp(other))
+    }
+}
+
+impl Ord for Goldilocks {
+    ghost use Rattle.std.proofs.Common.{rules};
+    ghost use Rattle.std.specs.Cmp.Rules.{comparing};
+    ghost use Rattle.std.specs.Ordering.{on};
+    ghost use Rattle.p3_bench_prime.specs.GoldilocksElements.{canon};
+
+    ghost cmp = { on canon nat_cmp };
+
+    ghost total = { Prim.search (comparing, rules) };
+
+    ghost matches_partial_cmp = { Prim.search (comparing, rules) };
+
+    ghost matches_eq = { Prim.search (comparing, rules) };
+
+    #[inline]
+    fn cmp(&self, other: &Self) -> Ordering {
+        self.word.cmp(&other.word)
+    }
+}
+
+impl Hash for Goldilocks {
+    ghost use Rattle.std.proofs.Common.{rules};
+    ghost use Rattle.std.specs.Hash as fed;
+    ghost use Rattle.p3_bench_prime.specs.GoldilocksElements.{canon};
+
+    ghost hash_input = { λ x. fed.u64 (canon x) };
+
+    ghost respects_eq = { Prim.search rules };
+
+    #[inline]
+    fn hash<H: Hasher>(&self, state: &mut H) {
+        self.word.hash(state);
+    }
+}
+
+impl fmt::Display for Goldilocks {
+    ghost use Rattle.p3_bench_prime.specs.GoldilocksElements.{canon};
+
+    ghost output = { λ x. Some (decimal (canon x)) };
+
+    fn fmt<O: fmt::Write>(&self, f: &mut fmt::Formatter<O>) -> fmt::Result {
+        let word = self.word;
+        write!(f, "{word}")
+    }
+}
+
+impl fmt::Debug for Goldilocks {
+    ghost use Rattle.p3_bench_prime.specs.GoldilocksElements.{canon};
+
+    ghost debug_output = { λ x. Some (decimal (canon x)) };
+
+    fn fmt<O: fmt::Write>(&self, f: &mut fmt::Formatter<O>) -> fmt::Result {
+        let word = self.word;
+        write!(f, "{word}")
+    }
+}
+
+impl Quotient for Goldilocks {
+    ghost use Rattle.p3_bench_prime.specs.GoldilocksElements.{canon};
+
+    ghost order = { P };
+
+    ghost canon = { canon };
+}
+
+impl<Int: Integer> QuotientMap<Int> for Goldilocks {
+    #[inline]
+    fn from_int(int: Int) -> Self {
+        Goldilocks {
+            word: int.remainder(P),
+        }
+    }
+
+    #[inline]
+    fn from_canonical_checked(int: Int) -> Option<Self> {
+        match int.canonical(P) {
+            Some(residue) => Some(Goldilocks { word: residue }),
+            None => None,
+        }
+    }
+
+    #[inline]
+    fn from_canonical_unchecked(int: Int) -> Self {
+        Goldilocks { word: int.word() }
+    }
+}
+
+impl PrimeCharacteristicRing for Goldilocks {
+    ghost use Rattle.p3_theory.specs.Residues.{residue_laws, is_of, is_difference};
+    ghost use Rattle.p3_bench_prime.specs.GoldilocksElements.{ops, is};
+    ghost use Rattle.p3_bench_prime.specs.ResidueMultiples.{of_nat-order};
+
+    type PrimeSubfield = Self;
+
+    ghost ops = { ops };
+
+    #[inline]
+    fn zero() -> Self {
+        Self::new(0)
+    }
+
+    #[inline]
+    fn one() -> Self {
+        Self::new(1)
+    }
+
+    #[inline]
+    fn from_prime_subfield(f: Self) -> Self {
+        f
+    }
+
+    ghost ring = { residue_laws is };
+
+    ghost characteristic = { of_nat-order is };
+
+    ghost adds = { record { called = λ _ _. tt; answer = λ x y r h. is_of is r _ h } };
+
+    ghost add_assigns = { record { called = λ _ _. tt; answer = λ x y r h. is_of is r _ h } };
+
+    ghost subs = { record { called = λ _ _. tt; answer = λ x y r h. is_difference is x y r h } };
+
+    ghost sub_assigns = { record { called = λ _ _. tt; answer = λ x y r h. is_difference is x y r h } };
+
+    ghost negs = { record { called = λ _. tt; answer = λ x r h. is_of is r _ h } };
+
+    ghost muls = { record { called = λ _ _. tt; answer = λ x y r h. is_of is r _ h } };
+
+    ghost mul_assigns = { record { called = λ _ _. tt; answer = λ x y r h. is_of is r _ h } };
+
+    ghost sums = { record { called = λ _. tt; answer = λ _ _ h. h; whole = λ _. tt } };
+
+    ghost products = { record { called = λ _. tt; answer = λ _ _ h. h; whole = λ _. tt } };
+}
+
+impl Field for Goldilocks {
+    ghost use Rattle.std.specs.Prelude.{refl};
+    ghost use Rattle.p3_bench_prime.specs.GoldilocksElements.{canon, is};
+    ghost use Rattle.p3_bench_prime.specs.Inverses.{zero_is_not_one, same_where_equal};
+
+    ghost text = { λ x. decimal (canon x) };
+
+    #[inline]
+    fn try_inverse(&self) -> Option<Self> {
+        self.find_inverse()
+    }
+
+    ghost zero_is_not_one = { zero_is_not_one is };
+
+    ghost equals = { same_where_equal is };
+
+    ghost can_divide = { λ x y h. h };
+
+    ghost divides = { λ x y r h. h };
+
+    ghost can_divide_assign = { λ x y h. h };
+
+    ghost divide_assigns = { λ x y r h. h };
+
+    ghost shows = { λ x. refl };
+}
+
+impl PrimeField for Goldilocks {
+    ghost use Rattle.p3_theory.specs.Residues.{are_residues};
+    ghost use Rattle.p3_bench_prime.specs.GoldilocksElements.{is};
+
+    #[inline]
+    fn as_canonical_biguint(&self) -> u128 {
+        self.word as u128
+    }
+
+    ghost residues = { are_residues is };
+}
+
+impl PrimeField64 for Goldilocks {
+    ghost use Rattle.std.specs.Prelude.{refl};
+
+    const ORDER_U64: u64 = P;
+
+    ghost ORDER_U64 = { P };
+
+    #[inline]
+    fn as_canonical_u64(&self) -> u64 {
+        self.word
+    }
+
+    ghost order_u64 = { refl };
+}

@@ -1,0 +1,20 @@
+ghost use Rattle.std.proofs.Common.{lit<};
+
+use crate::form::{Modulus, Plain};
+use crate::fp::Fp;
+
+/// The marker of the order 2^31 - 2^24 + 1.
+pub struct KoalaBearModulus;
+
+impl Modulus for KoalaBearModulus {
+    ghost ORDER = { 2130706433 };
+
+    ghost above_one = { lit< tt };
+
+    ghost fits = { lit< tt };
+
+    const ORDER: u32 = 2130706433;
+}
+
+/// The residues modulo 2^31 - 2^24 + 1. Upstream's `KoalaBear`.
+pub type KoalaBear = Fp<Plain<KoalaBearModulus>>;

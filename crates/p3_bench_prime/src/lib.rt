@@ -1,0 +1,14 @@
+//! Prime bench fields: residues modulo small orders, of which one is composite, and modulo the
+//! primes of BabyBear, KoalaBear and Goldilocks.
+#![tactic(auto)]
+
+pub mod baby_bear;
+pub mod extensions;
+pub mod form;
+pub mod fp;
+pub mod goldilocks;
+mod inverse;
+pub mod koala_bear;
+pub mod small;
+#[cfg(test)]
+mod tests;

@@ -1,0 +1,4 @@
+//! Runs of arithmetic steps over registers of any ring.
+#![tactic(auto)]
+
+pub mod steps;

@@ -1,0 +1,79 @@
+ghost use Rattle.std.specs.Prelude.{◌≡◌, ◌↔◌, IsTrue, length};
+ghost use Rattle.p3_runs.specs.Runs.{StepFits, Fit, after_step, run};
+
+use p3_base::ring::PrimeCharacteristicRing;
+
+/// One step over registers: register `d` becomes the named operation on registers `a` and `b` as
+/// they stand. This project's own.
+#[derive(Clone, Copy, Debug, PartialEq, Eq)]
+pub enum Step {
+    /// The sum.
+    Add { d: usize, a: usize, b: usize },
+    /// The difference.
+    Sub { d: usize, a: usize, b: usize },
+    /// The product.
+    Mul { d: usize, a: usize, b: usize },
+    /// The negation.
+    Neg { d: usize, a: usize },
+    /// The square.
+    Square { d: usize, a: usize },
+    /// The double.
+    Double { d: usize, a: usize },
+    /// The power e.
+    Exp { d: usize, a: usize, e: u64 },
+    /// The product with two to the power e.
+    Mul2Exp { d: usize, a: usize, e: u64 },
+}
+
+/// Whether every register that the step names is below `n`.
+#[inline]
+fn step_fits(step: &Step, n: usize) -> bool
+    ensures { IsTrue result ↔ StepFits n step.now }
+{
+    match *step {
+        Step::Add { d, a, b } | Step::Sub { d, a, b } | Step::Mul { d, a, b } => {
+            d < n && a < n && b < n
+        }
+        Step::Neg { d, a } | Step::Square { d, a } | Step::Double { d, a } => d < n && a < n,
+        Step::Exp { d, a, e: _ } | Step::Mul2Exp { d, a, e: _ } => d < n && a < n,
+    }
+}
+
+/// Whether every register that the steps name is below `n`; true for no steps. It is the test of
+/// what `run_steps` requires.
+#[inline]
+pub fn steps_fit(steps: &[Step], n: usize) -> bool
+    ensures { IsTrue result ↔ Fit n steps.now }
+{
+    steps.iter().all(|step| step_fits(step, n))
+}
+
+/// Carries out one step.
+#[inline]
+fn run_step<R: PrimeCharacteristicRing>(regs: &mut [R], step: &Step)
+    requires { StepFits (length regs.old) step.now }
+    ensures { regs.new ≡ after_step R.ops step.now regs.old }
+{
+    match *step {
+        Step::Add { d, a, b } => regs[d] = regs[a] + regs[b],
+        Step::Sub { d, a, b } => regs[d] = regs[a] - regs[b],
+        Step::Mul { d, a, b } => regs[d] = regs[a] * regs[b],
+        Step::Neg { d, a } => regs[d] = -regs[a],
+        Step::Square { d, a } => regs[d] = regs[a].square(),
+        Step::Double { d, a } => regs[d] = regs[a].double(),
+        Step::Exp { d, a, e } => regs[d] = regs[a].exp_u64(e),
+        Step::Mul2Exp { d, a, e } => regs[d] = regs[a].mul_2exp_u64(e),
+    }
+}
+
+/// Carries out the steps, one after the other, over registers of any ring. Over an extension each
+/// register so holds the value modulo the extension's polynomial.
+#[inline]
+pub fn run_steps<R: PrimeCharacteristicRing>(regs: &mut [R], steps: &[Step])
+    requires { Fit (length regs.old) steps.now }
+    ensures { regs.new ≡ run R.ops steps.now regs.old }
+{
+    for step in steps {
+        run_step(regs, step);
+    }
+}
