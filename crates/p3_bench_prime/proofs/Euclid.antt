@@ -1,6 +1,6 @@
 -- The steps of the extended Euclidean algorithm.
-use Rattle.std.proofs.Common.{◌≡◌, ◌≢◌, ◌<◌, ◌≤◌, ◌+◌, ◌-◌, ◌*◌, ◌/◌, ◌%◌, ℕ, Bool, true, false, not, ap, arith, ◌∙◌, sym, subst}
-use Rattle.std.specs.Int.{◌∣◌, IsGcd}
+use Rattle.std.proofs.Common.{◌≡◌, ◌≢◌, ◌<◌, ◌+◌, ◌-◌, ◌*◌, ◌/◌, ◌%◌, ℕ, Bool, true, false, not, ap, arith, ◌∙◌, sym, subst}
+use Rattle.std.specs.Int.{◌∣◌}
 use Rattle.std.proofs.Math.Nat.{mod-eq_of_lt, mod-lt, mod-add-div, zero-mod, add-mul-mod_self_left, mul_comm, dvd-mul_right_of_dvd, dvd-add_iff_right, eq-one_of_dvd-one}
 use Rattle.std.proofs.lemmas.Nat.{mul-mod_first, mul-mod_second}
 use Rattle.p3_theory.specs.Modular.{add-mod_first, add-mod_second}
@@ -16,17 +16,21 @@ replaced : (a b c q n : ℕ) → b % n ≡ c % n → (a + q * b) % n ≡ (a + q 
 replaced a b c q n e =
     sym (add-mod_second a (q * b) n) ∙ ap (λ z. (a + z) % n) (sym (mul-mod_second q b n) ∙ ap (λ z. (q * z) % n) e ∙ mul-mod_second q c n) ∙ add-mod_second a (q * c) n
 
--- one division of `last` by `rest`
+-- one division of `last` by `rest`, with the quotient q and the remainder r; the coefficients are s
+-- of `last` and t of `rest`, and s + q * t is that of r
 module _ (n value last rest s t q r : ℕ) (divided : last ≡ r + rest * q) where
+  -- this sum of products stays, so that no coefficient is above n
   pub size-step : s * rest + t * last ≡ n → t * r + (s + q * t) * rest ≡ n
   size-step e = (let regrouped : t * r + (s + q * t) * rest ≡ s * rest + t * (r + rest * q) = omega arith in regrouped) ∙ ap (λ z. s * rest + t * z) (sym divided) ∙ e
 
+  -- the new remainder, where `rest` is t times the value
   combination_of_true : (t * value) % n ≡ rest % n → (s * value + last) % n ≡ 0 → ((s + q * t) * value + r) % n ≡ 0
   combination_of_true e f =
       let regrouped : (s + q * t) * value + r ≡ (s * value + r) + q * (t * value) = omega arith in
       let joined : (s * value + r) + q * rest ≡ s * value + last = omega arith in
       ap (λ z. z % n) regrouped ∙ replaced (s * value + r) (t * value) rest q n e ∙ ap (λ z. z % n) joined ∙ f
 
+  -- and where `rest` is the negation of that
   combination_of_false : (t * value + rest) % n ≡ 0 → (s * value) % n ≡ last % n → ((s + q * t) * value) % n ≡ r % n
   combination_of_false e f =
       let regrouped : (s + q * t) * value ≡ s * value + q * (t * value) = omega arith in

@@ -22,11 +22,13 @@ module _ {W : Type 0} (form : Ghosts W) where
   abbrev pub ops : Ops (Fp W form)
   ops = residue_ops form.ORDER canon of
 
+  -- the word settles the value
   pub same_word : (x y : Fp W form) → x.word ≡ y.word → x ≡ y
   same_word x y e =
       let by : (w : ℕ) → w < form.ORDER → Fp W form = λ w h. record { word = w; of = record {}; below = h } in
       (subst (λ (v : ℕ). (k : v < form.ORDER) → by x.word x.below ≡ by v k) e (λ k. ap (by x.word) (le_prop x.below k))) y.below
 
+  -- the values are the residues of the order
   pub is : IsResidues form.ORDER canon of
   is = record {
     above_one = form.is_form.above_one;

@@ -21,11 +21,13 @@ of n = record { word = n % P; below = remainder_below P n (lit< tt) }
 abbrev pub ops : Ops Goldilocks
 ops = residue_ops P canon of
 
+-- the word settles the value
 same_word : (x y : Goldilocks) → x.word ≡ y.word → x ≡ y
 same_word x y e =
     let by : (w : ℕ) → w < P → Goldilocks = λ w h. record { word = w; below = h } in
     (subst (λ (v : ℕ). (k : v < P) → by x.word x.below ≡ by v k) e (λ k. ap (by x.word) (le_prop x.below k))) y.below
 
+-- the values are the residues of the order
 pub is : IsResidues P canon of
 is = record {
   above_one = lit< tt;

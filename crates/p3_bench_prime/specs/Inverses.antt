@@ -27,6 +27,7 @@ module _ {A : Type 0} {n : ℕ} {canon : A → ℕ} {of : ℕ → A} (is : IsRes
       ap (λ v. (residue_ops n canon of).mul v y) (is_of is r (canon x * canon z) e) ∙ l.mul_assoc x z y
       ∙ ap ((residue_ops n canon of).mul x) (l.mul_comm z y ∙ h) ∙ l.mul_one x
 
+  -- the order is above one
   pub zero_is_not_one : of 0 ≢ of 1
   zero_is_not_one h =
       let zero_is : 0 ≡ canon (of 0) = sym (is.canon_of 0 ∙ mod-eq_of_lt (omega (arith, is.above_one))) in

@@ -1,4 +1,4 @@
-ghost use Rattle.std.specs.Prelude.{◌≡◌, ◌≢◌, ◌<◌, ◌+◌, ◌-◌, ◌*◌, ◌%◌, ◌==◌, Some, MatchOption};
+ghost use Rattle.std.specs.Prelude.{◌≡◌, ◌≢◌, ◌<◌, ◌+◌, ◌-◌, ◌*◌, ◌%◌, ◌==◌, Some, MatchOption, ⊤};
 ghost use Rattle.std.specs.Ordering.{nat_cmp};
 ghost use Rattle.std.specs.Fmt.{decimal};
 ghost use Rattle.p3_bench_prime.specs.declared.goldilocks.TheConstants.{P};
@@ -71,6 +71,10 @@ pub struct Goldilocks {
 }
 
 impl Clone for Goldilocks {
+    ghost is_clone = { λ x y. y ≡ x };
+
+    ghost is_infallible = { λ _. ⊤ };
+
     #[inline]
     fn clone(&self) -> Result<Self, AllocError> {
         Ok(*self)
@@ -81,13 +85,14 @@ impl Copy for Goldilocks {}
 
 impl Goldilocks {
     ghost use Rattle.p3_theory.specs.Ring.{IsInverse};
-    ghost use Rattle.p3_bench_prime.specs.GoldilocksElements.{canon, ops};
+    ghost use Rattle.p3_bench_prime.specs.GoldilocksElements.{canon, of, ops};
     ghost use Rattle.p3_bench_prime.specs.declared.goldilocks.Goldilocks.{Goldilocks};
 
     /// The residue of a number. Upstream's `new`.
     #[inline]
     pub fn new(value: u64) -> Self
-        ensures { canon result ≡ value % P }
+        ensures residue { canon result ≡ value % P }
+        ensures value { result ≡ of value }
     {
         Goldilocks {
             word: if value < P { value } else { value - P },
@@ -357,8 +362,7 @@ impl fmt::Debug for Goldilocks {
     ghost debug_output = { λ x. Some (decimal (canon x)) };
 
     fn fmt<O: fmt::Write>(&self, f: &mut fmt::Formatter<O>) -> fmt::Result {
-        let word = self.word;
-        write!(f, "{word}")
+        fmt::Display::fmt(self, f)
     }
 }
 

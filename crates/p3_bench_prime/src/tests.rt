@@ -11,18 +11,23 @@ use std::test::Fail;
 /// The canonical values of the sum, difference, product and quotient; the quotient is 0 where
 /// there is none.
 fn results<F: PrimeField64>(x: F, y: F) -> [u64; 4] {
-    let sum: F = [x, y].into_iter().sum();
-    let product: F = [x, y].into_iter().product();
     let quotient = match y.try_inverse() {
         Some(_) => x / y,
         None => F::zero(),
     };
     [
-        sum.as_canonical_u64(),
+        (x + y).as_canonical_u64(),
         (x - y).as_canonical_u64(),
-        product.as_canonical_u64(),
+        (x * y).as_canonical_u64(),
         quotient.as_canonical_u64(),
     ]
+}
+
+/// The canonical values of the sum and product of a list.
+fn totals<F: PrimeField64>(items: &[F]) -> [u64; 2] {
+    let sum: F = items.iter().copied().sum();
+    let product: F = items.iter().copied().product();
+    [sum.as_canonical_u64(), product.as_canonical_u64()]
 }
 
 /// A field element plus one of the algebra.
@@ -68,6 +73,13 @@ fn arithmetic_below_the_order(rt: HostRuntime) {
             9223372034707292160
         ]
     );
+}
+
+#[test]
+fn sums_and_products(rt: HostRuntime) {
+    let items = [F31::new(3), F31::new(5), F31::new(30)];
+    assert_eq!(rt; totals(&items), [7, 16]);
+    assert_eq!(rt; totals::<Goldilocks>(&[]), [0, 1]);
 }
 
 #[test]

@@ -69,7 +69,7 @@ module _ (F S : Type 0) {A : Type 0} (R : Ring A) where
     norm_is (suc d) h m L x =
         let n : suc d - 1 ≡ d = omega arith in
         subst (λ j. let r = orbit (ext_ops R.ops f) (frobenius_map R.ops f phi) j (frobenius_map R.ops f phi x) in
-          (ext_ops R.ops f).mul x r ≡ constant R.ops (get_or ((ext_ops R.ops f).mul x r).value 0 R.zero)) (sym n) (is-constant-suc d f m phi L x)
+        (ext_ops R.ops f).mul x r ≡ constant R.ops (get_or ((ext_ops R.ops f).mul x r).value 0 R.zero)) (sym n) (is-constant-suc d f m phi L x)
 
     pub norm_decides : (D : ℕ) → 2 ≤ D → IsMonic R.ops D f → IsFrobeniusTable R.ops D f phi
         → (x : ExtField F D S A) → ((y : ExtField F D S A) × ((ext_ops R.ops f).mul x y ≡ constant R.ops R.one)) → Invertible R.ops (norm_of R.ops f phi x)
@@ -77,8 +77,8 @@ module _ (F S : Type 0) {A : Type 0} (R : Ring A) where
     norm_decides (suc d) h m L x i =
         let n : suc d - 1 ≡ d = omega arith in
         exact-suc d f m phi L x (norm_of R.ops f phi x)
-          (ap (λ j. (ext_ops R.ops f).mul x (orbit (ext_ops R.ops f) (frobenius_map R.ops f phi) j (frobenius_map R.ops f phi x))) (sym n)
-            ∙ norm_is (suc d) h m L x) i
+        (ap (λ j. (ext_ops R.ops f).mul x (orbit (ext_ops R.ops f) (frobenius_map R.ops f phi) j (frobenius_map R.ops f phi x))) (sym n)
+        ∙ norm_is (suc d) h m L x) i
 
     constant_mul : (D : ℕ) → 2 ≤ D → IsMonic R.ops D f → (x y : A)
         → (ext_ops {F = F} {D = D} {S = S} R.ops f).mul (constant R.ops x) (constant R.ops y) ≡ constant R.ops (R.mul x y)
@@ -92,14 +92,14 @@ module _ (F S : Type 0) {A : Type 0} (R : Ring A) where
           let l = ext_laws {F = F} {S = S} R D h f m in
           let M : ExtField F D S A → ExtField F D S A → ExtField F D S A = (ext_ops R.ops f).mul in
           sym (l.mul_assoc x (conjugate_product R.ops f phi x) (constant R.ops i))
-            ∙ ap (λ z. M z (constant R.ops i)) (norm_is D h m L x)
-            ∙ constant_mul D h m (norm_of R.ops f phi x) i ∙ ap (constant R.ops) is
+          ∙ ap (λ z. M z (constant R.ops i)) (norm_is D h m L x)
+          ∙ constant_mul D h m (norm_of R.ops f phi x) i ∙ ap (constant R.ops) is
 
       norm-by : (rest whole : ExtField F D S A) (n : A) → rest ≡ conjugate_product R.ops f phi x → whole.value ≡ P.quotient_mul R.ops D f x.value rest.value
           → n ≡ get_or whole.value 0 n → n ≡ norm_of R.ops f phi x
       norm-by rest whole n er ew en =
           en ∙ get_or_default whole.value 0 n R.zero (omega (arith, whole.sized, h))
-            ∙ ap (λ l. get_or l 0 R.zero) (ew ∙ ap (λ (r : ExtField F D S A). P.quotient_mul R.ops D f x.value r.value) er)
+          ∙ ap (λ l. get_or l 0 R.zero) (ew ∙ ap (λ (r : ExtField F D S A). P.quotient_mul R.ops D f x.value r.value) er)
 
       -- from the steps of the code
       pub found_by : (rest whole factor y : ExtField F D S A) (n i : A) → rest ≡ conjugate_product R.ops f phi x → whole.value ≡ P.quotient_mul R.ops D f x.value rest.value
@@ -107,8 +107,8 @@ module _ (F S : Type 0) {A : Type 0} (R : Ring A) where
           → (ext_ops R.ops f).mul x y ≡ constant R.ops R.one
       found_by rest whole factor y n i er ew en ei ef ey =
           ap ((ext_ops R.ops f).mul x) (same_value y ((ext_ops R.ops f).mul rest factor) ey
-            ∙ ap₂ ((ext_ops R.ops f).mul) er (same_value factor (constant R.ops i) ef))
-            ∙ found i (ap (λ k. R.mul k i) (sym (norm-by rest whole n er ew en)) ∙ ei)
+          ∙ ap₂ ((ext_ops R.ops f).mul) er (same_value factor (constant R.ops i) ef))
+          ∙ found i (ap (λ k. R.mul k i) (sym (norm-by rest whole n er ew en)) ∙ ei)
 
       pub absent_by : (rest whole : ExtField F D S A) (n : A) → rest ≡ conjugate_product R.ops f phi x → whole.value ≡ P.quotient_mul R.ops D f x.value rest.value
           → n ≡ get_or whole.value 0 n → ((i : A) → R.mul n i ≢ R.one) → (y : ExtField F D S A) → (ext_ops R.ops f).mul x y ≢ constant R.ops R.one

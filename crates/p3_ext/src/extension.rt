@@ -49,9 +49,8 @@ pub trait ExtensionProduct<F, const D: usize, S>: Copy {
 
 /// A coefficient ring whose lists of D coefficients are multiplied modulo the shape's polynomial.
 /// Upstream's `ExtensionAlgebra`.
-pub trait ExtensionAlgebra<F: Copy, const D: usize, S: ExtensionShape>:
-    PrimeCharacteristicRing + ExtensionProduct<F, D, S>
-{
+pub trait ExtensionAlgebra<F: Copy, const D: usize, S: ExtensionShape>: PrimeCharacteristicRing
+    + ExtensionProduct<F, D, S> {
     /// The polynomial that is zero in the extension, from its constant coefficient upward.
     ghost modulus: { List Self };
 
@@ -108,7 +107,8 @@ pub trait BinomiallyExtendable<const D: usize>: Field + ExtensionAlgebra<Self, D
 
 /// A field whose extension has a Frobenius map: X becomes its image. It stands for what the
 /// shapes share; this project's own.
-pub trait FrobeniusExtendable<const D: usize, S: ExtensionShape>: Field + ExtensionAlgebra<Self, D, S> {
+pub trait FrobeniusExtendable<const D: usize, S: ExtensionShape>: Field
+    + ExtensionAlgebra<Self, D, S> {
     /// The image of X.
     ghost image: { List Self };
 

@@ -1,4 +1,4 @@
--- X^D = w with the image c * X of X, c^D = 1: all of IsFrobenius.
+-- Modulo X^D - w, with the image c * X of X for a c whose power D is one: a Frobenius map.
 use Rattle.std.proofs.Common.{◌≡◌, ◌≤◌, ◌<◌, ◌↔◌, ℕ, zero, suc, List, [], ◌∷◌, length, refl, sym, ap, ◌∙◌, ap₂, inl, inr}
 use mathlib.Core.Path.{fun_ext}
 use native.Mathlib.Omega.{arith}

@@ -1,4 +1,4 @@
--- The Frobenius map of an extension, as far as the inverse needs it.
+-- What a Frobenius map owes as far as inversion needs it, and the product over an orbit.
 use Rattle.std.specs.Prelude.{◌≡◌, ℕ, zero, suc}
 use Rattle.p3_theory.specs.Ring.{Ops}
 

@@ -1,4 +1,4 @@
--- From D8: a value has an inverse exactly where its norm has one. And X^D = w has D8, with the image c * X.
+-- From the laws of a Frobenius map: a value has an inverse exactly where its norm has one. Modulo X^D - w the image c * X has these laws.
 use Rattle.std.proofs.Common.{◌≡◌, ◌≤◌, ◌<◌, ◌↔◌, ℕ, zero, suc, List, [], ◌∷◌, length, refl, sym, ap, ◌∙◌, ap₂}
 use mathlib.Core.Path.{fun_ext}
 use Rattle.p3_theory.specs.Ring.{Ops, Ring, Invertible}
@@ -65,7 +65,7 @@ module _ {A : Type 0} (R : Ring A) (d : ℕ) (w c : A) (root : power R.ops c (su
   abbrev pub turned : List A
   turned = quotient_mul R.ops (suc d) f (embed R.ops (suc d) c) (unknown R.ops (suc d) f)
 
-  -- D7's sum is one factor a place
+  -- the map is one factor a place
   pub turned_places : (a : Ext R d f m) → frobenius_list R.ops (suc d) f turned a.0 ≡ scale_powers R.ops (suc d) c a.0
   turned_places a = sym (T.frobenius-list R d f m (Bi.image R d w c root) a)
       ∙ F.ext R _ _ ((Bi.sigma R d w c root a).1 ∙ sym (F.length-tabulate (suc d) (λ k. R.mul (power R.ops c k) (at R.ops a.0 k))))

@@ -1,5 +1,5 @@
--- The Frobenius map of a shape as D7's sum of a i * phi^i, its laws D8, and the few equations that prove them of a concrete table.
-use Rattle.std.specs.Prelude.{◌≡◌, ℕ, zero, suc, pred, ◌+◌, ◌-◌, ◌*◌, ◌%◌, List, [], ◌∷◌, length, get_or}
+-- The Frobenius map on coefficient lists as the sum of a i * phi^i, its laws, and the few equations that prove them of a concrete table.
+use Rattle.std.specs.Prelude.{◌≡◌, ℕ, zero, suc, pred, List, [], ◌∷◌, length, get_or}
 use Rattle.p3_theory.specs.Ring.{Ops}
 use Rattle.p3_theory.specs.Polynomial.{at, tabulate, remainder, quotient_add, quotient_mul, quotient_ops, embed, monomial}
 use Rattle.p3_theory.specs.Powers.{power, sum_of}
@@ -18,11 +18,11 @@ module _ {A : Type 0} (o : Ops A) where
   abbrev pub row_sum : ℕ → (ℕ → List A) → List A → List A
   row_sum D row a = tabulate D (λ k. sum_of o D (λ i. o.mul (at o a i) (at o (row i) k)))
 
-  -- X becomes phi: the rows are the powers of phi
+  -- the Frobenius map: X becomes phi, so the rows are the powers of phi
   abbrev pub frobenius_list : ℕ → List A → List A → List A → List A
   frobenius_list D f phi a = row_sum D (power (quotient_ops o D f) phi) a
 
-  -- D8, of lists of length D
+  -- the laws, on lists of length D: sums, products and the base are kept, D times is the identity, and only base values stay
   pub record IsFrobeniusTable (D : ℕ) (f phi : List A) : Type 0 where
     pub width : length phi ≡ D
     pub add : (a b : List A) → length a ≡ D → length b ≡ D → frobenius_list D f phi (quotient_add o D a b) ≡ quotient_add o D (frobenius_list D f phi a) (frobenius_list D f phi b)

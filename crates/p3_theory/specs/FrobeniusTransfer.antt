@@ -1,4 +1,4 @@
--- A table proved on residues has D8 over every ring that they map to.
+-- A table proved on residues has the laws of a Frobenius map over every ring that they map to.
 use Rattle.std.proofs.Common.{◌≡◌, ℕ, zero, suc, List, map, length, sym, ap, ◌∙◌}
 use Rattle.p3_theory.specs.Ring.{Ops, Ring, Hom}
 use Rattle.p3_theory.specs.Polynomial.{at, IsMonic}

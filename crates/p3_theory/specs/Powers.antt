@@ -1,4 +1,4 @@
--- A polynomial at a point, and the map that takes X to a given image.
+-- Powers, finite sums, and the value of a polynomial at a point.
 use Rattle.std.specs.Prelude.{ℕ, zero, suc, List, length}
 use Rattle.p3_theory.specs.Ring.{Ops}
 use Rattle.p3_theory.specs.Polynomial.{at, tabulate}

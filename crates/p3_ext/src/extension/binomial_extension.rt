@@ -9,7 +9,13 @@ use p3_base::ring::{Algebra, PrimeCharacteristicRing};
 
 /// The sum of `a[skip + i] * b[top - i]` for i below `count`.
 #[inline]
-fn products_at<A: PrimeCharacteristicRing>(a: &[A], b: &[A], skip: usize, top: usize, count: usize) -> A
+fn products_at<A: PrimeCharacteristicRing>(
+    a: &[A],
+    b: &[A],
+    skip: usize,
+    top: usize,
+    count: usize,
+) -> A
     requires first { skip + count ≤ length a.now }
     requires second { top < length b.now }
     requires places { count ≤ top + 1 }
@@ -24,7 +30,12 @@ fn products_at<A: PrimeCharacteristicRing>(a: &[A], b: &[A], skip: usize, top: u
 
 /// The product modulo `X^D - W` for any D, added to what `res` holds.
 #[inline]
-fn general_mul<F: PrimeCharacteristicRing, A: Algebra<F>, const D: usize>(a: &[A], b: &[A], res: &mut [A], w: F)
+fn general_mul<F: PrimeCharacteristicRing, A: Algebra<F>, const D: usize>(
+    a: &[A],
+    b: &[A],
+    res: &mut [A],
+    w: F,
+)
     requires degree { 1 ≤ D }
     requires left { length a.now ≡ D }
     requires right { length b.now ≡ D }
@@ -67,7 +78,12 @@ fn quadratic_mul<F: PrimeCharacteristicRing, A: Algebra<F>>(a: &[A], b: &[A], re
 /// The product of two lists of D coefficients modulo `X^D - W`. At D = 2 `res` becomes the
 /// product; at every other D the product is added to what `res` holds. Upstream's `binomial_mul`.
 #[inline]
-pub fn binomial_mul<F: PrimeCharacteristicRing, A: Algebra<F>, const D: usize>(a: &[A], b: &[A], res: &mut [A], w: F)
+pub fn binomial_mul<F: PrimeCharacteristicRing, A: Algebra<F>, const D: usize>(
+    a: &[A],
+    b: &[A],
+    res: &mut [A],
+    w: F,
+)
     requires degree { 1 ≤ D }
     requires left { length a.now ≡ D }
     requires right { length b.now ≡ D }
@@ -84,7 +100,11 @@ pub fn binomial_mul<F: PrimeCharacteristicRing, A: Algebra<F>, const D: usize>(a
 /// The square of a list of D coefficients modulo `X^D - W`, in the place of `binomial_mul` with
 /// itself. Upstream's `binomial_square`.
 #[inline]
-pub fn binomial_square<F: PrimeCharacteristicRing, A: Algebra<F>, const D: usize>(a: &[A], res: &mut [A], w: F)
+pub fn binomial_square<F: PrimeCharacteristicRing, A: Algebra<F>, const D: usize>(
+    a: &[A],
+    res: &mut [A],
+    w: F,
+)
     requires degree { 1 ≤ D }
     requires input { length a.now ≡ D }
     requires room { length res.old ≡ D }
@@ -107,7 +127,12 @@ pub fn binomial_square<F: PrimeCharacteristicRing, A: Algebra<F>, const D: usize
 /// The product modulo `X^D - W`, whatever `res` held: what an `ext_product` of a binomial shape
 /// is. This project's own.
 #[inline]
-pub fn binomial_product<F: PrimeCharacteristicRing, A: Algebra<F>, const D: usize>(a: &[A], b: &[A], res: &mut [A], w: F)
+pub fn binomial_product<F: PrimeCharacteristicRing, A: Algebra<F>, const D: usize>(
+    a: &[A],
+    b: &[A],
+    res: &mut [A],
+    w: F,
+)
     requires degree { 1 ≤ D }
     requires left { length a.now ≡ D }
     requires right { length b.now ≡ D }

@@ -10,7 +10,11 @@ use std::fmt;
 fn write_power<W: fmt::Write>(f: &mut fmt::Formatter<W>, i: usize) -> fmt::Result
     ensures { WritesOnOk W.write_str_gives f.old result (power_text i) f.new }
 {
-    if i == 1 { write!(f, "X") } else { write!(f, "X^{i}") }
+    if i == 1 {
+        write!(f, "X")
+    } else {
+        write!(f, "X^{i}")
+    }
 }
 
 /// Writes a coefficient's own text.
@@ -36,7 +40,12 @@ fn write_term<F: Field, W: fmt::Write>(f: &mut fmt::Formatter<W>, i: usize, c: F
 }
 
 /// Writes a term and what joins it to those before it.
-fn write_next<F: Field, W: fmt::Write>(f: &mut fmt::Formatter<W>, begun: bool, i: usize, c: F) -> fmt::Result
+fn write_next<F: Field, W: fmt::Write>(
+    f: &mut fmt::Formatter<W>,
+    begun: bool,
+    i: usize,
+    c: F,
+) -> fmt::Result
     ensures { WritesOnOk W.write_str_gives f.old result (next_text begun i (F.eq c F.ops.one) (F.text c)) f.new }
 {
     if begun {

@@ -20,6 +20,12 @@ pub struct ExtField<F, const D: usize, S, A = F> {
 }
 
 impl<F: Copy, const D: usize, S: Copy, A: Copy> Clone for ExtField<F, D, S, A> {
+    ghost use Rattle.std.specs.Prelude.{⊤};
+
+    ghost is_clone = { λ x y. y ≡ x };
+
+    ghost is_infallible = { λ _. ⊤ };
+
     #[inline]
     fn clone(&self) -> Result<Self, AllocError> {
         Ok(*self)
@@ -50,10 +56,7 @@ impl<F: Copy, const D: usize, S: Copy, A: PrimeCharacteristicRing> ExtField<F, D
     {
         let mut value = [A::zero(); D];
         value[0] = x;
-        ExtField {
-            value,
-            of: PhantomData,
-        }
+        Self::new(value)
     }
 }
 
@@ -141,7 +144,8 @@ impl<F: Copy, const D: usize, S: Copy, A: ExtensionProduct<F, D, S>> Mul for Ext
     }
 }
 
-impl<F: Copy, const D: usize, S: Copy, A: Copy + Add<Output = A>> AddAssign for ExtField<F, D, S, A> {
+impl<F: Copy, const D: usize, S: Copy, A: Copy + Add<Output = A>> AddAssign
+    for ExtField<F, D, S, A> {
     ghost can_add_assign = { λ x y. (d : A) (k : ℕ) → k < D → A.can_add (get_or x.value k d) (get_or y.value k d) };
 
     ghost add_assign_gives = { λ x y r. (d : A) (k : ℕ) → k < D → A.add_gives (get_or x.value k d) (get_or y.value k d) (get_or r.value k d) };
@@ -152,7 +156,8 @@ impl<F: Copy, const D: usize, S: Copy, A: Copy + Add<Output = A>> AddAssign for 
     }
 }
 
-impl<F: Copy, const D: usize, S: Copy, A: Copy + Sub<Output = A>> SubAssign for ExtField<F, D, S, A> {
+impl<F: Copy, const D: usize, S: Copy, A: Copy + Sub<Output = A>> SubAssign
+    for ExtField<F, D, S, A> {
     ghost can_sub_assign = { λ x y. (d : A) (k : ℕ) → k < D → A.can_sub (get_or x.value k d) (get_or y.value k d) };
 
     ghost sub_assign_gives = { λ x y r. (d : A) (k : ℕ) → k < D → A.sub_gives (get_or x.value k d) (get_or y.value k d) (get_or r.value k d) };
@@ -163,7 +168,8 @@ impl<F: Copy, const D: usize, S: Copy, A: Copy + Sub<Output = A>> SubAssign for 
     }
 }
 
-impl<F: Copy, const D: usize, S: Copy, A: ExtensionProduct<F, D, S>> MulAssign for ExtField<F, D, S, A> {
+impl<F: Copy, const D: usize, S: Copy, A: ExtensionProduct<F, D, S>> MulAssign
+    for ExtField<F, D, S, A> {
     ghost mul_assign_gives = { λ x y r. A.ext_product_gives x.value y.value r.value };
 
     #[inline]
@@ -172,7 +178,9 @@ impl<F: Copy, const D: usize, S: Copy, A: ExtensionProduct<F, D, S>> MulAssign f
     }
 }
 
-impl<F: Copy, const D: usize, S: ExtensionShape, A: ExtensionAlgebra<F, D, S>> Sum<ExtField<F, D, S, A>> for ExtField<F, D, S, A> {
+impl<F: Copy, const D: usize, S: ExtensionShape, A: ExtensionAlgebra<F, D, S>> Sum<
+    ExtField<F, D, S, A>,
+> for ExtField<F, D, S, A> {
     ghost use Rattle.p3_theory.specs.Operators.{sum_list};
     ghost use Rattle.p3_ext.specs.Values.{ext_ops};
 
@@ -180,15 +188,14 @@ impl<F: Copy, const D: usize, S: ExtensionShape, A: ExtensionAlgebra<F, D, S>> S
 
     #[inline]
     fn sum<I: Iterator<Item = Self>>(iter: I) -> Self {
-        let start: Self = ExtField {
-            value: [A::zero(); D],
-            of: PhantomData,
-        };
+        let start = ExtField::<F, D, S, A>::new([A::zero(); D]);
         sum_from(start, iter)
     }
 }
 
-impl<F: Copy, const D: usize, S: ExtensionShape, A: ExtensionAlgebra<F, D, S>> Product<ExtField<F, D, S, A>> for ExtField<F, D, S, A> {
+impl<F: Copy, const D: usize, S: ExtensionShape, A: ExtensionAlgebra<F, D, S>> Product<
+    ExtField<F, D, S, A>,
+> for ExtField<F, D, S, A> {
     ghost use Rattle.p3_theory.specs.Operators.{product_list};
     ghost use Rattle.p3_ext.specs.Values.{ext_ops};
 
@@ -196,12 +203,17 @@ impl<F: Copy, const D: usize, S: ExtensionShape, A: ExtensionAlgebra<F, D, S>> P
 
     #[inline]
     fn product<I: Iterator<Item = Self>>(iter: I) -> Self {
-        let start = ExtField::<F, D, S, A>::constant(A::one());
+        let start = <Self as PrimeCharacteristicRing>::one();
         product_from(start, iter)
     }
 }
 
-impl<F: Copy, const D: usize, S: ExtensionShape, A: ExtensionAlgebra<F, D, S>> PrimeCharacteristicRing for ExtField<F, D, S, A> {
+impl<
+    F: Copy,
+    const D: usize,
+    S: ExtensionShape,
+    A: ExtensionAlgebra<F, D, S>,
+> PrimeCharacteristicRing for ExtField<F, D, S, A> {
     ghost use Rattle.p3_theory.specs.Ring.{ring_of};
     ghost use Rattle.p3_ext.specs.Values.{ext_ops, ext_laws, is_sum, is_difference, is_negation, same_value};
     ghost use Rattle.p3_ext.specs.Bases.{characteristic_of};

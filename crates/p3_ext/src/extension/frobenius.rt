@@ -67,7 +67,8 @@ impl<F: FrobeniusExtendable<D, S>, const D: usize, S: ExtensionShape> Div for Ex
     }
 }
 
-impl<F: FrobeniusExtendable<D, S>, const D: usize, S: ExtensionShape> DivAssign for ExtField<F, D, S, F> {
+impl<F: FrobeniusExtendable<D, S>, const D: usize, S: ExtensionShape> DivAssign
+    for ExtField<F, D, S, F> {
     ghost can_div_assign = { λ x y. Invertible (ext_ops F.ops F.modulus) y };
 
     ghost div_assign_gives = { λ x y r. (ext_ops F.ops F.modulus).mul r y ≡ x };
@@ -78,7 +79,8 @@ impl<F: FrobeniusExtendable<D, S>, const D: usize, S: ExtensionShape> DivAssign 
     }
 }
 
-impl<F: FrobeniusExtendable<D, S>, const D: usize, S: ExtensionShape> Field for ExtField<F, D, S, F> {
+impl<F: FrobeniusExtendable<D, S>, const D: usize, S: ExtensionShape> Field
+    for ExtField<F, D, S, F> {
     ghost use Rattle.std.specs.Prelude.{refl};
     ghost use Rattle.p3_theory.specs.Text.{polynomial_text};
     ghost use Rattle.p3_ext.specs.Values.{constants_apart, decides_equality};

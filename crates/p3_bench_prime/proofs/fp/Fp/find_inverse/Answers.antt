@@ -1,4 +1,3 @@
-use Rattle.std.proofs.Common.{◌≡◌, ◌*◌, ◌%◌, ◌∙◌, ap, ap₂, sym}
 use Rattle.p3_bench_prime.specs.Elements.{canon, is}
 use Rattle.p3_bench_prime.specs.Inverses.{inverse_of_modulo, modulo_of_inverse}
 use Rattle.p3_bench_prime.proofs.fp.Fp.find_inverse.Goals as goal

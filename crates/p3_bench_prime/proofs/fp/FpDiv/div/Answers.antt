@@ -1,4 +1,3 @@
-use Rattle.std.proofs.Common.{◌≡◌}
 use Rattle.p3_bench_prime.specs.Elements.{is}
 use Rattle.p3_bench_prime.specs.Inverses.{divided}
 use Rattle.p3_bench_prime.proofs.fp.FpDiv.div.Goals as goal

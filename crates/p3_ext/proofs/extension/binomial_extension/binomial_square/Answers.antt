@@ -13,5 +13,5 @@ returns-in-2-clause-becomes g c = λ e.
     let written = set (set c.args.res.now 0 (get_or square 0 c.index-square-0.result)) 1 (get_or square 1 c.index-square-1.result) in
     let P : ℕ → Type 0 = λ n. written ≡ quotient_mul o n (binomial o n w) a a in
     subst P (sym e)
-      (pair-copied c.args.res.now square c.index-square-0.result c.index-square-1.result (c.requires.room ∙ e) (ap length c.quadratic_extension_square-square.ensures)
-        ∙ c.quadratic_extension_square-square.ensures ∙ ap (λ l. quotient_mul o 2 (binomial o 2 w) l l) (sym is_pair))
+    (pair-copied c.args.res.now square c.index-square-0.result c.index-square-1.result (c.requires.room ∙ e) (ap length c.quadratic_extension_square-square.ensures)
+    ∙ c.quadratic_extension_square-square.ensures ∙ ap (λ l. quotient_mul o 2 (binomial o 2 w) l l) (sym is_pair))

@@ -7,5 +7,5 @@ invariant-loop-i g l =
     let o = g.F.PrimeCharacteristicRing.ops in
     let root = g.F.BinomiallyExtendable.dth_root in
     (length l.res ≡ g.row.D)
-      × (l.power ≡ power o root l.i)
-      × ((k : ℕ) → k < l.i → get_or l.res k o.zero ≡ o.mul (power o root k) (get_or l.fn.a k o.zero))
+    × (l.power ≡ power o root l.i)
+    × ((k : ℕ) → k < l.i → get_or l.res k o.zero ≡ o.mul (power o root k) (get_or l.fn.a k o.zero))

@@ -8,5 +8,5 @@ returns g c =
     let b = g.F.BinomiallyExtendable in
     let m = g.met.F.BinomiallyExtendable in
     c.scale_by_powers.ensures
-      ∙ scaled_is_frobenius (ring_of g.met.F.PrimeCharacteristicRing.ring) g.row.D g.met.F.ExtensionAlgebra.at_least_two g.F.ExtensionAlgebra.modulus b.w b.dth_root
-        m.by_w m.root_power c.args.a.now c.requires.input
+    ∙ scaled_is_frobenius (ring_of g.met.F.PrimeCharacteristicRing.ring) g.row.D g.met.F.ExtensionAlgebra.at_least_two g.F.ExtensionAlgebra.modulus b.w b.dth_root
+    m.by_w m.root_power c.args.a.now c.requires.input

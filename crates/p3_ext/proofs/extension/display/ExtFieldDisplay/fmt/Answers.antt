@@ -20,15 +20,17 @@ loop-i-preserved g c =
     let text = c.loop-i.invariant.0 in
     let h : i < length v = omega (arith, c.loop-i-test.true, c.args.self.now.sized) in
     elim c.if-ne.branch [
-      then-ne+in_ok-write_next w ↦
-        let z : is_zero x ≡ false = search rules in
-        let next = next_text c.loop-i.begun i (is_one x) (own x) in
-        (text ++ next,
-          λ p. has_written_append _ _ _ _ next _ (c.loop-i.invariant.1 p) (search rules),
-          rw w.begun-is (term_written is_zero is_one own x text v _ c.loop-i.begun i x h c.index-self-i.is z c.loop-i.invariant.2))
-    | else-ne w ↦
-        let z : is_zero x ≡ true = search rules in
-        (text,
-          λ p. rw w.f-is (c.loop-i.invariant.1 p),
-          rw w.begun-is (zero_skipped is_zero is_one own x text v _ c.loop-i.begun i x h c.index-self-i.is z c.loop-i.invariant.2))
+      | then-ne+in_ok-write_next w ↦
+          let z : is_zero x ≡ false = search rules in
+          let next = next_text c.loop-i.begun i (is_one x) (own x) in (
+            text ++ next,
+            λ p. has_written_append _ _ _ _ next _ (c.loop-i.invariant.1 p) (search rules),
+            rw w.begun-is (term_written is_zero is_one own x text v _ c.loop-i.begun i x h c.index-self-i.is z c.loop-i.invariant.2),
+          )
+      | else-ne w ↦
+          let z : is_zero x ≡ true = search rules in (
+            text,
+            λ p. rw w.f-is (c.loop-i.invariant.1 p),
+            rw w.begun-is (zero_skipped is_zero is_one own x text v _ c.loop-i.begun i x h c.index-self-i.is z c.loop-i.invariant.2),
+          )
     ]

@@ -9,5 +9,5 @@ invariant-loop-i g l =
     let is_zero : g.row.F.Denot → Bool = λ c. g.F.PartialEq.eq c o.zero in
     let is_one : g.row.F.Denot → Bool = λ c. g.F.PartialEq.eq c o.one in
     (text : List ℕ)
-      × (IsPlainFormatter l.initial.f → HasWritten g.W.Write.write_str_gives l.initial.f text l.f)
-      × (text ++ terms_text is_zero is_one g.F.Field.text l.begun l.i (drop l.i l.self.value) ≡ polynomial_text is_zero is_one g.F.Field.text l.self.value)
+    × (IsPlainFormatter l.initial.f → HasWritten g.W.Write.write_str_gives l.initial.f text l.f)
+    × (text ++ terms_text is_zero is_one g.F.Field.text l.begun l.i (drop l.i l.self.value) ≡ polynomial_text is_zero is_one g.F.Field.text l.self.value)

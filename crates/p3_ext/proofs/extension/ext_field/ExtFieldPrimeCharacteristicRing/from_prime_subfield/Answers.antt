@@ -6,4 +6,4 @@ pub returns : goal.returns
 returns g c =
     let m = g.met.A.ExtensionAlgebra in
     multiple_of_one (ring_of g.met.A.PrimeCharacteristicRing.ring) g.row.D m.at_least_two g.A.ExtensionAlgebra.modulus m.monic c.constant.result c.from_prime_subfield.result _
-      c.constant.ensures c.from_prime_subfield.ensures
+    c.constant.ensures c.from_prime_subfield.ensures

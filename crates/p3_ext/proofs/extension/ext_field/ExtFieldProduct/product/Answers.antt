@@ -1,8 +1,6 @@
-use Rattle.std.proofs.Common.{ap, ◌∙◌}
-use Rattle.p3_theory.specs.Polynomial.{embed}
 use Rattle.p3_theory.specs.Ring.{ring_of}
 use Rattle.p3_theory.specs.Accumulation.{product_from_one}
-use Rattle.p3_ext.specs.Values.{ext_laws, ext_ops, same_value, constant}
+use Rattle.p3_ext.specs.Values.{ext_laws, ext_ops, same_value}
 use Rattle.p3_ext.proofs.extension.ext_field.ExtFieldProduct.product.Goals as goal
 
 pub returns : goal.returns
@@ -12,8 +10,11 @@ returns g c =
     let f = g.A.ExtensionAlgebra.modulus in
     let ran = c.product_from.ensures.ran in
     record {
-      ran = (ran.0, λ _. ran.1,
+      ran = (
+        ran.0,
+        λ _. ran.1,
         product_from_one (ext_laws (ring_of g.met.A.PrimeCharacteristicRing.ring) g.row.D m.at_least_two f m.monic) _
-          (λ x y r h. same_value r ((ext_ops o f).mul x y) (m.ext_products _ _ _ h)) c.constant-start.result
-          (same_value c.constant-start.result (constant o o.one) (c.constant-start.ensures ∙ ap (embed o g.row.D) c.one.ensures)) ran.0 c.product_from.result ran.2);
+            (λ x y r h. same_value r ((ext_ops o f).mul x y) (m.ext_products _ _ _ h)) c.one-start.result
+            c.one-start.ensures ran.0 c.product_from.result ran.2,
+      );
     }

@@ -1,3 +1,4 @@
+use Rattle.std.proofs.Common.{◌∙◌}
 use Rattle.p3_theory.specs.Ring.{ring_of}
 use Rattle.p3_theory.specs.Accumulation.{sum_from_zero}
 use Rattle.p3_theory.specs.Places.{zero-list}
@@ -11,8 +12,11 @@ returns g c =
     let f = g.A.ExtensionAlgebra.modulus in
     let ran = c.sum_from.ensures.ran in
     record {
-      ran = (ran.0, λ _. ran.1,
+      ran = (
+        ran.0,
+        λ _. ran.1,
         sum_from_zero (ext_laws (ring_of g.met.A.PrimeCharacteristicRing.ring) g.row.D m.at_least_two f m.monic) _
-          (λ x y r h. is_sum o f g.A.Add.add_gives g.met.A.PrimeCharacteristicRing.adds.answer x y r h) _
-          (same_value _ (constant o o.zero) (zero-list o g.row.D c.zero.result c.zero.ensures)) ran.0 c.sum_from.result ran.2);
+            (λ x y r h. is_sum o f g.A.Add.add_gives g.met.A.PrimeCharacteristicRing.adds.answer x y r h) c.new-start.result
+            (same_value c.new-start.result (constant o o.zero) (c.new-start.ensures ∙ zero-list o g.row.D c.zero.result c.zero.ensures)) ran.0 c.sum_from.result ran.2,
+      );
     }

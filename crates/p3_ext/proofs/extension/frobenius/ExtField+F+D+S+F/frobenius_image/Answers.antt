@@ -6,4 +6,4 @@ use Rattle.p3_ext.proofs.extension.frobenius.ExtField+F+D+S+F.frobenius_image.Go
 pub returns : goal.returns
 returns g c =
     same_value c.new.result (frobenius_map g.F.PrimeCharacteristicRing.ops g.F.ExtensionAlgebra.modulus g.F.FrobeniusExtendable.image c.args.self.now)
-      (c.new.ensures ∙ c.apply_frobenius.ensures)
+    (c.new.ensures ∙ c.apply_frobenius.ensures)
