@@ -1,0 +1,9 @@
+pub mod Carrying
+pub mod Digits
+pub mod Endings
+pub mod InverseLemmas
+pub mod LineLemmas
+pub mod Pieces
+pub mod Totality
+pub mod ValueLemmas
+pub mod WordLemmas

@@ -1,0 +1,11 @@
+-- The text of a coefficient list, as `3 + 11 X`.
+use Rattle.std.specs.Prelude.{ℕ, ◌==◌, List, decimal}
+use Rattle.p3_theory.specs.Text.{polynomial_text}
+
+-- the terms that are not zero, with their coefficients in decimal
+abbrev pub display : List ℕ → List ℕ
+display cs = polynomial_text (λ c. c == 0) (λ c. c == 1) decimal cs
+
+-- the same of coefficients by their canonical values
+abbrev pub canonical_text : {A : Type 0} → (A → ℕ) → List A → List ℕ
+canonical_text canon cs = polynomial_text (λ c. canon c == 0) (λ c. canon c == 1) (λ c. decimal (canon c)) cs

@@ -1,0 +1,51 @@
+-- The calculator's fields by numbers: residues, and polynomials modulo a polynomial, as coefficient lists.
+use Rattle.std.specs.Prelude.{◌≡◌, ◌<◌, ℕ, List, [], ◌∷◌, length, Option, codes}
+use Rattle.p3_theory.specs.Ring.{Ops}
+use Rattle.p3_theory.specs.Polynomial.{at, quotient_ops}
+use Rattle.p3_theory.specs.Residues.{residues}
+use Rattle.p3_field_bench.specs.Words.{lookup}
+
+-- the residues modulo n, or the polynomials over them modulo one of degree D, given by its coefficients
+pub data FieldSpec : Type 0 where
+  ResiduesModulo : ℕ → FieldSpec
+  PolynomialsModulo : ℕ → ℕ → List ℕ → FieldSpec
+
+-- the order of the base
+abbrev pub order : FieldSpec → ℕ
+order (ResiduesModulo n) = n
+order (PolynomialsModulo n D f) = n
+
+-- how many coefficients a value has
+abbrev pub dimension : FieldSpec → ℕ
+dimension (ResiduesModulo n) = 1
+dimension (PolynomialsModulo n D f) = D
+
+-- operations on lists of one place
+abbrev pub on_one_place : {A : Type 0} → Ops A → Ops (List A)
+on_one_place O = record {
+  zero = O.zero ∷ [];
+  one = O.one ∷ [];
+  add = λ a b. O.add (at O a 0) (at O b 0) ∷ [];
+  neg = λ a. O.neg (at O a 0) ∷ [];
+  mul = λ a b. O.mul (at O a 0) (at O b 0) ∷ [];
+}
+
+-- a field's operations on coefficient lists
+abbrev pub ops : FieldSpec → Ops (List ℕ)
+ops (ResiduesModulo n) = on_one_place (residues n)
+ops (PolynomialsModulo n D f) = quotient_ops (residues n) D f
+
+-- every entry is below n
+abbrev pub AllBelow : ℕ → List ℕ → Type 0
+AllBelow n [] = Unit {0}
+AllBelow n (c ∷ cs) = (c < n) × AllBelow n cs
+
+-- the coefficient lists of the field's values
+abbrev pub IsValue : FieldSpec → List ℕ → Type 0
+IsValue s cs = (length cs ≡ dimension s) × AllBelow (order s) cs
+
+-- the fields by their names
+abbrev pub field_named : List ℕ → Option FieldSpec
+field_named name = lookup (
+    (codes "f17x2", PolynomialsModulo 17 2 (14 ∷ 0 ∷ 1 ∷ []))
+    ∷ []) name

@@ -1,0 +1,14 @@
+pub mod Bank
+pub mod Coefficients
+pub mod Display
+pub mod Effects
+pub mod Faults
+pub mod Fields
+pub mod Lines
+pub mod Memory
+pub mod Outcomes
+pub mod Representation
+pub mod Standing
+pub mod Streams
+pub mod Text
+pub mod Words

@@ -1,0 +1,171 @@
+ghost use Rattle.std.specs.Prelude.{◌≡◌, ◌<◌, ℕ, List, slice_set, string_bytes, IfOk};
+ghost use Rattle.p3_theory.specs.Ring.{Ops};
+ghost use Rattle.p3_theory.specs.Polynomial.{quotient_mul};
+ghost use Rattle.p3_theory.specs.Residues.{AreResidues};
+ghost use Rattle.p3_ext.specs.Values.{ext_ops};
+ghost use Rattle.p3_field_bench.specs.Display.{display, canonical_text};
+ghost use Rattle.p3_field_bench.specs.Fields.{FieldSpec, order, dimension};
+ghost use Rattle.p3_field_bench.specs.Representation.{Represents, InverseOrNone};
+
+use p3_bench_prime::form::Form;
+use p3_bench_prime::fp::Fp;
+use p3_field::extension::ExtensionProduct;
+use p3_field::extension::ext_field::ExtField;
+use p3_field::integers::QuotientMap;
+use std::alloc::{AllocError, Allocator};
+
+/// A field of the calculator: its values are known by their canonical coefficients. It has just
+/// what the lines ask for, since a bound by the whole field trait costs minutes at each name.
+pub trait CalculatorField: Copy {
+    /// The field by numbers.
+    ghost spec: { FieldSpec };
+
+    /// The canonical coefficients of a value, from X^0 upward.
+    ghost coefficients: { Self → List ℕ };
+
+    /// The operations of the type.
+    ghost ops: { Ops Self };
+
+    /// The order of the base.
+    fn base_order() -> u64
+        ensures { result ≡ order spec };
+
+    /// How many coefficients a value has.
+    fn coefficient_count() -> usize
+        ensures { result ≡ dimension spec };
+
+    /// Zero.
+    fn zero() -> Self
+        ensures { result ≡ ops.zero };
+
+    /// The value with one coefficient changed.
+    fn with_coefficient(self, i: usize, c: u64) -> Self
+        requires place { i < dimension spec }
+        requires below { c < order spec }
+        ensures { coefficients result ≡ slice_set (coefficients self) i c };
+
+    /// The product of two values.
+    fn product(self, other: Self) -> Self
+        ensures { result ≡ ops.mul self other };
+
+    /// An inverse, and `None` exactly where there is none.
+    fn inverse(self) -> Option<Self>
+        ensures { InverseOrNone ops self result };
+
+    /// The text that `Display` writes.
+    fn text<A: Allocator + Copy>(self, alloc: A) -> Result<String<A>, AllocError>
+        ensures { IfOk result (λ text. string_bytes text ≡ display (coefficients self)) };
+
+    /// The operations are those of the field on coefficient lists.
+    ghost represents: { Represents spec ops coefficients };
+}
+
+/// A base of the calculator's extensions: residues by their canonical values.
+pub trait Base: Copy {
+    /// The order.
+    ghost order: { ℕ };
+
+    /// The canonical value of a residue.
+    ghost canon: { Self → ℕ };
+
+    /// The operations of the type.
+    ghost ops: { Ops Self };
+
+    /// The order.
+    fn order() -> u64
+        ensures { result ≡ order };
+
+    /// The residue with this canonical value.
+    fn residue(canonical: u64) -> Self
+        requires { canonical < order }
+        ensures { canon result ≡ canonical };
+
+    /// The canonical values are one to one onto the numbers below the order, and the operations
+    /// are those of residues.
+    ghost residues: { AreResidues order ops canon };
+}
+
+/// A base with an extension of degree D by the shape S that has a name in the calculator.
+pub trait Extended<const D: usize, S>: Base + ExtensionProduct<Self, D, S> {
+    /// The polynomial that is zero in the extension.
+    ghost modulus: { List Self };
+
+    /// An inverse, and `None` exactly where there is none.
+    fn inverse(x: ExtField<Self, D, S, Self>) -> Option<ExtField<Self, D, S, Self>>
+        ensures { InverseOrNone (ext_ops Self.ops modulus) x result };
+
+    /// The text that `Display` writes.
+    fn text<A: Allocator + Copy>(
+        x: ExtField<Self, D, S, Self>,
+        alloc: A,
+    ) -> Result<String<A>, AllocError>
+        ensures { IfOk result (λ text. string_bytes text ≡ canonical_text Self.canon x.value) };
+
+    /// The product is the remainder of the convolution modulo the polynomial.
+    ghost products: { (a b r : List Self) → Self.ext_product_gives a b r → r ≡ quotient_mul Self.ops D modulus a b };
+}
+
+impl<W: Form> Base for Fp<W> {
+    ghost use Rattle.p3_theory.specs.Residues.{are_residues};
+    ghost use Rattle.p3_bench_prime.specs.Elements.{canon, ops, is};
+
+    ghost order = { W.ORDER };
+
+    ghost canon = { canon W.Form };
+
+    ghost ops = { ops W.Form };
+
+    fn order() -> u64 {
+        W::ORDER as u64
+    }
+
+    fn residue(canonical: u64) -> Self {
+        Self::from_canonical_unchecked(canonical)
+    }
+
+    ghost residues = { are_residues (is W.Form) };
+}
+
+impl<F: Extended<D, S>, const D: usize, S: Copy> CalculatorField for ExtField<F, D, S, F> {
+    ghost use Rattle.std.specs.Prelude.{map};
+    ghost use Rattle.p3_field_bench.specs.Fields.{PolynomialsModulo};
+    ghost use Rattle.p3_field_bench.specs.Coefficients.{all_coefficients, extension_represented};
+
+    ghost spec = { PolynomialsModulo F.order D (map F.canon F.modulus) };
+
+    ghost coefficients = { all_coefficients F.canon };
+
+    ghost ops = { ext_ops F.ops F.modulus };
+
+    fn base_order() -> u64 {
+        F::order()
+    }
+
+    fn coefficient_count() -> usize {
+        D
+    }
+
+    fn zero() -> Self {
+        Self::new([F::residue(0); D])
+    }
+
+    fn with_coefficient(self, i: usize, c: u64) -> Self {
+        let mut value = self.value;
+        value[i] = F::residue(c);
+        Self::new(value)
+    }
+
+    fn product(self, other: Self) -> Self {
+        self * other
+    }
+
+    fn inverse(self) -> Option<Self> {
+        F::inverse(self)
+    }
+
+    fn text<A: Allocator + Copy>(self, alloc: A) -> Result<String<A>, AllocError> {
+        F::text(self, alloc)
+    }
+
+    ghost represents = { extension_represented F.order F.ops F.canon F.residues D F.modulus };
+}

@@ -1,0 +1,17 @@
+//! Laws of the definitions that the contracts cite.
+
+ghost use Rattle.std.specs.Prelude.{◌≡◌, ℕ, List, Option, false, IfSome};
+ghost use Rattle.std.specs.Io.KnownBytes.{Consumes, IsAtEnd};
+ghost use Rattle.p3_field_bench.specs.Lines.{lines_of};
+ghost use Rattle.p3_field_bench.specs.Text.{RunEnds, IsText};
+
+/// The texts of the calculator are defined for every input.
+pub fn every_input_has_a_text()
+    ensures { (bytes : List ℕ) → (text : List ℕ) × (status : ℕ) × IsText (lines_of bytes) text status }
+{}
+
+/// Where the reader tells its bytes and nothing failed, the text is one of the whole input.
+pub fn a_complete_text_is_of_the_whole_input()
+    ensures { (old new : Option (List ℕ)) (bytes text : List ℕ) (status : ℕ) → Consumes old new bytes
+        → RunEnds false false (IsAtEnd new) bytes text status → IfSome old (λ input. IsText (lines_of input) text status) }
+{}

@@ -1,0 +1,44 @@
+ghost use Rattle.std.specs.Prelude.{◌≡◌, ◌≤◌, length};
+
+use crate::bank::Bank;
+use crate::faults::Fault;
+
+/// What stands between two bytes of the input: the registers, the number of the line that is being
+/// read, and its bytes so far.
+#[derive(Drop)]
+pub struct Machine {
+    pub bank: Bank,
+    pub number: u128,
+    pub line: [u8; 256],
+    pub used: usize,
+    ghost within: { used ≤ 256 },
+    ghost full: { length line ≡ 256 },
+}
+
+impl Machine {
+    ghost use Rattle.p3_field_bench.specs.Bank.{state_of};
+    ghost use Rattle.p3_field_bench.specs.Effects.{no_field};
+
+    /// Before the first line.
+    pub fn new() -> Self
+        ensures number { result.number ≡ 1 }
+        ensures used { result.used ≡ 0 }
+        ensures state { state_of result.bank ≡ no_field }
+    {
+        Machine {
+            bank: Bank::Empty,
+            number: 1,
+            line: [0; 256],
+            used: 0,
+        }
+    }
+}
+
+/// Why a run stops before the end of the input.
+#[derive(Clone, Copy)]
+pub enum Stop {
+    /// A line ended it with a fault.
+    AtFault(Fault),
+    /// A write failed.
+    AtWrite,
+}

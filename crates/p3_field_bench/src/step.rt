@@ -1,0 +1,74 @@
+ghost use Rattle.std.specs.Prelude.{◌≡◌};
+ghost use Rattle.p3_field_bench.specs.Bank.{state_of, opened};
+ghost use Rattle.p3_field_bench.specs.Effects.{May, ComputesAt, Chooses, chosen};
+ghost use Rattle.p3_field_bench.specs.Fields.{field_named};
+ghost use Rattle.p3_field_bench.specs.Lines.{words};
+ghost use Rattle.p3_field_bench.specs.Outcomes.{outcome, silent};
+
+use crate::act::{act, without_text};
+use crate::bank::Bank;
+use crate::commands::{Command, Operation, parse_command};
+use crate::faults::Fault;
+use crate::registers::Registers;
+use crate::words::{next_word, one_word};
+use std::alloc::Allocator;
+
+/// The registers of a field, all zero, by the field's name.
+fn open(name: &[u8]) -> Option<Bank>
+    ensures { opened result ≡ chosen (field_named name.now) }
+{
+    match name {
+        b"f17x2" => Some(Bank::F17x2(Registers::zero())),
+        _ => None,
+    }
+}
+
+/// The line `field NAME`.
+fn choose(bank: &mut Bank, args: &[u8]) -> Result<(), Fault>
+    ensures { Chooses (words args.now) (silent result (state_of bank.new)) }
+{
+    let Some(name) = one_word(args) else {
+        return Err(Fault::WordCount);
+    };
+    let Some(new) = open(name) else {
+        return Err(Fault::NoField);
+    };
+    *bank = new;
+    Ok(())
+}
+
+/// Carries out a line at the chosen field.
+fn act_at<A: Allocator + Copy>(
+    alloc: A,
+    operation: Operation,
+    bank: &mut Bank,
+    args: &[u8],
+) -> Result<Vec<u8, A>, Fault>
+    ensures { let old = state_of bank.old in ComputesAt old.field operation old.registers (words args.now) (outcome result (state_of bank.new)) }
+{
+    match bank {
+        Bank::Empty => Err(Fault::NoField),
+        Bank::F17x2(regs) => act(alloc, operation, regs, args),
+    }
+}
+
+/// Carries out a line, and answers its text.
+pub fn step<A: Allocator + Copy>(
+    alloc: A,
+    bank: &mut Bank,
+    line: &[u8],
+) -> Result<Vec<u8, A>, Fault>
+    ensures { May (state_of bank.old) line.now (outcome result (state_of bank.new)) }
+{
+    if line.len() > 256 {
+        return Err(Fault::LongLine);
+    }
+    let Some((word, args)) = next_word(line) else {
+        return Ok(Vec::new(alloc));
+    };
+    match parse_command(word) {
+        None => Err(Fault::UnknownCommand),
+        Some(Command::Field) => without_text(alloc, choose(bank, args)),
+        Some(Command::Compute(operation)) => act_at(alloc, operation, bank, args),
+    }
+}

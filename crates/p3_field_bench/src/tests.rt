@@ -1,0 +1,165 @@
+//! Runs of the calculator, over sources and sinks in memory.
+
+use crate::refusing::Refusing;
+use crate::{MemSink, MemSource, engine, engine_in};
+use std::process::Abort;
+use std::test::Fail;
+
+/// Runs the input in pieces of 1, 2, 7 and 1000 bytes, and compares the text and the status.
+fn assert_text(
+    rt: &(impl Abort + AllocGlobal),
+    input: &[u8],
+    text: &str,
+    status: u8,
+) -> Result<(), Fail> {
+    for piece in [1usize, 2, 7, 1000] {
+        let mut source = MemSource::new(input.to_vec(rt.alloc())?, piece, None);
+        let mut sink = MemSink::new(rt.alloc(), 100, true)?;
+        let answer = engine(rt.alloc(), &mut source, &mut sink);
+        assert_eq!(rt; answer, status, "{text}");
+        assert_eq!(rt; sink.text(), text.as_bytes());
+    }
+    Ok(())
+}
+
+#[test]
+fn the_six_lines(rt: HostRuntime) -> Result<(), Fail> {
+    let input = "field f17x2\nput 0 1 2\ninv 1 0\nshow 1\nmul 2 0 1\nshow 2\n";
+    assert_text(&rt, input.as_bytes(), "3 + 11 X\n1\n", 0)
+}
+
+#[test]
+fn products_and_zero(rt: HostRuntime) -> Result<(), Fail> {
+    let input = "field f17x2\nput 0 1 2\nmul 1 0 0\nshow 1\nshow 2";
+    assert_text(&rt, input.as_bytes(), "13 + 4 X\n0\n", 0)
+}
+
+#[test]
+fn a_field_is_chosen_anew(rt: HostRuntime) -> Result<(), Fail> {
+    let input = "field f17x2\n  put  0 1   2  \nfield f17x2\nshow 0\n";
+    assert_text(&rt, input.as_bytes(), "0\n", 0)
+}
+
+#[test]
+fn lines_without_a_field(rt: HostRuntime) -> Result<(), Fail> {
+    let rows = [
+        ("", "", 0u8),
+        ("\n\n  \n", "", 0),
+        ("inv 0 0", "line 1: fault 7\n", 1),
+        ("put", "line 1: fault 7\n", 1),
+        ("field f17", "line 1: fault 7\n", 1),
+        ("field", "line 1: fault 2\n", 1),
+        ("field f17x2 f17x2", "line 1: fault 2\n", 1),
+        ("\n \nadd 1 0 0\n", "line 3: fault 1\n", 1),
+    ];
+    for (input, text, status) in rows {
+        assert_text(&rt, input.as_bytes(), text, status)?;
+    }
+    Ok(())
+}
+
+#[test]
+fn faults_of_a_field(rt: HostRuntime) -> Result<(), Fail> {
+    let rows = [
+        ("field f17x2\nput 0 1 2\nadd 1 0 0\n", "line 3: fault 1\n"),
+        ("field f17x2\ninv 1 0\n", "line 2: fault 5\n"),
+        ("field f17x2\nput 16 1 2\n", "line 2: fault 3\n"),
+        ("field f17x2\nput 000 1 2\n", "line 2: fault 3\n"),
+        ("field f17x2\nput 0 17 0\n", "line 2: fault 4\n"),
+        (
+            "field f17x2\nput 0 0 18446744073709551616\n",
+            "line 2: fault 4\n",
+        ),
+        ("field f17x2\nput 0 x 0\n", "line 2: fault 4\n"),
+        ("field f17x2\nput 16 1\n", "line 2: fault 2\n"),
+        ("field f17x2\nput 0 1 2 3\n", "line 2: fault 2\n"),
+        ("field f17x2\nput 16 17 0\n", "line 2: fault 3\n"),
+        ("field f17x2\nmul 0 1\n", "line 2: fault 2\n"),
+        ("field f17x2\nshow 20\n", "line 2: fault 3\n"),
+    ];
+    for (input, text) in rows {
+        assert_text(&rt, input.as_bytes(), text, 1)?;
+    }
+    Ok(())
+}
+
+#[test]
+fn numbers_of_twenty_digits(rt: HostRuntime) -> Result<(), Fail> {
+    let input = "field f17x2\nput 15 00000000000000000016 00000000000000000001\nshow 15";
+    assert_text(&rt, input.as_bytes(), "16 + X\n", 0)?;
+    let longer = "field f17x2\nput 15 000000000000000000016 1\n";
+    assert_text(&rt, longer.as_bytes(), "line 2: fault 4\n", 1)
+}
+
+#[test]
+fn lines_of_spaces(rt: HostRuntime) -> Result<(), Fail> {
+    let mut bytes = [b' '; 258];
+    assert_text(&rt, &bytes[..257], "line 1: fault 10\n", 1)?;
+    bytes[256] = b'\n';
+    assert_text(&rt, &bytes[..257], "", 0)?;
+    bytes[256] = b' ';
+    bytes[257] = b'\n';
+    assert_text(&rt, &bytes, "line 1: fault 10\n", 1)
+}
+
+#[test]
+fn a_read_fails(rt: HostRuntime) -> Result<(), Fail> {
+    let input = "field f17x2\nshow 0\ninv 0 0\n";
+    let rows = [
+        (0usize, "line 1: fault 9\n"),
+        (1, "line 1: fault 9\n"),
+        (2, "line 2: fault 9\n"),
+        (4, "0\nline 3: fault 9\n"),
+        (5, "0\nline 3: fault 5\n"),
+    ];
+    for (reads, text) in rows {
+        let mut source = MemSource::new(input.as_bytes().to_vec(rt.alloc())?, 6, Some(reads));
+        let mut sink = MemSink::new(rt.alloc(), 100, true)?;
+        let answer = engine(rt.alloc(), &mut source, &mut sink);
+        assert_eq!(rt; answer, 1, "{text}");
+        assert_eq!(rt; sink.text(), text.as_bytes());
+    }
+    Ok(())
+}
+
+#[test]
+fn a_write_fails(rt: HostRuntime) -> Result<(), Fail> {
+    let input = "field f17x2\nput 0 3 11\nshow 0\ninv 0 1";
+    let rows = [
+        (0usize, ""),
+        (3, "3 +"),
+        (9, "3 + 11 X\n"),
+        (14, "3 + 11 X\nline "),
+    ];
+    for (room, text) in rows {
+        for fails in [false, true] {
+            let mut source = MemSource::new(input.as_bytes().to_vec(rt.alloc())?, 7, None);
+            let mut sink = MemSink::new(rt.alloc(), room, fails)?;
+            let answer = engine(rt.alloc(), &mut source, &mut sink);
+            assert_eq!(rt; answer, 2, "{text}");
+            assert_eq!(rt; sink.text(), text.as_bytes());
+        }
+    }
+    Ok(())
+}
+
+#[test]
+fn refused_growths(rt: HostRuntime) -> Result<(), Fail> {
+    let input = "field f17x2\nshow 0\n";
+    for passing in 0..9u64 {
+        let heap = Refusing::after(rt.alloc(), passing);
+        let mut source = MemSource::new(input.as_bytes().to_vec(rt.alloc())?, 7, None);
+        let mut sink = MemSink::new(rt.alloc(), 100, true)?;
+        let answer = engine_in(&heap, &mut source, &mut sink);
+        assert_eq!(rt; heap.blocks(), 0);
+        if heap.growths() <= passing {
+            assert_eq!(rt; answer, 0);
+            assert_eq!(rt; sink.text(), b"0\n".as_slice());
+            assert_ne!(rt; passing, 0);
+            return Ok(());
+        }
+        assert_eq!(rt; answer, 1);
+        assert_eq!(rt; sink.text(), b"line 2: fault 8\n".as_slice());
+    }
+    panic!(rt; "a text of one digit takes more than eight growths")
+}
