@@ -1,8 +1,8 @@
 -- Whole numbers as elements of a ring: one taken so many times.
 use Rattle.std.specs.Prelude.{◌≡◌, ℕ, zero, suc, ◌+◌, ◌*◌, ◌%◌, ◌/◌, ◌-◌, ◌<◌, ◌≤◌, ℤ, pos, negsuc, refl}
 use Rattle.std.proofs.Common.{ap, ap₂, sym, ◌∙◌, arith}
-use Rattle.std.proofs.Math.Nat.{mod-add-div}
-use Rattle.p3_theory.specs.Ring.{Ops, Ring}
+use Rattle.std.proofs.Math.Nat.{mod-add-div, mod-lt}
+use Rattle.p3_theory.specs.Ring.{Ops, Ring, RingLaws, ring_of}
 use Rattle.p3_theory.specs.Sequences as Sequences
 
 -- one added n times
@@ -44,3 +44,19 @@ module _ {A : Type 0} (R : Ring A) where
   of_nat-remainder n e a =
       let k : a ≡ a % n + n * (a / n) = omega (arith, mod-add-div a n) in
       sym (ap (of_nat R.ops) k ∙ of_nat-add (a % n) (n * (a / n)) ∙ ap (R.add (of_nat R.ops (a % n))) (of_nat-multiple n e (a / n)) ∙ R.add_zero _)
+
+  -- the same of a whole number of either sign
+  pub of_int-remainder : (n : ℕ) → 0 < n → of_nat R.ops n ≡ R.zero → (z : ℤ) → of_nat R.ops (remainder_of z n) ≡ of_int R.ops z
+  of_int-remainder n h e (pos a) = of_nat-remainder n e a
+  of_int-remainder n h e (negsuc a) =
+      let below : a % n < n = mod-lt a h in
+      let whole : suc a + (n - 1 - a % n) ≡ n * suc (a / n) = omega (arith, mod-add-div a n) in
+      Sequences.cancel R (of_nat R.ops (suc a)) _ _
+      (sym (of_nat-add (suc a) (n - 1 - a % n)) ∙ ap (of_nat R.ops) whole ∙ of_nat-multiple n e (suc (a / n)) ∙ sym (R.add_neg _))
+
+-- what is made from a residue is one taken as many times as the whole number says
+pub multiple_of_residue : {A : Type 0} {O : Ops A} → RingLaws O → (n : ℕ) → of_nat O n ≡ O.zero → (z : ℤ) (k : ℕ) → k ≡ remainder_of z n → k < n
+    → (r : A) → r ≡ of_nat O k → r ≡ of_int O z
+multiple_of_residue {O = O} l n e z k h b r m =
+    let above : 0 < n = omega arith in
+    m ∙ ap (of_nat O) h ∙ of_int-remainder (ring_of l) n above e z

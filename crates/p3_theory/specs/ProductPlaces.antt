@@ -19,17 +19,17 @@ module _ {A : Type 0} where
   abbrev pub product_place : Ops A → ℕ → A → List A → List A → ℕ → A
   product_place o D w a b k =
       o.add (first_sum o.zero o.add (k + 1) (λ i. o.mul (get_or a (0 + i) o.zero) (get_or b (k - i) o.zero)))
-        (o.mul (first_sum o.zero o.add (D - 1 - k) (λ i. o.mul (get_or a (k + 1 + i) o.zero) (get_or b (D - 1 - i) o.zero))) w)
+      (o.mul (first_sum o.zero o.add (D - 1 - k) (λ i. o.mul (get_or a (k + 1 + i) o.zero) (get_or b (D - 1 - i) o.zero))) w)
 
   module _ (R : Ring A) where
     product_place-fold : (d : ℕ) (w : A) (a b : List A) → length a ≡ suc d → length b ≡ suc d → (k : ℕ) → k < suc d
         → product_place R.ops (suc d) w a b k ≡ fold R (suc d) w (P.convolve R.ops (at R.ops a) (at R.ops b)) k
     product_place-fold d w a b la lb k h = ap₂ R.add
         (ap₂ (λ n s. first_sum R.zero R.add n s) one (fun_ext (λ i. ap (λ j. R.mul (at R.ops a j) (at R.ops b (k - i))) (plain i)))
-          ∙ L.low R k (at R.ops a) (at R.ops b))
+        ∙ L.low R k (at R.ops a) (at R.ops b))
         (R.mul_comm _ w ∙ ap (R.mul w)
-          (ap₂ (λ n s. first_sum R.zero R.add n s) less (fun_ext (λ i. ap (λ j. R.mul (at R.ops a (k + 1 + i)) (at R.ops b (j - i))) last))
-            ∙ L.high R d k (at R.ops a) (at R.ops b) (ends a la) (ends b lb) h))
+        (ap₂ (λ n s. first_sum R.zero R.add n s) less (fun_ext (λ i. ap (λ j. R.mul (at R.ops a (k + 1 + i)) (at R.ops b (j - i))) last))
+        ∙ L.high R d k (at R.ops a) (at R.ops b) (ends a la) (ends b lb) h))
       where
         one : k + 1 ≡ suc k
         one = omega arith
@@ -52,8 +52,8 @@ module _ {A : Type 0} where
     product_by_places zero h w a b old out la lb lo p = absurd (omega arith)
     product_by_places (suc d) h w a b old out la lb lo p = to-tabulate R.zero (suc d) _ out lo (λ k lt. p k lt
         ∙ ap (R.add (get_or old k R.zero)) (product_place-fold d w a b la lb k lt
-          ∙ sym (get-tabulate (suc d) (fold R (suc d) w (P.convolve R.ops (at R.ops a) (at R.ops b))) k R.zero lt)
-          ∙ ap (λ l. get_or l k R.zero) (sym (binomial_product R d w a b la lb))))
+        ∙ sym (get-tabulate (suc d) (fold R (suc d) w (P.convolve R.ops (at R.ops a) (at R.ops b))) k R.zero lt)
+        ∙ ap (λ l. get_or l k R.zero) (sym (binomial_product R d w a b la lb))))
 
     -- one more product_place of the loop
     pub place_more : (f : ℕ → A) (old out : List A) (i n : ℕ) (v : A) → length out ≡ n → i < n
@@ -61,13 +61,14 @@ module _ {A : Type 0} where
         → ((k : ℕ) → i ≤ k → get_or out k R.zero ≡ get_or old k R.zero)
         → v ≡ R.add (get_or old i R.zero) (f i)
         → (length (set out i v) ≡ n) × ((k : ℕ) → k < i + 1 → get_or (set out i v) k R.zero ≡ R.add (get_or old k R.zero) (f k))
-          × ((k : ℕ) → i + 1 ≤ k → get_or (set out i v) k R.zero ≡ get_or old k R.zero)
-    place_more f old out i n v l b p q e =
-        (simp length-set l,
-         below_more (λ k. get_or (set out i v) k R.zero ≡ R.add (get_or old k R.zero) (f k)) i
-           (λ k w. get_or-set_other out i k v R.zero (omega arith) ∙ p k w)
-           (get_or-set_same out i v R.zero (omega arith) ∙ e),
-         λ k w. get_or-set_other out i k v R.zero (omega arith) ∙ q k (omega arith))
+        × ((k : ℕ) → i + 1 ≤ k → get_or (set out i v) k R.zero ≡ get_or old k R.zero)
+    place_more f old out i n v l b p q e = (
+      simp length-set l,
+      below_more (λ k. get_or (set out i v) k R.zero ≡ R.add (get_or old k R.zero) (f k)) i
+          (λ k w. get_or-set_other out i k v R.zero (omega arith) ∙ p k w)
+          (get_or-set_same out i v R.zero (omega arith) ∙ e),
+      λ k w. get_or-set_other out i k v R.zero (omega arith) ∙ q k (omega arith),
+    )
 
     added_to_zeros : (D : ℕ) (old out p : List A) → old ≡ replicate D R.zero → length p ≡ D → out ≡ P.quotient_add R.ops D old p → out ≡ p
     added_to_zeros D old out p z l e = e ∙ ap (λ o. P.quotient_add R.ops D o p) z

@@ -31,11 +31,14 @@ module _ {A : Type 0} {n : ℕ} {canon : A → ℕ} {of : ℕ → A} (is : IsRes
   apart : (k : ℕ) (is_ : List ℕ) → apart_from n r k D is_ ≡ true → (j : ℕ) → k ≤ j → j < D → Invertible O (subtract O (power O (of r) j) O.one)
   apart k [] t j a b = let e : k ≡ D = eqb-true k D t in absurd (omega (arith, e))
   apart k (i ∷ is_) t j a b = elim (eq-or-lt_of_le a) [
-      | inl e ↦ (of i, ap (λ j. O.mul (subtract O (power O (of r) j) O.one) (of i)) (sym e)
+    | inl e ↦ (
+      of i,
+      ap (λ j. O.mul (subtract O (power O (of r) j) O.one) (of i)) (sym e)
           ∙ ap (λ x. O.mul x (of i)) (ap₂ O.add (sym (map-power h r k)) (sym (h.neg 1)) ∙ sym (h.add _ _)) ∙ sym (h.mul _ i)
-          ∙ ap of (eqb-true _ 1 (and_true _ _ t).0))
-      | inr l ↦ apart (suc k) is_ (and_true _ _ t).1 j l b
-    ]
+          ∙ ap of (eqb-true _ 1 (and_true _ _ t).0),
+    )
+    | inr l ↦ apart (suc k) is_ (and_true _ _ t).1 j l b
+  ]
 
   pub root_apart : is_root_of_unity n D r inverses ≡ true → (k : ℕ) → 1 ≤ k → k < D → Invertible O (subtract O (power O (of r) k) O.one)
   root_apart t = apart 1 inverses (and_true _ _ t).1

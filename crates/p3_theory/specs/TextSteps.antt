@@ -13,14 +13,14 @@ module _ {A : Type 0} (is_zero is_one : A → Bool) (own : A → List ℕ) where
   term_written d old vs all b i c h e z inv =
       append_assoc old (next_text b i (is_one c) (own c)) (terms true (i + 1) (drop (i + 1) vs))
       ∙ ap (λ t. old ++ t) (sym (ap (terms b i) (drop_more vs i d h ∙ ap (λ k. k ∷ drop (i + 1) vs) (sym e))
-        ∙ ap (λ t. cond t (terms b (i + 1) (drop (i + 1) vs)) (next_text b i (is_one c) (own c) ++ terms true (i + 1) (drop (i + 1) vs))) z))
+      ∙ ap (λ t. cond t (terms b (i + 1) (drop (i + 1) vs)) (next_text b i (is_one c) (own c) ++ terms true (i + 1) (drop (i + 1) vs))) z))
       ∙ inv
 
   pub zero_skipped : (d : A) (old : List ℕ) (vs : List A) (all : List ℕ) (b : Bool) (i : ℕ) (c : A) → i < length vs → c ≡ get_or vs i d → is_zero c ≡ true
       → old ++ terms b i (drop i vs) ≡ all → old ++ terms b (i + 1) (drop (i + 1) vs) ≡ all
   zero_skipped d old vs all b i c h e z inv =
       ap (λ t. old ++ t) (sym (ap (terms b i) (drop_more vs i d h ∙ ap (λ k. k ∷ drop (i + 1) vs) (sym e))
-        ∙ ap (λ t. cond t (terms b (i + 1) (drop (i + 1) vs)) (next_text b i (is_one c) (own c) ++ terms true (i + 1) (drop (i + 1) vs))) z))
+      ∙ ap (λ t. cond t (terms b (i + 1) (drop (i + 1) vs)) (next_text b i (is_one c) (own c) ++ terms true (i + 1) (drop (i + 1) vs))) z))
       ∙ inv
 
   -- past the last coefficient nothing is left, or "0" where no term came
