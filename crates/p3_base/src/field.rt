@@ -1,5 +1,8 @@
-ghost use Rattle.std.specs.Prelude.{◌≡◌, ◌≢◌, ◌↔◌, ℕ, IsTrue, MatchOption, Some, Decides, List};
+ghost use Rattle.std.specs.Prelude.{◌≡◌, ◌≢◌, ◌↔◌, ℕ, IsTrue, IsSome, IfSome, MatchOption, Option, Some, Decides, List, length};
 ghost use Rattle.p3_theory.specs.Ring.{Ops, Invertible, IsInverse};
+ghost use Rattle.p3_theory.specs.Multiples.{of_nat};
+ghost use Rattle.p3_theory.specs.PairedLists.{zip_with};
+ghost use Rattle.p3_theory.specs.BitLength.{IsBitLength};
 ghost use Rattle.p3_theory.specs.Residues.{AreResidues};
 
 use crate::integers::{Quotient, QuotientMap};
@@ -7,12 +10,34 @@ use crate::ring::PrimeCharacteristicRing;
 use std::fmt::Display;
 use std::ops::{Div, DivAssign};
 
+/// The bit length of a number.
+#[inline]
+fn bit_length(n: u128) -> usize
+    ensures { IsBitLength n result }
+{
+    (128 - n.leading_zeros()) as usize
+}
+
 /// A ring in which zero is not one, and whose units are found. Upstream's `Field`. What has no
 /// inverse need not be zero: residues modulo a composite number and reducible extensions have
 /// these laws too, and `try_inverse` is exact there.
 pub trait Field: PrimeCharacteristicRing + Eq + Display + Div<Output = Self> + DivAssign {
     /// The text that `Display` writes.
     ghost text: { Self → List ℕ };
+
+    /// How many values there are, where that is below `2^128` and given.
+    ghost size: { Option ℕ };
+
+    /// The element that `generator` answers.
+    ghost generator: { Self };
+
+    /// Whether a program gains where it evaluates many expressions over the type side by side.
+    /// Upstream's constant: no contract speaks of it.
+    const BENEFITS_FROM_LOCKSTEP_EVALUATION: bool;
+
+    /// A chosen element, for a field one that generates its units. No law says that it does.
+    fn generator() -> Self
+        ensures { result ≡ generator };
 
     /// Whether the value is zero.
     #[inline]
@@ -43,6 +68,30 @@ pub trait Field: PrimeCharacteristicRing + Eq + Display + Div<Output = Self> + D
         self.try_inverse().unwrap()
     }
 
+    /// The image of the index: one, taken as many times as `i` says.
+    #[inline]
+    fn interpolation_node(i: usize) -> Self
+        ensures { result ≡ of_nat Self.ops i }
+    {
+        Self::from_usize(i)
+    }
+
+    /// Adds each entry of the second slice to that of the first at its place. The slices have one
+    /// length.
+    #[inline]
+    fn add_slices(slice_1: &mut [Self], slice_2: &[Self])
+        requires { length slice_1.old ≡ length slice_2.now }
+        ensures { slice_1.new ≡ zip_with Self.ops.add slice_1.old slice_2.now }
+    {
+        for i in 0..slice_1.len() {
+            slice_1[i] += slice_2[i];
+        }
+    }
+
+    /// How many values there are, and `None` where that is `2^128` or more, or not given.
+    fn order() -> Option<u128>
+        ensures { result ≡ size };
+
     ghost zero_is_not_one: { Self.ops.zero ≢ Self.ops.one };
 
     /// Equality is that of values.
@@ -60,6 +109,18 @@ pub trait Field: PrimeCharacteristicRing + Eq + Display + Div<Output = Self> + D
 
     /// `Display` writes exactly the text.
     ghost shows: { (x : Self) → Self.output x ≡ Some (text x) };
+
+    /// The bit length of the order, which is given.
+    #[inline]
+    final fn bits() -> usize
+        requires { IsSome size }
+        ensures { IfSome size (λ order. IsBitLength order result) }
+    {
+        match Self::order() {
+            Some(order) => bit_length(order),
+            None => unreachable!(),
+        }
+    }
 }
 
 /// The residues modulo an order, which need not be prime. Upstream's `PrimeField`.
@@ -82,6 +143,9 @@ pub trait PrimeField: Field
     fn as_canonical_biguint(&self) -> u128
         ensures { result ≡ Self.canon self.now };
 
+    /// There are as many values as the order says.
+    ghost size_is_order: { Self.size ≡ Some Self.order };
+
     /// The canonical values are one to one onto the numbers below the order, and the operations
     /// are those of residues.
     ghost residues: { AreResidues Self.order Self.ops Self.canon };
@@ -94,11 +158,21 @@ pub trait PrimeField64: PrimeField {
 
     ghost ORDER_U64: { ℕ };
 
+    /// What `to_unique_u64` answers.
+    ghost unique_u64: { Self → ℕ };
+
     /// The canonical value.
     fn as_canonical_u64(&self) -> u64
         ensures { result ≡ Self.canon self.now };
 
+    /// A number that no other value has. It may be the word that is stored, and is cheap.
+    fn to_unique_u64(&self) -> u64
+        ensures { result ≡ unique_u64 self.now };
+
     ghost order_u64: { ORDER_U64 ≡ Self.order };
+
+    /// Values with one number are one value.
+    ghost same_unique_u64: { (x y : Self) → unique_u64 x ≡ unique_u64 y → x ≡ y };
 }
 
 /// A prime field whose order fits 32 bits. Upstream's `PrimeField32`.
@@ -108,9 +182,19 @@ pub trait PrimeField32: PrimeField64 {
 
     ghost ORDER_U32: { ℕ };
 
+    /// What `to_unique_u32` answers.
+    ghost unique_u32: { Self → ℕ };
+
     /// The canonical value.
     fn as_canonical_u32(&self) -> u32
         ensures { result ≡ Self.canon self.now };
 
+    /// A number that no other value has. It may be the word that is stored, and is cheap.
+    fn to_unique_u32(&self) -> u32
+        ensures { result ≡ unique_u32 self.now };
+
     ghost order_u32: { ORDER_U32 ≡ Self.order };
+
+    /// Values with one number are one value.
+    ghost same_unique_u32: { (x y : Self) → unique_u32 x ≡ unique_u32 y → x ≡ y };
 }

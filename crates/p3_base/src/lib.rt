@@ -2,7 +2,19 @@
 #![tactic(auto)]
 
 pub mod accumulate;
+pub mod array_chunks;
+pub mod basis;
+pub mod columnwise;
+pub mod const_power;
 pub mod dup;
 pub mod field;
 pub mod integers;
+pub mod linear_combination;
+pub mod packed_traits;
+pub mod parallel_streams;
+pub mod powers;
 pub mod ring;
+pub mod sampling;
+pub mod sponge;
+pub mod streams;
+pub mod sums;

@@ -1,0 +1,53 @@
+ghost use Rattle.std.specs.Prelude.{◌≡◌, ◌≤◌, ◌<◌, ◌+◌, ◌++◌, List, length, drop, OnSome};
+ghost use Rattle.std.specs.Bool.{MatchBool};
+ghost use Rattle.std.specs.Iterator.{IsFinite, size, count_unless};
+ghost use Rattle.p3_theory.specs.Streams.{GathersGroup, TakesUpTo};
+
+/// The next N items of `source` as an array, filled up by copies of `padding` where the items end
+/// first, and `None` where no item is left. `is_over` keeps whether the source has ended; from then
+/// on it is not asked again. The step of upstream's `iter_array_chunks_padded`.
+#[inline]
+pub fn next_chunk_padded<I: Iterator<Item = T>, T: Copy, const N: usize>(
+    source: &mut I,
+    is_over: &mut bool,
+    padding: T,
+) -> Option<[T; N]>
+    requires { MatchBool is_over.old (Unit {0}) (I.can_next source.old × IsFinite (I.remaining source.old)) }
+    ensures gathers { GathersGroup I.next_gives N padding is_over.old source.old result is_over.new source.new }
+    ensures ready { OnSome result (MatchBool is_over.new (Unit {0}) (I.can_next source.new × IsFinite (I.remaining source.new))) }
+    ensures nearer { OnSome result (size (count_unless is_over.new (I.remaining source.new))
+        < size (count_unless is_over.old (I.remaining source.old))) }
+    ensures finite { IsFinite (count_unless is_over.new (I.remaining source.new)) }
+{
+    if *is_over {
+        return None;
+    }
+    let mut chunk = [padding; N];
+    let filled = take_up_to(source, &mut chunk);
+    *is_over = filled < N;
+    if filled == 0 {
+        return None;
+    }
+    Some(chunk)
+}
+
+/// Writes the next items of `source` over the front of `places`, until all are written or the items
+/// end. The answer is how many were written. This project's own.
+pub fn take_up_to<I: Iterator<Item = T>, T: Copy>(source: &mut I, places: &mut [T]) -> usize
+    requires can { I.can_next source.old }
+    requires ends { IsFinite (I.remaining source.old) }
+    ensures taken { (xs : List T) × (length xs ≡ result) × (places.new ≡ xs ++ drop result places.old)
+        × TakesUpTo I.next_gives (length places.old) source.old xs source.new }
+    ensures ready { result ≡ length places.old → I.can_next source.new }
+    ensures finite { IsFinite (I.remaining source.new) }
+    ensures enough { result ≤ size (I.remaining source.old) }
+    ensures nearer { result ≡ length places.old → size (I.remaining source.new) + result ≤ size (I.remaining source.old) }
+{
+    for i in 0..places.len() {
+        let Some(item) = source.next() else {
+            return i;
+        };
+        places[i] = item;
+    }
+    places.len()
+}

@@ -1,0 +1,310 @@
+ghost use Rattle.std.specs.Prelude.{◌≡◌, ◌<◌, ◌*◌, ℕ, List, length, slice_index, OnSome, IfNone};
+ghost use Rattle.std.specs.Option.{ForSome};
+ghost use Rattle.std.specs.Iterator.Adapters.{inner_items_left};
+ghost use Rattle.std.specs.Iterator.{IsFinite, UpTo, size};
+ghost use Rattle.p3_theory.specs.Streams.{YieldsExactly, byte_stream, word_stream, InHand};
+
+use crate::array_chunks::next_chunk_padded;
+
+/// A value that is written as a fixed number of bytes, for hashing. Upstream's
+/// `RawDataSerializable`.
+pub trait RawDataSerializable: Sized {
+    /// How many bytes a value makes.
+    const NUM_BYTES: usize;
+
+    ghost NUM_BYTES: { ℕ };
+
+    /// The bytes of a value, in order.
+    ghost bytes: { Self → List ℕ };
+
+    /// The iterator over the bytes of one value.
+    type Bytes: Iterator<Item = u8> + Drop;
+
+    /// The bytes of the value.
+    fn into_bytes(self) -> Self::Bytes
+        ensures can { Self.Bytes.can_next result }
+        ensures count { UpTo (Self.Bytes.remaining result) NUM_BYTES }
+        ensures all { YieldsExactly Self.Bytes.next_gives result (bytes self) };
+
+    /// Byte i of the value. This project's own: the parallel streams read rows of values by it.
+    #[inline]
+    fn byte_at(self, i: usize) -> u8
+        requires { i < NUM_BYTES }
+        ensures { result ≡ slice_index (bytes self) i }
+    {
+        let mut reader = self.into_bytes();
+        reader.nth(i).unwrap_or(0)
+    }
+
+    /// The bytes of the values, one value after the other.
+    #[inline]
+    final fn into_byte_stream<I: Iterator<Item = Self>>(input: I) -> ByteStream<I, Self::Bytes>
+        requires can { I.can_next input }
+        requires ends { IsFinite (I.remaining input) }
+        ensures can { ⟦<ByteStream<I, Self::Bytes> as Iterator>⟧.can_next result }
+        ensures count { UpTo (⟦<ByteStream<I, Self::Bytes> as Iterator>⟧.remaining result) (NUM_BYTES * size (I.remaining input)) }
+        ensures all { (xs : List Self) → YieldsExactly I.next_gives input xs
+            → YieldsExactly ⟦<ByteStream<I, Self::Bytes> as Iterator>⟧.next_gives result (byte_stream bytes xs) }
+    {
+        ByteStream {
+            source: input,
+            reader: None,
+        }
+    }
+
+    /// The bytes of the values in words of four, the lowest byte first, the last word filled up by
+    /// zeros.
+    #[inline]
+    final fn into_u32_stream<I: Iterator<Item = Self>>(
+        input: I,
+    ) -> U32Stream<ByteStream<I, Self::Bytes>>
+        requires can { I.can_next input }
+        requires ends { IsFinite (I.remaining input) }
+        ensures can { ⟦<U32Stream<ByteStream<I, Self::Bytes>> as Iterator>⟧.can_next result }
+        ensures ends { IsFinite (⟦<U32Stream<ByteStream<I, Self::Bytes>> as Iterator>⟧.remaining result) }
+        ensures all { (xs : List Self) → YieldsExactly I.next_gives input xs
+            → YieldsExactly ⟦<U32Stream<ByteStream<I, Self::Bytes>> as Iterator>⟧.next_gives result (word_stream 4 (byte_stream bytes xs)) }
+    {
+        U32Stream {
+            source: Self::into_byte_stream(input),
+            is_over: false,
+        }
+    }
+
+    /// The bytes of the values in words of eight, the lowest byte first, the last word filled up by
+    /// zeros.
+    #[inline]
+    final fn into_u64_stream<I: Iterator<Item = Self>>(
+        input: I,
+    ) -> U64Stream<ByteStream<I, Self::Bytes>>
+        requires can { I.can_next input }
+        requires ends { IsFinite (I.remaining input) }
+        ensures can { ⟦<U64Stream<ByteStream<I, Self::Bytes>> as Iterator>⟧.can_next result }
+        ensures ends { IsFinite (⟦<U64Stream<ByteStream<I, Self::Bytes>> as Iterator>⟧.remaining result) }
+        ensures all { (xs : List Self) → YieldsExactly I.next_gives input xs
+            → YieldsExactly ⟦<U64Stream<ByteStream<I, Self::Bytes>> as Iterator>⟧.next_gives result (word_stream 8 (byte_stream bytes xs)) }
+    {
+        U64Stream {
+            source: Self::into_byte_stream(input),
+            is_over: false,
+        }
+    }
+
+    ghost num_bytes: { (x : Self) → length (bytes x) ≡ NUM_BYTES };
+}
+
+/// The bytes of the items of an iterator, one item after the other.
+#[derive(Clone, Debug, Drop)]
+pub struct ByteStream<I, B> {
+    source: I,
+    reader: Option<B>,
+}
+
+impl<F: RawDataSerializable, I: Iterator<Item = F>> Iterator for ByteStream<I, F::Bytes> {
+    ghost use Rattle.std.specs.Prelude.{◌+◌};
+    ghost use Rattle.std.specs.Iterator.{count_map};
+    ghost use Rattle.p3_theory.specs.Streams.{TakesByte};
+
+    type Item = u8;
+
+    ghost can_next = { λ s. I.can_next s.source × IsFinite (I.remaining s.source) × ForSome s.reader (λ j. F.Bytes.can_next j × IsFinite (F.Bytes.remaining j)) };
+
+    ghost next_gives = { λ s r t. TakesByte I.next_gives F.Bytes.next_gives F.bytes s.source s.reader r t.source t.reader };
+
+    ghost remaining = { λ s. count_map (λ n. inner_items_left F.Bytes.remaining s.reader + F.NUM_BYTES * n) (I.remaining s.source) };
+
+    #[inline]
+    fn next(&mut self) -> Option<u8> {
+        loop {
+            if let Some(byte) = next_in_hand(&mut self.reader) {
+                return Some(byte);
+            }
+            let Some(x) = self.source.next() else {
+                return None;
+            };
+            self.reader = Some(x.into_bytes());
+        }
+    }
+
+    /// No bounds are kept.
+    #[inline]
+    fn size_hint(&self) -> (usize, Option<usize>) {
+        (0, None)
+    }
+}
+
+/// The bytes of an iterator in words of four, the lowest byte first.
+#[derive(Clone, Debug, Drop)]
+pub struct U32Stream<I> {
+    source: I,
+    is_over: bool,
+}
+
+impl<I: Iterator<Item = u8>> Iterator for U32Stream<I> {
+    ghost use Rattle.std.specs.Bool.{MatchBool};
+    ghost use Rattle.std.specs.Iterator.{count_unless};
+    ghost use Rattle.p3_theory.specs.Streams.{GathersGroup, ReadsGroup, little_endian};
+
+    type Item = u32;
+
+    ghost can_next = { λ s. MatchBool s.is_over (Unit {0}) (I.can_next s.source × IsFinite (I.remaining s.source)) };
+
+    ghost next_gives = { ReadsGroup little_endian (λ s r t. GathersGroup I.next_gives 4 0 s.is_over s.source r t.is_over t.source) };
+
+    ghost remaining = { λ s. count_unless s.is_over (I.remaining s.source) };
+
+    #[inline]
+    fn next(&mut self) -> Option<u32> {
+        match next_chunk_padded(&mut self.source, &mut self.is_over, 0) {
+            None => None,
+            Some(chunk) => Some(u32::from_le_bytes(chunk)),
+        }
+    }
+
+    /// No more words come than bytes.
+    #[inline]
+    fn size_hint(&self) -> (usize, Option<usize>) {
+        if self.is_over {
+            (0, Some(0))
+        } else {
+            (0, self.source.size_hint().1)
+        }
+    }
+}
+
+/// The bytes of an iterator in words of eight, the lowest byte first.
+#[derive(Clone, Debug, Drop)]
+pub struct U64Stream<I> {
+    source: I,
+    is_over: bool,
+}
+
+impl<I: Iterator<Item = u8>> Iterator for U64Stream<I> {
+    ghost use Rattle.std.specs.Bool.{MatchBool};
+    ghost use Rattle.std.specs.Iterator.{count_unless};
+    ghost use Rattle.p3_theory.specs.Streams.{GathersGroup, ReadsGroup, little_endian};
+
+    type Item = u64;
+
+    ghost can_next = { λ s. MatchBool s.is_over (Unit {0}) (I.can_next s.source × IsFinite (I.remaining s.source)) };
+
+    ghost next_gives = { ReadsGroup little_endian (λ s r t. GathersGroup I.next_gives 8 0 s.is_over s.source r t.is_over t.source) };
+
+    ghost remaining = { λ s. count_unless s.is_over (I.remaining s.source) };
+
+    #[inline]
+    fn next(&mut self) -> Option<u64> {
+        match next_chunk_padded(&mut self.source, &mut self.is_over, 0) {
+            None => None,
+            Some(chunk) => Some(u64::from_le_bytes(chunk)),
+        }
+    }
+
+    /// No more words come than bytes.
+    #[inline]
+    fn size_hint(&self) -> (usize, Option<usize>) {
+        if self.is_over {
+            (0, Some(0))
+        } else {
+            (0, self.source.size_hint().1)
+        }
+    }
+}
+
+/// The next byte of the reader in hand. One that has ended is dropped, so that it is not asked
+/// again. This project's own.
+#[inline]
+fn next_in_hand<B: Iterator<Item = u8> + Drop>(reader: &mut Option<B>) -> Option<u8>
+    requires { ForSome reader.old (λ j. B.can_next j × IsFinite (B.remaining j)) }
+    ensures steps { InHand B.next_gives reader.old result reader.new }
+    ensures ready { OnSome result (ForSome reader.new (λ j. B.can_next j × IsFinite (B.remaining j))) }
+    ensures nearer { OnSome result (inner_items_left B.remaining reader.new < inner_items_left B.remaining reader.old) }
+    ensures ended { IfNone result (reader.new ≡ None) }
+{
+    match reader {
+        Some(bytes) => match bytes.next() {
+            Some(byte) => Some(byte),
+            None => {
+                *reader = None;
+                None
+            }
+        },
+        None => None,
+    }
+}
+
+#[cfg(test)]
+mod tests {
+    use super::*;
+    use crate::parallel_streams::{
+        into_parallel_byte_streams, into_parallel_u32_streams, into_parallel_u64_streams,
+    };
+    use std::array;
+    use std::test::Fail;
+
+    /// A 32-bit word, which is written with its lowest byte first.
+    #[derive(Clone, Copy)]
+    struct Word(u32);
+
+    impl RawDataSerializable for Word {
+        ghost use Rattle.std.specs.Int.{w32, to_le_bytes};
+        ghost use Rattle.std.specs.Prelude.{refl};
+
+        const NUM_BYTES: usize = 4;
+
+        ghost NUM_BYTES = { 4 };
+
+        ghost bytes = { λ x. to_le_bytes w32 x.0 };
+
+        type Bytes = array::IntoIter<u8, 4>;
+
+        ghost num_bytes = { λ x. refl };
+
+        fn into_bytes(self) -> array::IntoIter<u8, 4> {
+            self.0.to_le_bytes().into_iter()
+        }
+    }
+
+    #[test]
+    fn joins_words(rt: HostRuntime) -> Result<(), Fail> {
+        let words = [Word(1), Word(2), Word(3)];
+        let bytes: Vec<u8> = Word::into_byte_stream(words.iter().copied()).collect(rt.alloc())?;
+        assert_eq!(rt;
+            bytes.as_slice(),
+            [1, 0, 0, 0, 2, 0, 0, 0, 3, 0, 0, 0].as_slice()
+        );
+        let narrow: Vec<u32> = Word::into_u32_stream(words.iter().copied()).collect(rt.alloc())?;
+        assert_eq!(rt; narrow.as_slice(), [1, 2, 3].as_slice());
+        let wide: Vec<u64> = Word::into_u64_stream(words.iter().copied()).collect(rt.alloc())?;
+        assert_eq!(rt; wide.as_slice(), [8589934593, 3].as_slice());
+        Ok(())
+    }
+
+    #[test]
+    fn joins_rows(rt: HostRuntime) -> Result<(), Fail> {
+        let rows = [[Word(1), Word(5)], [Word(2), Word(6)]];
+        let bytes: Vec<[u8; 2]> = into_parallel_byte_streams::<Word, 2, _>(
+            rows.iter().copied(),
+        ).collect(rt.alloc())?;
+        let side_by_side = [
+            [1, 5],
+            [0, 0],
+            [0, 0],
+            [0, 0],
+            [2, 6],
+            [0, 0],
+            [0, 0],
+            [0, 0],
+        ];
+        assert_eq!(rt; bytes.as_slice(), side_by_side.as_slice());
+        let narrow: Vec<[u32; 2]> = into_parallel_u32_streams::<Word, 2, _>(
+            rows.iter().copied(),
+        ).collect(rt.alloc())?;
+        assert_eq!(rt; narrow.as_slice(), [[1, 5], [2, 6]].as_slice());
+        let wide: Vec<[u64; 2]> = into_parallel_u64_streams::<Word, 2, _>(
+            rows.iter().copied(),
+        ).collect(rt.alloc())?;
+        assert_eq!(rt; wide.as_slice(), [[8589934593, 25769803781]].as_slice());
+        Ok(())
+    }
+}
