@@ -1,0 +1,2 @@
+pub mod PairedRuns
+pub mod BackwardRuns

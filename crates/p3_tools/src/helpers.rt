@@ -1,0 +1,188 @@
+//! Helpers on slices, arrays and words, and sums over iterators.
+
+ghost use Rattle.std.specs.Prelude.{◌≡◌, ◌+◌, ◌-◌, ◌*◌, ◌/◌, ◌%◌, ◌^◌, ◌<◌, ◌∷◌, length, map, replicate};
+ghost use Rattle.std.specs.Iterator.{IsFinite, count_min};
+ghost use Rattle.p3_base.specs.BoundedSequence.{terms};
+ghost use Rattle.p3_theory.specs.DotProduct.{dot};
+ghost use Rattle.p3_theory.specs.GeometricSequence.{geometric_sequence};
+ghost use Rattle.p3_theory.specs.HornerFold.{eval_from};
+ghost use Rattle.p3_theory.specs.Powers.{eval};
+ghost use Rattle.p3_theory.specs.PairedLists.{zip_with};
+ghost use Rattle.p3_tools.specs.BackwardRuns.{RunsBackward, IfYieldsBackward};
+ghost use Rattle.p3_tools.specs.PairedRuns.{RunInPairs, IfBothYield};
+
+use p3_base::field::Field;
+use p3_base::powers::BoundedPowers;
+use p3_base::ring::{Algebra, PrimeCharacteristicRing};
+
+/// The powers of `generator` from one on, `order` of them. Where the order is that of the generator
+/// they are the subgroup that it generates. Upstream's `cyclic_subgroup_known_order`.
+#[inline]
+pub fn cyclic_subgroup_known_order<F: Field>(generator: F, order: usize) -> BoundedPowers<F>
+    ensures { terms F.ops result ≡ geometric_sequence F.ops generator F.ops.one order }
+{
+    generator.powers().take(order)
+}
+
+/// `shift` times the powers of `generator` from one on, `order` of them. Where the order is that
+/// of the generator they are a coset of the subgroup that it generates. Upstream's
+/// `cyclic_subgroup_coset_known_order`.
+#[inline]
+pub fn cyclic_subgroup_coset_known_order<F: Field>(
+    generator: F,
+    shift: F,
+    order: usize,
+) -> BoundedPowers<F>
+    ensures { terms F.ops result ≡ geometric_sequence F.ops generator shift order }
+{
+    generator.shifted_powers(shift).take(order)
+}
+
+/// Multiplies each entry of the slice by `s`. Upstream's `scale_slice_in_place_single_core`.
+#[inline]
+pub fn scale_slice_in_place_single_core<F: Field>(slice: &mut [F], s: F)
+    ensures { slice.new ≡ map (λ x. F.ops.mul x s) slice.old }
+{
+    for x in slice.iter_mut() {
+        *x *= s;
+    }
+}
+
+/// The same, under upstream's name for the work of several threads: a plain loop in order.
+#[inline]
+pub fn par_scale_slice_in_place<F: Field>(slice: &mut [F], s: F)
+    ensures { slice.new ≡ map (λ x. F.ops.mul x s) slice.old }
+{
+    scale_slice_in_place_single_core(slice, s);
+}
+
+/// Adds to each entry of the slice the entry of `other` at its place times `s`. Upstream's
+/// `add_scaled_slice_in_place`.
+#[inline]
+pub fn add_scaled_slice_in_place<F: Field>(slice: &mut [F], other: &[F], s: F)
+    requires { length slice.old ≡ length other.now }
+    ensures { slice.new ≡ zip_with (λ x y. F.ops.add x (F.ops.mul y s)) slice.old other.now }
+{
+    for i in 0..slice.len() {
+        slice[i] += other[i] * s;
+    }
+}
+
+/// The same, under upstream's name for the work of several threads: a plain loop in order.
+#[inline]
+pub fn par_add_scaled_slice_in_place<F: Field>(slice: &mut [F], other: &[F], s: F)
+    requires { length slice.old ≡ length other.now }
+    ensures { slice.new ≡ zip_with (λ x y. F.ops.add x (F.ops.mul y s)) slice.old other.now }
+{
+    add_scaled_slice_in_place(slice, other, s);
+}
+
+/// The array `[x, 0, .., 0]` of length D. Upstream's `field_to_array`.
+#[inline]
+#[must_use]
+pub fn field_to_array<R: PrimeCharacteristicRing, const D: usize>(x: R) -> [R; D]
+    requires { 0 < D }
+    ensures { result ≡ x ∷ replicate (D - 1) R.ops.zero }
+{
+    let mut arr = [R::zero(); D];
+    arr[0] = x;
+    arr
+}
+
+/// Half of `x` rounded down, and `(P + 1) / 2` more where `x` is odd: the half of `x` modulo P,
+/// where P is odd and `x` is below P. Upstream's `halve_u32`.
+#[inline]
+#[must_use]
+pub fn halve_u32<const P: u32>(x: u32) -> u32
+    requires { P < 2 ^ 32 - 1 }
+    ensures value { result ≡ x / 2 + (x % 2) * ((P + 1) / 2) }
+    ensures half { P % 2 ≡ 1 → x < P → (result + result) % P ≡ x }
+    ensures canonical { P % 2 ≡ 1 → x < P → result < P }
+{
+    let shift: u32 = (P + 1) / 2;
+    let half = x / 2;
+    if x % 2 == 0 { half } else { half + shift }
+}
+
+/// The same on words of 64 bits. Upstream's `halve_u64`.
+#[inline]
+#[must_use]
+pub fn halve_u64<const P: u64>(x: u64) -> u64
+    requires { P < 2 ^ 64 - 1 }
+    ensures value { result ≡ x / 2 + (x % 2) * ((P + 1) / 2) }
+    ensures half { P % 2 ≡ 1 → x < P → (result + result) % P ≡ x }
+    ensures canonical { P % 2 ≡ 1 → x < P → result < P }
+{
+    let shift: u64 = (P + 1) / 2;
+    let half = x / 2;
+    if x % 2 == 0 { half } else { half + shift }
+}
+
+/// The sum of the products of the items at equal places, as far as the shorter of the iterators
+/// goes; the other one may be endless. The right items lie in a ring and the left ones in an
+/// algebra over it, which may be the ring itself. Upstream's `dot_product`.
+#[inline]
+#[must_use]
+pub fn dot_product<S, LI, RI>(li: LI, ri: RI) -> S
+where
+    LI: Iterator<Item = S>,
+    RI: Iterator,
+    RI::Item: PrimeCharacteristicRing,
+    S: Algebra<RI::Item>,
+    requires left { LI.can_next li }
+    requires right { RI.can_next ri }
+    requires ends { IsFinite (count_min (LI.remaining li) (RI.remaining ri)) }
+    ensures runs { RunInPairs LI.next_gives RI.next_gives li ri (λ xs ys. result ≡ dot S.ops xs (map S.embed ys)) }
+    ensures lists { IfBothYield LI.next_gives RI.next_gives li ri (λ xs ys. result ≡ dot S.ops xs (map S.embed ys)) }
+{
+    li.zip(ri).map(|(l, r)| l * r).sum()
+}
+
+/// Polynomials at a point by Horner's rule, for every iterator over coefficients, the lowest
+/// first, that also goes backwards. Upstream's `HornerIter`.
+pub trait HornerIter: DoubleEndedIterator + Sized
+where
+    Self::Item: PrimeCharacteristicRing,
+{
+    /// The sum of the item at place i times `x` to the power i, and `acc` times `x` to the power
+    /// of the length. Upstream's `horner_acc`.
+    #[inline]
+    fn horner_acc<Acc, X>(self, acc: Acc, x: X) -> Acc
+    where
+        X: PrimeCharacteristicRing,
+        Acc: Algebra<X> + Algebra<Self::Item>,
+        requires can { Self.can_next_back self }
+        requires ends { IsFinite (Self.remaining self) }
+        ensures runs { let point = ⟦<Acc as Algebra<X>>⟧.embed x in
+            RunsBackward Self.next_back_gives self (λ cs. result ≡ eval_from Self.Item.ops Acc.ops ⟦<Acc as Algebra<Self::Item>>⟧.embed acc point cs) }
+        ensures lists { let point = ⟦<Acc as Algebra<X>>⟧.embed x in
+            IfYieldsBackward Self.next_back_gives self (λ cs. result ≡ eval_from Self.Item.ops Acc.ops ⟦<Acc as Algebra<Self::Item>>⟧.embed acc point cs) }
+    {
+        let mut sum = acc;
+        for coefficient in self.rev() {
+            sum = sum * x + coefficient;
+        }
+        sum
+    }
+
+    /// The sum of the item at place i times `x` to the power i. Upstream's `horner`.
+    #[inline]
+    fn horner<Acc, X>(self, x: X) -> Acc
+    where
+        X: PrimeCharacteristicRing,
+        Acc: Algebra<X> + Algebra<Self::Item>,
+        requires can { Self.can_next_back self }
+        requires ends { IsFinite (Self.remaining self) }
+        ensures runs { let point = ⟦<Acc as Algebra<X>>⟧.embed x in
+            RunsBackward Self.next_back_gives self (λ cs. result ≡ eval Self.Item.ops Acc.ops ⟦<Acc as Algebra<Self::Item>>⟧.embed point cs) }
+        ensures lists { let point = ⟦<Acc as Algebra<X>>⟧.embed x in
+            IfYieldsBackward Self.next_back_gives self (λ cs. result ≡ eval Self.Item.ops Acc.ops ⟦<Acc as Algebra<Self::Item>>⟧.embed point cs) }
+    {
+        self.horner_acc(Acc::zero(), x)
+    }
+}
+
+impl<I: DoubleEndedIterator> HornerIter for I
+where
+    I::Item: PrimeCharacteristicRing,
+{}
