@@ -6,6 +6,8 @@ use Rattle.p3_theory.specs.Polynomial as P
 use Rattle.p3_theory.specs.Powers.{power, scale_powers}
 use Rattle.p3_theory.specs.FrobeniusTable.{frobenius_list, IsFrobeniusTable, unknown}
 use Rattle.p3_theory.specs.FrobeniusNorm as T
+use Rattle.p3_theory.specs.Frobenius.{iterate}
+use Rattle.p3_theory.specs.ScaledPowers.{scale-power, length-scale_powers, iterate-same}
 
 -- c * X
 abbrev pub binomial_image : {A : Type 0} → Ops A → ℕ → A → A → List A
@@ -33,3 +35,11 @@ module _ {A : Type 0} (R : Ring A) where
   scaled_is_frobenius D h f w c e root a l =
       let P' : List A → Type 0 = λ g. scale_powers R.ops D c a ≡ frobenius_list R.ops D g (binomial_image R.ops D w c) a in
       subst P' (sym e) (places D h w c root a l)
+
+  -- one factor a place too, where the map is taken n times
+  pub scaled_is_repeated : (D : ℕ) → 2 ≤ D → (f : List A) (w c : A) → f ≡ P.binomial R.ops D w → power R.ops c D ≡ R.one → (n : ℕ) (a : List A) → length a ≡ D
+      → scale_powers R.ops D (power R.ops c n) a ≡ iterate (frobenius_list R.ops D f (binomial_image R.ops D w c)) n a
+  scaled_is_repeated D h f w c e root n a l =
+      scale-power R D c n a l
+      ∙ iterate-same (λ b. length b ≡ D) (scale_powers R.ops D c) (frobenius_list R.ops D f (binomial_image R.ops D w c)) (λ b k. length-scale_powers R D c b)
+      (scaled_is_frobenius D h f w c e root) n a l

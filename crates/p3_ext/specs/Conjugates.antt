@@ -1,5 +1,5 @@
 -- The Frobenius map of values, their norm, and which of them have an inverse.
-use Rattle.std.specs.Prelude.{◌≡◌, ◌<◌, ◌≤◌, ◌-◌, ◌+◌, ◌≢◌, ℕ, List, length, refl, get_or}
+use Rattle.std.specs.Prelude.{◌≡◌, ◌↔◌, ◌<◌, ◌≤◌, ◌-◌, ◌+◌, ◌≢◌, ℕ, List, length, refl, get_or}
 use Rattle.std.proofs.Common.{ap, ap₂, arith, ◌∙◌, sym, zero, suc, subst}
 use Rattle.std.proofs.lemmas.List.{get_or_default}
 use Rattle.p3_theory.specs.Ring.{Ops, Ring, RingLaws, Invertible}
@@ -8,7 +8,9 @@ use Rattle.p3_theory.specs.Polynomial.{IsMonic}
 use Rattle.p3_theory.specs.QuotientRing.{Ext, extension, Ext-path}
 use Rattle.p3_theory.specs.Frobenius.{orbit_product, iterate}
 use Rattle.p3_theory.specs.Substitution as Sg
-use Rattle.p3_theory.specs.FrobeniusTable.{frobenius_list, IsFrobeniusTable}
+use Rattle.p3_theory.specs.FrobeniusTable.{frobenius_list, orbit_list, IsFrobeniusTable}
+use Rattle.p3_theory.specs.Operators.{product_list}
+use Rattle.p3_theory.specs.OrbitLists.{product-orbit_list}
 use Rattle.p3_theory.specs.FrobeniusTableLaws.{length-frobenius_list}
 use Rattle.p3_theory.specs.FrobeniusNorm as T
 use Rattle.p3_theory.specs.Iteration.{orbit}
@@ -115,9 +117,24 @@ module _ (F S : Type 0) {A : Type 0} (R : Ring A) where
       absent_by rest whole n er ew en none y e =
           let v = norm_decides D h m L x (y, e) in none v.0 (ap (λ k. R.mul k v.0) (norm-by rest whole n er ew en) ∙ v.1)
 
+      -- the norm has an inverse exactly where the value has one
+      pub norm_exact : Invertible {A = ExtField F D S A} (ext_ops R.ops f) x ↔ Invertible R.ops (norm_of R.ops f phi x)
+      norm_exact = (
+        norm_decides D h m L x,
+        λ (i, is). ((ext_ops R.ops f).mul (conjugate_product R.ops f phi x) (constant R.ops i), found i is),
+      )
+
+      -- the orbit's product is the norm, embedded
+      pub orbit_is_norm : product_list (ext_ops R.ops f) (orbit_list (frobenius_map R.ops f phi) D x) ≡ constant R.ops (norm_of R.ops f phi x)
+      orbit_is_norm =
+          let first : D ≡ suc (D - 1) = omega (arith, h) in
+          product-orbit_list (frobenius_map R.ops f phi) (ext_ops R.ops f) D x
+          ∙ ap (λ n. orbit (ext_ops R.ops f) (frobenius_map R.ops f phi) n x) first
+          ∙ norm_is D h m L x
+
 -- the Frobenius map taken D times is the identity
 module _ {F S A : Type 0} {D : ℕ} (o : Ops A) (f phi : List A) where
-  iterate-value : (n : ℕ) (x : ExtField F D S A) → (iterate (frobenius_map o f phi) n x).value ≡ iterate (frobenius_list o D f phi) n x.value
+  pub iterate-value : (n : ℕ) (x : ExtField F D S A) → (iterate (frobenius_map o f phi) n x).value ≡ iterate (frobenius_list o D f phi) n x.value
   iterate-value zero x = refl
   iterate-value (suc n) x = iterate-value n (frobenius_map o f phi x)
 

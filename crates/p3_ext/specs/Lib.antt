@@ -3,3 +3,8 @@ pub mod Bases
 pub mod Conjugates
 pub mod BinomialShape
 pub mod Remainders
+pub mod FixedFormulas
+pub mod Entries
+pub mod FrobeniusLaws
+pub mod Doublings
+pub mod Orders

@@ -1,18 +1,25 @@
 ghost use Rattle.std.specs.Prelude.{◌≡◌, ◌≤◌, ◌<◌, ℕ, List, length, replicate};
 ghost use Rattle.p3_theory.specs.Ring.{Ops, Invertible, subtract};
-ghost use Rattle.p3_theory.specs.Polynomial.{IsMonic, quotient_mul, binomial};
+ghost use Rattle.p3_theory.specs.Polynomial.{IsMonic, quotient_mul, quotient_add, embed, binomial};
 ghost use Rattle.p3_theory.specs.Powers.{power};
-ghost use Rattle.p3_theory.specs.FrobeniusTable.{frobenius_list, IsFrobeniusTable};
+ghost use Rattle.p3_theory.specs.FrobeniusTable.{frobenius_list, orbit_list, IsFrobeniusTable};
+ghost use Rattle.p3_theory.specs.Frobenius.{iterate};
+ghost use Rattle.p3_ext.specs.Entries.{entrywise_difference};
 
 pub mod binomial_extension;
+mod binomial_products;
 pub mod display;
 pub mod ext_field;
 pub mod frobenius;
+mod has_frobenius;
+mod vectors;
 
 use ext_field::ExtField;
+pub use has_frobenius::HasFrobenius;
 use p3_base::field::Field;
 use p3_base::ring::{Algebra, PrimeCharacteristicRing};
 use std::marker::PhantomData;
+use vectors::{add_entries, scale_entries, sub_entries};
 
 mod sealed {
     pub trait Sealed {}
@@ -68,6 +75,38 @@ pub trait ExtensionAlgebra<F: Copy, const D: usize, S: ExtensionShape>: PrimeCha
         requires zeroed { res.old ≡ replicate D Self.ops.zero }
         ensures { res.new ≡ quotient_mul Self.ops D modulus a.now a.now };
 
+    /// The sum entry by entry.
+    #[inline]
+    fn ext_add(a: &[Self], b: &[Self], res: &mut [Self])
+        requires left { length a.now ≡ D }
+        requires right { length b.now ≡ D }
+        requires room { length res.old ≡ D }
+        ensures { res.new ≡ quotient_add Self.ops D a.now b.now }
+    {
+        add_entries::<Self, Self>(a, b, res);
+    }
+
+    /// The difference entry by entry.
+    #[inline]
+    fn ext_sub(a: &[Self], b: &[Self], res: &mut [Self])
+        requires left { length a.now ≡ D }
+        requires right { length b.now ≡ D }
+        requires room { length res.old ≡ D }
+        ensures { res.new ≡ entrywise_difference Self.ops D a.now b.now }
+    {
+        sub_entries::<Self, Self>(a, b, res);
+    }
+
+    /// The product with an embedded element: each entry times `rhs`.
+    #[inline]
+    fn ext_base_mul(lhs: &[Self], rhs: Self, res: &mut [Self])
+        requires left { length lhs.now ≡ D }
+        requires room { length res.old ≡ D }
+        ensures { res.new ≡ quotient_mul Self.ops D modulus lhs.now (embed Self.ops D rhs) }
+    {
+        scale_entries(lhs, rhs, res);
+    }
+
     /// The degree is two or more.
     ghost at_least_two: { 2 ≤ D };
 
@@ -85,6 +124,9 @@ pub trait BinomiallyExtendable<const D: usize>: Field + ExtensionAlgebra<Self, D
 
     ghost dth_root: { Self };
 
+    /// The coefficients of the chosen element.
+    ghost ext_generator: { ℕ → Self };
+
     /// The W of `X^D = W`.
     fn w() -> Self
         ensures { result ≡ w };
@@ -96,7 +138,8 @@ pub trait BinomiallyExtendable<const D: usize>: Field + ExtensionAlgebra<Self, D
 
     /// The coefficient at `X^i` of a chosen element whose order has the full power of two.
     fn ext_generator(i: usize) -> Self
-        requires { i < D };
+        requires { i < D }
+        ensures { result ≡ ext_generator i };
 
     ghost by_w: { Self.modulus ≡ binomial Self.ops D w };
 
@@ -112,11 +155,35 @@ pub trait FrobeniusExtendable<const D: usize, S: ExtensionShape>: Field
     /// The image of X.
     ghost image: { List Self };
 
+    /// The coefficients of the chosen element of the extension.
+    ghost generator_coefficients: { ℕ → Self };
+
     /// The coefficients of the image of a value.
     fn apply_frobenius(a: &[Self], res: &mut [Self])
         requires input { length a.now ≡ D }
         requires room { length res.old ≡ D }
         ensures { res.new ≡ frobenius_list Self.ops D Self.modulus image a.now };
+
+    /// The coefficients of what the map taken `count` times makes of a value.
+    #[inline]
+    fn apply_repeated_frobenius(a: &[Self], count: usize, res: &mut [Self])
+        requires input { length a.now ≡ D }
+        requires room { length res.old ≡ D }
+        ensures { res.new ≡ iterate (frobenius_list Self.ops D Self.modulus image) count a.now }
+    {
+        let mut value = [Self::zero(); D];
+        value.copy_from_slice(a);
+        for i in 0..count {
+            Self::apply_frobenius(&value, res);
+            value.copy_from_slice(res);
+        }
+        res.copy_from_slice(&value);
+    }
+
+    /// The coefficient at `X^i` of the chosen element, which `generator` of the extension answers.
+    fn generator_coefficient(i: usize) -> Self
+        requires { i < D }
+        ensures { result ≡ generator_coefficients i };
 
     /// The map keeps sums and products, fixes the base, is the identity after D times, and leaves
     /// only base values unchanged.

@@ -1,32 +1,16 @@
-ghost use Rattle.std.specs.Prelude.{◌≡◌, ◌≢◌, ◌≤◌, ◌<◌, ◌+◌, ◌-◌, ℕ, List, length, get_or, replicate};
+ghost use Rattle.std.specs.Prelude.{◌≡◌, ◌≤◌, length, replicate, IsTrue, IsFalse};
 ghost use Rattle.p3_theory.specs.Polynomial.{quotient_mul, quotient_add, binomial};
-ghost use Rattle.p3_theory.specs.ConvolutionSums.{first_sum};
 ghost use Rattle.p3_theory.specs.Powers.{scale_powers};
+ghost use Rattle.p3_ext.specs.FixedFormulas.{has_fixed_formula};
 
+pub use super::binomial_products::{octic_mul, quartic_mul, quintic_mul};
+use super::binomial_products::{
+    compute_coefficient, cubic_mul, cubic_square, octic_square, quadratic_mul, quadratic_square,
+    quartic_square, quintic_square,
+};
 use super::{Binomial, BinomiallyExtendable, ExtensionAlgebra, FrobeniusExtendable};
 use p3_base::field::Field;
 use p3_base::ring::{Algebra, PrimeCharacteristicRing};
-
-/// The sum of `a[skip + i] * b[top - i]` for i below `count`.
-#[inline]
-fn products_at<A: PrimeCharacteristicRing>(
-    a: &[A],
-    b: &[A],
-    skip: usize,
-    top: usize,
-    count: usize,
-) -> A
-    requires first { skip + count ≤ length a.now }
-    requires second { top < length b.now }
-    requires places { count ≤ top + 1 }
-    ensures { result ≡ first_sum A.ops.zero A.ops.add count (λ i. A.ops.mul (get_or a.now (skip + i) A.ops.zero) (get_or b.now (top - i) A.ops.zero)) }
-{
-    let mut sum = A::zero();
-    for i in 0..count {
-        sum = sum + a[skip + i] * b[top - i];
-    }
-    sum
-}
 
 /// The product modulo `X^D - W` for any D, added to what `res` holds.
 #[inline]
@@ -43,40 +27,23 @@ fn general_mul<F: PrimeCharacteristicRing, A: Algebra<F>, const D: usize>(
     ensures { res.new ≡ quotient_add A.ops D res.old (quotient_mul A.ops D (binomial A.ops D (A.embed w)) a.now b.now) }
 {
     for k in 0..D {
-        let low = products_at(a, b, 0, k, k + 1);
-        let high = products_at(a, b, k + 1, D - 1, D - 1 - k);
-        let folded = high * w;
-        let place = low + folded;
+        let place = compute_coefficient(a, b, D, k, w);
         let sum = res[k] + place;
         res[k] = sum;
     }
 }
 
-/// The product of two linear polynomials modulo `X^2 - W`.
+/// Whether products of this degree have a formula of their own.
 #[inline]
-fn quadratic_mul<F: PrimeCharacteristicRing, A: Algebra<F>>(a: &[A], b: &[A], res: &mut [A], w: F)
-    requires left { length a.now ≡ 2 }
-    requires right { length b.now ≡ 2 }
-    requires room { length res.old ≡ 2 }
-    ensures { res.new ≡ quotient_mul A.ops 2 (binomial A.ops 2 (A.embed w)) a.now b.now }
+fn is_fixed(degree: usize) -> bool
+    ensures { result ≡ has_fixed_formula degree }
 {
-    let a0 = a[0];
-    let a1 = a[1];
-    let b0 = b[0];
-    let b1 = b[1];
-    let b1_w = b1 * w;
-    let constant = a0 * b0;
-    let folded = a1 * b1_w;
-    let outer = a0 * b1;
-    let inner = a1 * b0;
-    let low = constant + folded;
-    let high = outer + inner;
-    res[0] = low;
-    res[1] = high;
+    degree == 2 || degree == 3 || degree == 4 || degree == 5 || degree == 8
 }
 
-/// The product of two lists of D coefficients modulo `X^D - W`. At D = 2 `res` becomes the
-/// product; at every other D the product is added to what `res` holds. Upstream's `binomial_mul`.
+/// The product of two lists of D coefficients modulo `X^D - W`. At degrees 2, 3, 4, 5 and 8 `res`
+/// becomes the product, by a fixed formula; at every other degree the product is added to what
+/// `res` holds. Upstream's `binomial_mul`.
 #[inline]
 pub fn binomial_mul<F: PrimeCharacteristicRing, A: Algebra<F>, const D: usize>(
     a: &[A],
@@ -88,11 +55,15 @@ pub fn binomial_mul<F: PrimeCharacteristicRing, A: Algebra<F>, const D: usize>(
     requires left { length a.now ≡ D }
     requires right { length b.now ≡ D }
     requires room { length res.old ≡ D }
-    ensures becomes { D ≡ 2 → res.new ≡ quotient_mul A.ops D (binomial A.ops D (A.embed w)) a.now b.now }
-    ensures added { D ≢ 2 → res.new ≡ quotient_add A.ops D res.old (quotient_mul A.ops D (binomial A.ops D (A.embed w)) a.now b.now) }
+    ensures becomes { IsTrue (has_fixed_formula D) → res.new ≡ quotient_mul A.ops D (binomial A.ops D (A.embed w)) a.now b.now }
+    ensures added { IsFalse (has_fixed_formula D) → res.new ≡ quotient_add A.ops D res.old (quotient_mul A.ops D (binomial A.ops D (A.embed w)) a.now b.now) }
 {
     match D {
         2 => quadratic_mul(a, b, res, w),
+        3 => cubic_mul(a, b, res, w),
+        4 => quartic_mul(a, b, res, w),
+        5 => quintic_mul(a, b, res, w),
+        8 => octic_mul(a, b, res, w),
         _ => general_mul::<F, A, D>(a, b, res, w),
     }
 }
@@ -108,19 +79,26 @@ pub fn binomial_square<F: PrimeCharacteristicRing, A: Algebra<F>, const D: usize
     requires degree { 1 ≤ D }
     requires input { length a.now ≡ D }
     requires room { length res.old ≡ D }
-    ensures becomes { D ≡ 2 → res.new ≡ quotient_mul A.ops D (binomial A.ops D (A.embed w)) a.now a.now }
-    ensures added { D ≢ 2 → res.new ≡ quotient_add A.ops D res.old (quotient_mul A.ops D (binomial A.ops D (A.embed w)) a.now a.now) }
+    ensures becomes { IsTrue (has_fixed_formula D) → res.new ≡ quotient_mul A.ops D (binomial A.ops D (A.embed w)) a.now a.now }
+    ensures added { IsFalse (has_fixed_formula D) → res.new ≡ quotient_add A.ops D res.old (quotient_mul A.ops D (binomial A.ops D (A.embed w)) a.now a.now) }
 {
     match D {
-        2 => {
-            let pair = [a[0], a[1]];
-            let square = A::quadratic_extension_square(&pair, w);
-            let low = square[0];
-            let high = square[1];
-            res[0] = low;
-            res[1] = high;
-        }
+        2 => quadratic_square(a, res, w),
+        3 => cubic_square(a, res, w),
+        4 => quartic_square(a, res, w),
+        5 => quintic_square(a, res, w),
+        8 => octic_square(a, res, w),
         _ => general_mul::<F, A, D>(a, a, res, w),
+    }
+}
+
+/// Writes zero at each place.
+#[inline]
+fn clear<A: PrimeCharacteristicRing>(res: &mut [A])
+    ensures { res.new ≡ replicate (length res.old) A.ops.zero }
+{
+    for i in 0..res.len() {
+        res[i] = A::zero();
     }
 }
 
@@ -139,22 +117,22 @@ pub fn binomial_product<F: PrimeCharacteristicRing, A: Algebra<F>, const D: usiz
     requires room { length res.old ≡ D }
     ensures { res.new ≡ quotient_mul A.ops D (binomial A.ops D (A.embed w)) a.now b.now }
 {
-    for i in 0..D {
-        res[i] = A::zero();
+    if is_fixed(D) {
+        binomial_mul::<F, A, D>(a, b, res, w);
+    } else {
+        clear(res);
+        binomial_mul::<F, A, D>(a, b, res, w);
     }
-    binomial_mul::<F, A, D>(a, b, res, w);
 }
 
-/// Each coefficient times its power of `dth_root`: the Frobenius map of `X^D = W`.
+/// Each coefficient times its power of `root`.
 #[inline]
-fn scale_by_powers<F: BinomiallyExtendable<D>, const D: usize>(a: &[F], res: &mut [F])
-    requires input { length a.now ≡ D }
-    requires room { length res.old ≡ D }
-    ensures { res.new ≡ scale_powers F.ops D F.BinomiallyExtendable.dth_root a.now }
+fn scale_by_powers<F: PrimeCharacteristicRing>(a: &[F], root: F, res: &mut [F])
+    requires { length res.old ≡ length a.now }
+    ensures { res.new ≡ scale_powers F.ops (length a.now) root a.now }
 {
-    let root = F::dth_root();
     let mut power = F::one();
-    for i in 0..D {
+    for i in 0..res.len() {
         let scaled = a[i] * power;
         res[i] = scaled;
         power = power * root;
@@ -167,9 +145,22 @@ impl<F: BinomiallyExtendable<D>, const D: usize> FrobeniusExtendable<D, Binomial
 
     ghost image = { binomial_image F.ops D F.BinomiallyExtendable.w F.BinomiallyExtendable.dth_root };
 
+    ghost generator_coefficients = { F.BinomiallyExtendable.ext_generator };
+
     #[inline]
     fn apply_frobenius(a: &[F], res: &mut [F]) {
-        scale_by_powers::<F, D>(a, res);
+        scale_by_powers(a, F::dth_root(), res);
+    }
+
+    #[inline]
+    fn apply_repeated_frobenius(a: &[F], count: usize, res: &mut [F]) {
+        let root = F::dth_root().exp_u64(count as u64);
+        scale_by_powers(a, root, res);
+    }
+
+    #[inline]
+    fn generator_coefficient(i: usize) -> F {
+        F::ext_generator(i)
     }
 
     ghost frobenius_laws = { binomial_frobenius (ring_of F.ring) D F.at_least_two F.modulus F.BinomiallyExtendable.w F.BinomiallyExtendable.dth_root F.by_w F.root_power F.apart };

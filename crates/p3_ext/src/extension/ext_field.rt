@@ -238,10 +238,37 @@ impl<
     }
 
     #[inline]
+    fn halve(&self) -> Self {
+        let mut value = self.value;
+        for i in 0..D {
+            value[i] = self.value[i].halve();
+        }
+        Self::new(value)
+    }
+
+    #[inline]
     fn square(&self) -> Self {
         let mut res = [A::zero(); D];
         A::ext_square(&self.value, &mut res);
         Self::new(res)
+    }
+
+    #[inline]
+    fn mul_2exp_u64(&self, exponent: u64) -> Self {
+        let mut value = self.value;
+        for i in 0..D {
+            value[i] = self.value[i].mul_2exp_u64(exponent);
+        }
+        Self::new(value)
+    }
+
+    #[inline]
+    fn div_2exp_u64(&self, exponent: u64) -> Self {
+        let mut value = self.value;
+        for i in 0..D {
+            value[i] = self.value[i].div_2exp_u64(exponent);
+        }
+        Self::new(value)
     }
 
     ghost ring = { ext_laws (ring_of A.ring) D A.at_least_two A.modulus A.monic };

@@ -13,7 +13,7 @@ use std::ops::{Div, DivAssign};
 impl<F: FrobeniusExtendable<D, S>, const D: usize, S: ExtensionShape> ExtField<F, D, S, F> {
     /// The Frobenius map: X becomes its image.
     #[inline]
-    fn frobenius_image(&self) -> Self
+    pub(super) fn frobenius_image(&self) -> Self
         ensures { result ≡ frobenius_map F.ops F.modulus F.image self.now }
     {
         let mut value = self.value;
@@ -37,7 +37,7 @@ impl<F: FrobeniusExtendable<D, S>, const D: usize, S: ExtensionShape> ExtField<F
 
     /// An inverse, by the norm: the value times its conjugates lies in the base.
     #[inline]
-    fn inverse_by_norm(&self) -> Option<Self>
+    pub(super) fn inverse_by_norm(&self) -> Option<Self>
         ensures { MatchOption result ((y : _) → (ext_ops F.ops F.modulus).mul self.now y ≢ (ext_ops F.ops F.modulus).one) (λ y. IsInverse (ext_ops F.ops F.modulus) self.now y) }
     {
         let rest = self.conjugates();
@@ -83,13 +83,41 @@ impl<F: FrobeniusExtendable<D, S>, const D: usize, S: ExtensionShape> Field
     for ExtField<F, D, S, F> {
     ghost use Rattle.std.specs.Prelude.{refl};
     ghost use Rattle.p3_theory.specs.Text.{polynomial_text};
-    ghost use Rattle.p3_ext.specs.Values.{constants_apart, decides_equality};
+    ghost use Rattle.p3_theory.specs.Polynomial.{tabulate};
+    ghost use Rattle.p3_theory.specs.Coefficients.{length-tabulate};
+    ghost use Rattle.p3_ext.specs.Values.{value_of, constants_apart, decides_equality};
+    ghost use Rattle.p3_ext.specs.Orders.{extension_size};
 
     ghost text = { λ x. polynomial_text (λ c. F.eq c F.ops.zero) (λ c. F.eq c F.ops.one) F.text x.value };
+
+    ghost size = { extension_size F.size D };
+
+    ghost generator = { value_of (tabulate D F.generator_coefficients) (length-tabulate D F.generator_coefficients) };
+
+    const BENEFITS_FROM_LOCKSTEP_EVALUATION: bool = false;
+
+    #[inline]
+    fn generator() -> Self {
+        let mut value = [F::zero(); D];
+        for i in 0..D {
+            value[i] = F::generator_coefficient(i);
+        }
+        ExtField::<F, D, S, F>::new(value)
+    }
 
     #[inline]
     fn try_inverse(&self) -> Option<Self> {
         self.inverse_by_norm()
+    }
+
+    #[inline]
+    fn order() -> Option<u128> {
+        let base = F::order()?;
+        let mut order: u128 = 1;
+        for _ in 0..D {
+            order = order.checked_mul(base)?;
+        }
+        Some(order)
     }
 
     ghost zero_is_not_one = { constants_apart F.ops D F.at_least_two F.zero_is_not_one };

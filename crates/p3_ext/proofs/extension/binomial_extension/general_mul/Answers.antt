@@ -1,4 +1,4 @@
-use Rattle.std.proofs.Common.{ap, ap₂, ◌∙◌, get_or, arith}
+use Rattle.std.proofs.Common.{ap₂, ◌∙◌, get_or, arith}
 use Rattle.std.proofs.lemmas.List.{get_or_default}
 use Rattle.p3_theory.specs.Ring.{ring_of}
 use Rattle.p3_theory.specs.ProductPlaces.{product_by_places, product_place, place_more}
@@ -13,9 +13,7 @@ loop-k-preserved g c =
     v.0 c.loop-k-test.true v.1 v.2
     (m.adds.answer _ _ _ c.add-sum.ensures
     ∙ ap₂ o.add (c.index-res-k.is ∙ get_or_default c.loop-k.res c.loop-k.k c.index-res-k.result o.zero (omega (arith, v.0, c.loop-k-test.true)) ∙ v.2 c.loop-k.k (omega arith))
-    (m.adds.answer _ _ _ c.add-place.ensures
-    ∙ ap₂ o.add c.products_at-low.ensures
-    (g.met.A.Algebra.mixed_muls.answer _ _ _ c.mul-folded.ensures ∙ ap (λ z. o.mul z (g.A.Algebra.embed c.args.w)) c.products_at-high.ensures)))
+    c.compute_coefficient-place.ensures)
 
 pub returns : goal.returns
 returns g c =

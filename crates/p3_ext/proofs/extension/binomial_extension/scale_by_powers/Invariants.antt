@@ -5,7 +5,6 @@ use Rattle.p3_ext.proofs.extension.binomial_extension.scale_by_powers.Given as g
 abbrev pub invariant-loop-i : goal.invariant-loop-i
 invariant-loop-i g l =
     let o = g.F.PrimeCharacteristicRing.ops in
-    let root = g.F.BinomiallyExtendable.dth_root in
-    (length l.res ≡ g.row.D)
-    × (l.power ≡ power o root l.i)
-    × ((k : ℕ) → k < l.i → get_or l.res k o.zero ≡ o.mul (power o root k) (get_or l.fn.a k o.zero))
+    (length l.res ≡ length l.fn.a)
+    × (l.power ≡ power o l.root l.i)
+    × ((k : ℕ) → k < l.i → get_or l.res k o.zero ≡ o.mul (power o l.root k) (get_or l.fn.a k o.zero))

@@ -1,12 +1,15 @@
-use Rattle.std.proofs.Common.{◌∙◌}
+use Rattle.std.proofs.Common.{ap₂, ◌∙◌}
 use Rattle.p3_theory.specs.Ring.{ring_of}
+use Rattle.p3_theory.specs.Powers.{scale_powers}
 use Rattle.p3_ext.specs.BinomialShape.{scaled_is_frobenius}
 use Rattle.p3_ext.proofs.extension.binomial_extension.AnyFrobeniusExtendableBinomial.apply_frobenius.Goals as goal
 
 pub returns : goal.returns
 returns g c =
+    let o = g.F.PrimeCharacteristicRing.ops in
     let b = g.F.BinomiallyExtendable in
     let m = g.met.F.BinomiallyExtendable in
     c.scale_by_powers.ensures
+    ∙ ap₂ (λ n r. scale_powers o n r c.args.a.now) c.requires.input c.dth_root.ensures
     ∙ scaled_is_frobenius (ring_of g.met.F.PrimeCharacteristicRing.ring) g.row.D g.met.F.ExtensionAlgebra.at_least_two g.F.ExtensionAlgebra.modulus b.w b.dth_root
     m.by_w m.root_power c.args.a.now c.requires.input

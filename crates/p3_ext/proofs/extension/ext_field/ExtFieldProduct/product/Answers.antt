@@ -14,7 +14,6 @@ returns g c =
         ran.0,
         λ _. ran.1,
         product_from_one (ext_laws (ring_of g.met.A.PrimeCharacteristicRing.ring) g.row.D m.at_least_two f m.monic) _
-            (λ x y r h. same_value r ((ext_ops o f).mul x y) (m.ext_products _ _ _ h)) c.one-start.result
-            c.one-start.ensures ran.0 c.product_from.result ran.2,
+            (λ x y r h. same_value r ((ext_ops o f).mul x y) (m.ext_products _ _ _ h)) c.one-start.result c.one-start.ensures ran.0 c.product_from.result ran.2,
       );
     }

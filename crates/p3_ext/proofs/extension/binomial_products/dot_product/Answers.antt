@@ -1,0 +1,20 @@
+use Rattle.std.proofs.Common.{arith, ap, ◌∙◌}
+use Rattle.p3_theory.specs.DotProduct.{dot-begin, dot-step, dot-end}
+use Rattle.p3_ext.proofs.extension.binomial_products.dot_product.Goals as goal
+
+pub loop-i-init : goal.loop-i-init
+loop-i-init g c =
+    let m = g.met.A.PrimeCharacteristicRing in
+    dot-begin m.ring c.args.u.now c.args.v.now c.index-u-0.result c.index-v-0.result c.mul-sum.result (omega arith) c.requires.lengths c.index-u-0.is c.index-v-0.is
+    (m.muls.answer _ _ _ c.mul-sum.ensures)
+
+pub loop-i-preserved : goal.loop-i-preserved
+loop-i-preserved g c =
+    let o = g.A.PrimeCharacteristicRing.ops in
+    let m = g.met.A.PrimeCharacteristicRing in
+    dot-step m.ring c.args.u.now c.args.v.now c.loop-i.i c.index-u-i.result c.index-v-i.result c.loop-i.sum c.add-sum.result _ (omega arith) (omega arith)
+    c.index-u-i.is c.index-v-i.is (m.adds.answer _ _ _ c.add-sum.ensures ∙ ap (o.add c.loop-i.sum) (m.muls.answer _ _ _ c.mul-product.ensures)) c.loop-i.invariant
+
+pub returns : goal.returns
+returns g c =
+    dot-end g.met.A.PrimeCharacteristicRing.ring c.args.u.now c.args.v.now c.loop-i.i c.loop-i.sum _ (omega arith) c.loop-i.invariant

@@ -1,0 +1,14 @@
+use Rattle.std.proofs.Common.{◌≡◌, ◌∙◌, arith, subst}
+use Rattle.p3_theory.specs.Polynomial.{tabulate}
+use Rattle.p3_theory.specs.Coefficients.{length-tabulate}
+use Rattle.p3_theory.specs.TabulatedPlaces.{HoldsBelow, holds-all}
+use Rattle.p3_ext.specs.Values.{value_of, same_value}
+use Rattle.p3_ext.proofs.extension.frobenius.ExtFieldField.generator.Goals as goal
+
+pub returns : goal.returns
+returns g c =
+    let s = g.F.FrobeniusExtendable.generator_coefficients in
+    let o = g.F.PrimeCharacteristicRing.ops in
+    let all : c.loop-i.i ≡ g.row.D = omega arith in
+    let held = subst (HoldsBelow s o.zero c.loop-i.value) all c.loop-i.invariant.1 in
+    same_value c.new.result (value_of (tabulate g.row.D s) (length-tabulate g.row.D s)) (c.new.ensures ∙ holds-all s o.zero c.loop-i.value g.row.D c.loop-i.invariant.0 held)

@@ -1,0 +1,5 @@
+-- The degrees whose products modulo X^D - W have a formula of their own.
+use Rattle.std.specs.Prelude.{ℕ, Bool, ◌||◌, ◌==◌}
+
+abbrev pub has_fixed_formula : ℕ → Bool
+has_fixed_formula D = (D == 2) || ((D == 3) || ((D == 4) || ((D == 5) || (D == 8))))

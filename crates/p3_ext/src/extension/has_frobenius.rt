@@ -1,0 +1,105 @@
+ghost use Rattle.std.specs.Prelude.{◌≡◌, ℕ, IfOk};
+ghost use Rattle.p3_theory.specs.Ring.{Ops, Invertible, IsInverse};
+ghost use Rattle.p3_theory.specs.Frobenius.{iterate, IsFrobenius};
+ghost use Rattle.p3_theory.specs.FrobeniusTable.{orbit_list};
+
+use super::ext_field::ExtField;
+use super::{ExtensionShape, FrobeniusExtendable};
+use p3_base::field::Field;
+use p3_base::ring::PrimeCharacteristicRing;
+use std::alloc::{AllocError, Allocator, Global};
+
+/// An extension of F with its Frobenius map. Upstream's `HasFrobenius`.
+pub trait HasFrobenius<F: Field>: Field {
+    /// An element of the base as a value.
+    ghost base: { F → Self };
+
+    /// The degree of the extension.
+    ghost degree: { ℕ };
+
+    /// The Frobenius map.
+    ghost frobenius: { Self → Self };
+
+    /// The Frobenius map of the value.
+    fn frobenius(&self) -> Self
+        ensures { result ≡ frobenius self.now };
+
+    /// The Frobenius map, taken `count` times.
+    fn repeated_frobenius(&self, count: usize) -> Self
+        ensures { result ≡ iterate frobenius count self.now };
+
+    /// The inverse, or zero where there is none.
+    fn pseudo_inv(&self) -> Self
+        ensures inverse { Invertible Self.ops self.now → IsInverse Self.ops self.now result }
+        ensures none { ¬ (Invertible Self.ops self.now) → result ≡ Self.ops.zero };
+
+    /// The value and its images under the map, taken up to degree less one times; `Err` where the
+    /// memory for them is refused.
+    #[inline]
+    fn galois_orbit(self, alloc: Global) -> Result<Vec<Self>, AllocError>
+        ensures { IfOk result (λ orbit. orbit.items ≡ orbit_list frobenius degree self) }
+    {
+        self.galois_orbit_in(alloc)
+    }
+
+    /// `galois_orbit` in any allocator. It asks for memory once. This project's own.
+    fn galois_orbit_in<A: Allocator + Copy>(self, alloc: A) -> Result<Vec<Self, A>, AllocError>
+        ensures { IfOk result (λ orbit. orbit.items ≡ orbit_list frobenius degree self) };
+
+    /// The map keeps sums.
+    ghost keeps_sums: { (x y : Self) → frobenius (Self.ops.add x y) ≡ Self.ops.add (frobenius x) (frobenius y) };
+
+    /// The map keeps products, fixes the base, is the identity after degree times, and leaves only
+    /// base values unchanged.
+    ghost frobenius_laws: { IsFrobenius F.ops Self.ops base degree frobenius };
+}
+
+impl<F: FrobeniusExtendable<D, S>, const D: usize, S: ExtensionShape> HasFrobenius<F>
+    for ExtField<F, D, S, F> {
+    ghost use Rattle.p3_theory.specs.Ring.{ring_of};
+    ghost use Rattle.p3_ext.specs.Values.{constant};
+    ghost use Rattle.p3_ext.specs.Conjugates.{frobenius_map};
+    ghost use Rattle.p3_ext.specs.FrobeniusLaws.{map_keeps_sums, map_is_frobenius};
+
+    ghost base = { constant F.ops };
+
+    ghost degree = { D };
+
+    ghost frobenius = { frobenius_map F.ops F.modulus F.image };
+
+    #[inline]
+    fn frobenius(&self) -> Self {
+        self.frobenius_image()
+    }
+
+    #[inline]
+    fn repeated_frobenius(&self, count: usize) -> Self {
+        let turns = count % D;
+        let mut value = self.value;
+        F::apply_repeated_frobenius(&self.value, turns, &mut value);
+        ExtField::<F, D, S, F>::new(value)
+    }
+
+    #[inline]
+    fn pseudo_inv(&self) -> Self {
+        match self.inverse_by_norm() {
+            Some(y) => y,
+            None => <Self as PrimeCharacteristicRing>::zero(),
+        }
+    }
+
+    #[inline]
+    fn galois_orbit_in<A: Allocator + Copy>(self, alloc: A) -> Result<Vec<Self, A>, AllocError> {
+        let mut orbit = Vec::with_capacity(alloc, D)?;
+        let mut image = self;
+        for _ in 0..D {
+            orbit.push(image)?;
+            image = image.frobenius_image();
+        }
+        Ok(orbit)
+    }
+
+    ghost keeps_sums = { map_keeps_sums F.ops F.modulus F.image F.frobenius_laws };
+
+    ghost frobenius_laws = { map_is_frobenius F.ops F.modulus F.image F.frobenius_laws };
+}
