@@ -1,9 +1,32 @@
 //! The front of the library: every public name at its place, over the crates that hold them.
 #![tactic(auto)]
 
+pub use p3_base::basis::{AlgebraIdentity, BasedVectorSpace};
+pub use p3_base::columnwise::{
+    batched_columnwise_dot_product, generic_batched_columnwise_dot_product,
+};
+pub use p3_base::const_power::exp_const_u64;
 pub use p3_base::dup::Dup;
 pub use p3_base::field::{Field, PrimeField, PrimeField32, PrimeField64};
 pub use p3_base::integers as integers;
+pub use p3_base::linear_combination::{
+    chunked_linear_combination, chunked_mixed_dot_product, dispatch_chunked_mixed_dot_product,
+};
+pub use p3_base::packed_traits::Packable;
+pub use p3_base::parallel_streams::{
+    into_parallel_byte_streams, into_parallel_u32_streams, into_parallel_u64_streams,
+};
+pub use p3_base::powers::{BoundedPowers, Powers};
 pub use p3_base::ring::{Algebra, PrimeCharacteristicRing};
+pub use p3_base::sampling::UniformSamplingField;
+pub use p3_base::sponge::SpongePaddingValue;
+pub use p3_base::streams::{ByteStream, RawDataSerializable, U32Stream, U64Stream};
+pub use p3_base::sums::sum_array;
 pub use p3_ext::extension as extension;
 pub use p3_runs::steps as steps;
+pub use p3_tools::exponentiation as exponentiation;
+pub use p3_tools::helpers::{
+    HornerIter, add_scaled_slice_in_place, cyclic_subgroup_coset_known_order,
+    cyclic_subgroup_known_order, dot_product, field_to_array, halve_u32, halve_u64,
+    par_add_scaled_slice_in_place, par_scale_slice_in_place, scale_slice_in_place_single_core,
+};
