@@ -2,4 +2,5 @@ pub mod Forms
 pub mod Elements
 pub mod ResidueMultiples
 pub mod Inverses
+pub mod Halves
 pub mod GoldilocksElements

@@ -14,11 +14,16 @@ pub trait Form {
     /// The word that stands for a residue.
     ghost word: { ℕ → ℕ };
 
+    ghost GENERATOR: { ℕ };
+
     ghost is_form: { IsForm ORDER canon word };
 
     /// The order: how many residues there are. It is from 2 to 2^31 - 1, so that two words add up
     /// to a word.
     const ORDER: u32;
+
+    /// The residue that the field's `generator` answers.
+    const GENERATOR: u32;
 
     /// The residue that a word stands for.
     fn decode(stored: u32) -> u32
@@ -42,12 +47,17 @@ pub trait Form {
 pub trait Modulus {
     ghost ORDER: { ℕ };
 
+    ghost GENERATOR: { ℕ };
+
     ghost above_one: { 1 < ORDER };
 
     ghost fits: { ORDER < 2 ^ 31 };
 
     /// The order, from 2 to 2^31 - 1.
     const ORDER: u32;
+
+    /// The residue that upstream names as a generator of the units. No clause says that it generates them.
+    const GENERATOR: u32;
 }
 
 /// The form in which each residue of the order of M is its own word.
@@ -62,9 +72,13 @@ impl<M: Modulus> Form for Plain<M> {
 
     ghost word = { λ n. n };
 
+    ghost GENERATOR = { M.GENERATOR };
+
     ghost is_form = { plain M.ORDER M.above_one M.fits };
 
     const ORDER: u32 = M::ORDER;
+
+    const GENERATOR: u32 = M::GENERATOR;
 
     #[inline]
     fn decode(stored: u32) -> u32 {

@@ -7,8 +7,12 @@ use crate::inverse::inverse_modulo;
 use p3_base::accumulate::{product_from, sum_from};
 use p3_field::integers::integer::Integer;
 use p3_field::integers::{Quotient, QuotientMap};
-use p3_field::{Field, PrimeCharacteristicRing, PrimeField, PrimeField64};
+use p3_field::{
+    Field, Packable, PrimeCharacteristicRing, PrimeField, PrimeField64, RawDataSerializable,
+    halve_u64,
+};
 use std::alloc::AllocError;
+use std::array::IntoIter;
 use std::cmp::Ordering;
 use std::fmt;
 use std::hash::{Hash, Hasher};
@@ -367,11 +371,14 @@ impl fmt::Debug for Goldilocks {
 }
 
 impl Quotient for Goldilocks {
-    ghost use Rattle.p3_bench_prime.specs.GoldilocksElements.{canon};
+    ghost use Rattle.p3_theory.specs.Residues.{canon-below};
+    ghost use Rattle.p3_bench_prime.specs.GoldilocksElements.{canon, is};
 
     ghost order = { P };
 
     ghost canon = { canon };
+
+    ghost below = { canon-below is };
 }
 
 impl<Int: Integer> QuotientMap<Int> for Goldilocks {
@@ -420,6 +427,14 @@ impl PrimeCharacteristicRing for Goldilocks {
         f
     }
 
+    /// Half of the word, and half of the order more where the word is odd.
+    #[inline]
+    fn halve(&self) -> Self {
+        Goldilocks {
+            word: halve_u64::<P>(self.word),
+        }
+    }
+
     ghost ring = { residue_laws is };
 
     ghost characteristic = { of_nat-order is };
@@ -443,16 +458,56 @@ impl PrimeCharacteristicRing for Goldilocks {
     ghost products = { record { called = λ _. tt; answer = λ _ _ h. h; whole = λ _. tt } };
 }
 
+impl RawDataSerializable for Goldilocks {
+    ghost use Rattle.std.specs.Prelude.{refl};
+    ghost use Rattle.std.specs.Int.{w64, to_le_bytes};
+    ghost use Rattle.p3_bench_prime.specs.GoldilocksElements.{canon};
+
+    const NUM_BYTES: usize = 8;
+
+    ghost NUM_BYTES = { 8 };
+
+    ghost bytes = { λ x. to_le_bytes w64 (canon x) };
+
+    type Bytes = IntoIter<u8, 8>;
+
+    /// The eight bytes of the canonical value, the lowest first.
+    #[inline]
+    fn into_bytes(self) -> Self::Bytes {
+        self.to_unique_u64().to_le_bytes().into_iter()
+    }
+
+    ghost num_bytes = { λ x. refl };
+}
+
+impl Packable for Goldilocks {}
+
 impl Field for Goldilocks {
     ghost use Rattle.std.specs.Prelude.{refl};
-    ghost use Rattle.p3_bench_prime.specs.GoldilocksElements.{canon, is};
+    ghost use Rattle.p3_bench_prime.specs.GoldilocksElements.{canon, of, is};
     ghost use Rattle.p3_bench_prime.specs.Inverses.{zero_is_not_one, same_where_equal};
 
     ghost text = { λ x. decimal (canon x) };
 
+    ghost size = { Some P };
+
+    ghost generator = { of 7 };
+
+    const BENEFITS_FROM_LOCKSTEP_EVALUATION: bool = false;
+
+    #[inline]
+    fn generator() -> Self {
+        Self::new(7)
+    }
+
     #[inline]
     fn try_inverse(&self) -> Option<Self> {
         self.find_inverse()
+    }
+
+    #[inline]
+    fn order() -> Option<u128> {
+        Some(P as u128)
     }
 
     ghost zero_is_not_one = { zero_is_not_one is };
@@ -471,6 +526,7 @@ impl Field for Goldilocks {
 }
 
 impl PrimeField for Goldilocks {
+    ghost use Rattle.std.specs.Prelude.{refl};
     ghost use Rattle.p3_theory.specs.Residues.{are_residues};
     ghost use Rattle.p3_bench_prime.specs.GoldilocksElements.{is};
 
@@ -479,20 +535,34 @@ impl PrimeField for Goldilocks {
         self.word as u128
     }
 
+    ghost size_is_order = { refl };
+
     ghost residues = { are_residues is };
 }
 
 impl PrimeField64 for Goldilocks {
     ghost use Rattle.std.specs.Prelude.{refl};
+    ghost use Rattle.p3_theory.specs.Residues.{same_canon};
+    ghost use Rattle.p3_bench_prime.specs.GoldilocksElements.{canon, is};
 
     const ORDER_U64: u64 = P;
 
     ghost ORDER_U64 = { P };
+
+    ghost unique_u64 = { canon };
 
     #[inline]
     fn as_canonical_u64(&self) -> u64 {
         self.word
     }
 
+    /// The canonical value.
+    #[inline]
+    fn to_unique_u64(&self) -> u64 {
+        self.as_canonical_u64()
+    }
+
     ghost order_u64 = { refl };
+
+    ghost same_unique_u64 = { same_canon is };
 }

@@ -9,11 +9,15 @@ pub struct KoalaBearModulus;
 impl Modulus for KoalaBearModulus {
     ghost ORDER = { 2130706433 };
 
+    ghost GENERATOR = { 3 };
+
     ghost above_one = { lit< tt };
 
     ghost fits = { lit< tt };
 
     const ORDER: u32 = 2130706433;
+
+    const GENERATOR: u32 = 3;
 }
 
 /// The residues modulo 2^31 - 2^24 + 1. Upstream's `KoalaBear`.

@@ -10,11 +10,15 @@ pub struct M2;
 impl Modulus for M2 {
     ghost ORDER = { 2 };
 
+    ghost GENERATOR = { 1 };
+
     ghost above_one = { lit< tt };
 
     ghost fits = { lit< tt };
 
     const ORDER: u32 = 2;
+
+    const GENERATOR: u32 = 1;
 }
 
 /// The prime field of order 2.
@@ -26,11 +30,15 @@ pub struct M17;
 impl Modulus for M17 {
     ghost ORDER = { 17 };
 
+    ghost GENERATOR = { 3 };
+
     ghost above_one = { lit< tt };
 
     ghost fits = { lit< tt };
 
     const ORDER: u32 = 17;
+
+    const GENERATOR: u32 = 3;
 }
 
 /// The prime field of order 17.
@@ -42,11 +50,15 @@ pub struct M17b;
 impl Modulus for M17b {
     ghost ORDER = { 17 };
 
+    ghost GENERATOR = { 3 };
+
     ghost above_one = { lit< tt };
 
     ghost fits = { lit< tt };
 
     const ORDER: u32 = 17;
+
+    const GENERATOR: u32 = 3;
 }
 
 /// The prime field of order 17 once more, as a type of its own: it can have other extensions.
@@ -58,11 +70,15 @@ pub struct M31;
 impl Modulus for M31 {
     ghost ORDER = { 31 };
 
+    ghost GENERATOR = { 3 };
+
     ghost above_one = { lit< tt };
 
     ghost fits = { lit< tt };
 
     const ORDER: u32 = 31;
+
+    const GENERATOR: u32 = 3;
 }
 
 /// The prime field of order 31.
@@ -74,11 +90,15 @@ pub struct M15;
 impl Modulus for M15 {
     ghost ORDER = { 15 };
 
+    ghost GENERATOR = { 2 };
+
     ghost above_one = { lit< tt };
 
     ghost fits = { lit< tt };
 
     const ORDER: u32 = 15;
+
+    const GENERATOR: u32 = 2;
 }
 
 /// The residues modulo 15. The order is composite, so 3, 5 and their multiples have no inverse.
