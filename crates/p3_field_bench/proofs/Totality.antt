@@ -4,14 +4,15 @@ use Rattle.std.proofs.lemmas.Bool.{cases_eq}
 use Rattle.p3_field_bench.specs.declared.commands.Command.{Command}
 use Rattle.p3_field_bench.specs.declared.commands.Command.TheVariants.{Field, Compute}
 use Rattle.p3_field_bench.specs.declared.commands.Operation.{Operation}
-use Rattle.p3_field_bench.specs.declared.commands.Operation.TheVariants.{Put, Mul, Inv, Show}
+use Rattle.p3_field_bench.specs.declared.commands.Operation.TheVariants.{Put, Binary, Unary, Pow, Inv, Show}
 use Rattle.p3_field_bench.specs.declared.faults.Fault.{Fault}
 use Rattle.p3_field_bench.specs.declared.faults.Fault.TheVariants.{NoInverse, LongLine}
-use Rattle.p3_field_bench.specs.Effects.{State, Outcome, Continues, Faults, At, Inverts, IsInverse, Computes, ComputesAt, Chooses, Commands, Does, May, sets, register_at}
+use Rattle.p3_theory.specs.Powers.{power}
+use Rattle.p3_field_bench.specs.Effects.{State, Outcome, Continues, Faults, At, Inverts, IsInverse, Computes, ComputesAt, Chooses, Commands, Does, May, sets, register_at, binary, unary}
 use Rattle.p3_field_bench.specs.Fields.{FieldSpec, AllBelow, order, dimension, ops}
 use Rattle.p3_field_bench.specs.Lines.{words}
 use Rattle.p3_field_bench.specs.Text.{IsTextFrom, After, fault_line}
-use Rattle.p3_field_bench.specs.Words.{command_of, two_registers, three_registers, one_register}
+use Rattle.p3_field_bench.specs.Words.{command_of, two_registers, three_registers, one_register, registers_and_number}
 
 -- P holds, or it does not
 abbrev Decided : Type 0 → Type 0
@@ -81,7 +82,9 @@ at_some (Err k) P some = (Faults k, refl)
 computes : (operation : Operation) (s : FieldSpec) (regs args : List (List ℕ)) → (o : Outcome) × Computes operation s regs args o
 computes Put s regs [] = (_, refl)
 computes Put s regs (r ∷ cs) = (_, refl)
-computes Mul s regs args = at_some (three_registers args) (λ p o. o ≡ sets s regs p.0 ((ops s).mul (register_at regs p.1) (register_at regs p.2))) (λ p. (_, refl))
+computes (Binary f) s regs args = at_some (three_registers args) _ (λ p. (sets s regs p.0 (binary f (ops s) (register_at regs p.1) (register_at regs p.2)), refl))
+computes (Unary f) s regs args = at_some (two_registers args) _ (λ p. (sets s regs p.0 (unary f (ops s) (register_at regs p.1)), refl))
+computes Pow s regs args = at_some (registers_and_number args) _ (λ p. (sets s regs p.0 (power (ops s) (register_at regs p.1) p.2), refl))
 computes Inv s regs args = at_some (two_registers args) (λ p o. Inverts s regs p.0 (register_at regs p.1) o) (λ p. inverts s regs p.0 (register_at regs p.1))
 computes Show s regs args = at_some (one_register args) _ (λ r. (_, inl refl))
 

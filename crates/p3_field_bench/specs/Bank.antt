@@ -1,14 +1,15 @@
 -- The state that the registers of a bank stand for.
 use Rattle.std.specs.Prelude.{List, [], ◌∷◌, ℕ, map, Option, Some, None}
 use Rattle.p3_field_bench.specs.declared.bank.Bank.{Bank}
-use Rattle.p3_field_bench.specs.declared.bank.Bank.TheVariants.{Empty, F17x2}
+use Rattle.p3_field_bench.specs.declared.bank.Bank.TheVariants.{Empty, F2, F17, F17b, F31, Z15, BabyBear, KoalaBear, Goldilocks, F17x2}
 use Rattle.p3_field_bench.specs.declared.registers.Registers.{Registers}
 use Rattle.p3_field_bench.specs.Effects.{State, at_field, no_field, Outcome, Continues, Faults}
-use Rattle.p3_field_bench.specs.Coefficients.{all_coefficients}
-use Rattle.p3_field_bench.specs.Fields.{FieldSpec, PolynomialsModulo}
+use Rattle.p3_field_bench.specs.Coefficients.{one_coefficient, all_coefficients}
+use Rattle.p3_field_bench.specs.Fields.{FieldSpec, ResiduesModulo, PolynomialsModulo}
 use Rattle.p3_bench_prime.specs.declared.fp.Fp.{Fp}
 use Rattle.p3_bench_prime.specs.declared.form.Form.{Ghosts}
 use Rattle.p3_bench_prime.specs.Elements as Elements
+use Rattle.p3_bench_prime.specs.GoldilocksElements as GoldilocksElements
 use Rattle.p3_field_bench.specs.declared.faults.Fault.TheVariants.{NoField}
 
 -- registers of a type's values, by their coefficients
@@ -22,6 +23,14 @@ canon {form = form} x = Elements.canon form x
 -- one line a name
 abbrev pub state_of : Bank → State
 state_of Empty = no_field
+state_of (F2 regs) = state_at (ResiduesModulo 2) (one_coefficient canon) regs
+state_of (F17 regs) = state_at (ResiduesModulo 17) (one_coefficient canon) regs
+state_of (F17b regs) = state_at (ResiduesModulo 17) (one_coefficient canon) regs
+state_of (F31 regs) = state_at (ResiduesModulo 31) (one_coefficient canon) regs
+state_of (Z15 regs) = state_at (ResiduesModulo 15) (one_coefficient canon) regs
+state_of (BabyBear regs) = state_at (ResiduesModulo 2013265921) (one_coefficient canon) regs
+state_of (KoalaBear regs) = state_at (ResiduesModulo 2130706433) (one_coefficient canon) regs
+state_of (Goldilocks regs) = state_at (ResiduesModulo 18446744069414584321) (one_coefficient GoldilocksElements.canon) regs
 state_of (F17x2 regs) = state_at (PolynomialsModulo 17 2 (14 ∷ 0 ∷ 1 ∷ [])) (all_coefficients canon) regs
 
 abbrev pub opened : Option Bank → Outcome

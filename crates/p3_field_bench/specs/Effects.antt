@@ -3,13 +3,19 @@ use Rattle.std.specs.Prelude.{◌≡◌, ℕ, ◌-◌, ◌⊎◌, ◌==◌, nat_
 use Rattle.p3_field_bench.specs.declared.commands.Command.{Command}
 use Rattle.p3_field_bench.specs.declared.commands.Command.TheVariants.{Field, Compute}
 use Rattle.p3_field_bench.specs.declared.commands.Operation.{Operation}
-use Rattle.p3_field_bench.specs.declared.commands.Operation.TheVariants.{Put, Mul, Inv, Show}
+use Rattle.p3_field_bench.specs.declared.commands.Operation.TheVariants.{Put, Binary, Unary, Pow, Inv, Show}
+use Rattle.p3_field_bench.specs.declared.commands.BinaryOperation.{BinaryOperation}
+use Rattle.p3_field_bench.specs.declared.commands.BinaryOperation.TheVariants.{Add, Sub, Mul}
+use Rattle.p3_field_bench.specs.declared.commands.UnaryOperation.{UnaryOperation}
+use Rattle.p3_field_bench.specs.declared.commands.UnaryOperation.TheVariants.{Neg, Sq, Dbl}
 use Rattle.p3_field_bench.specs.declared.faults.Fault.{Fault}
 use Rattle.p3_field_bench.specs.declared.faults.Fault.TheVariants.{UnknownCommand, WordCount, BadRegister, BadNumber, NoInverse, NoField, NoMemory, LongLine}
+use Rattle.p3_theory.specs.Ring.{Ops, subtract}
+use Rattle.p3_theory.specs.Powers.{power}
 use Rattle.p3_field_bench.specs.Display.{display}
 use Rattle.p3_field_bench.specs.Fields.{FieldSpec, order, dimension, ops, IsValue, field_named}
 use Rattle.p3_field_bench.specs.Lines.{words}
-use Rattle.p3_field_bench.specs.Words.{command_of, number, register, one_register, two_registers, three_registers}
+use Rattle.p3_field_bench.specs.Words.{command_of, number, register, one_register, two_registers, three_registers, registers_and_number}
 
 -- a field or none, and 16 registers, each with the coefficient list of a value
 pub record State : Type 0 where
@@ -39,7 +45,7 @@ register_at regs r = get_or regs r []
 abbrev pub sets : FieldSpec → List (List ℕ) → ℕ → List ℕ → Outcome
 sets s regs r v = Continues (at_field s (slice_set regs r v)) []
 
--- the line's registers are read, or their fault ends the run
+-- the line's arguments are read, or their fault ends the run
 abbrev pub At : {A : Type 0} → Result A Fault → (A → Outcome → Type 0) → Outcome → Type 0
 At (Ok a) P o = P a o
 At (Err k) P o = o ≡ Faults k
@@ -59,6 +65,18 @@ puts s regs None v = Faults BadRegister
 puts s regs (Some r) None = Faults BadNumber
 puts s regs (Some r) (Some v) = sets s regs r v
 
+-- what an operation gives of two values
+abbrev pub binary : {A : Type 0} → BinaryOperation → Ops A → A → A → A
+binary Add O x y = O.add x y
+binary Sub O x y = subtract O x y
+binary Mul O x y = O.mul x y
+
+-- what an operation gives of a value
+abbrev pub unary : {A : Type 0} → UnaryOperation → Ops A → A → A
+unary Neg O x = O.neg x
+unary Sq O x = O.mul x x
+unary Dbl O x = O.add x x
+
 -- y is a value with x * y = 1
 abbrev pub IsInverse : FieldSpec → List ℕ → List ℕ → Type 0
 IsInverse s x y = IsValue s y × ((ops s).mul x y ≡ (ops s).one)
@@ -76,7 +94,9 @@ Shows s regs r o = (o ≡ Continues (at_field s regs) (display (register_at regs
 abbrev pub Computes : Operation → FieldSpec → List (List ℕ) → List (List ℕ) → Outcome → Type 0
 Computes Put s regs [] o = o ≡ Faults WordCount
 Computes Put s regs (r ∷ cs) o = o ≡ (if length cs == dimension s then puts s regs (register r) (numbers_below (order s) cs) else Faults WordCount)
-Computes Mul s regs args o = At (three_registers args) (λ p o. o ≡ sets s regs p.0 ((ops s).mul (register_at regs p.1) (register_at regs p.2))) o
+Computes (Binary f) s regs args o = At (three_registers args) (λ p o. o ≡ sets s regs p.0 (binary f (ops s) (register_at regs p.1) (register_at regs p.2))) o
+Computes (Unary f) s regs args o = At (two_registers args) (λ p o. o ≡ sets s regs p.0 (unary f (ops s) (register_at regs p.1))) o
+Computes Pow s regs args o = At (registers_and_number args) (λ p o. o ≡ sets s regs p.0 (power (ops s) (register_at regs p.1) p.2)) o
 Computes Inv s regs args o = At (two_registers args) (λ p o. Inverts s regs p.0 (register_at regs p.1) o) o
 Computes Show s regs args o = At (one_register args) (Shows s regs) o
 

@@ -47,5 +47,13 @@ IsValue s cs = (length cs ≡ dimension s) × AllBelow (order s) cs
 -- the fields by their names
 abbrev pub field_named : List ℕ → Option FieldSpec
 field_named name = lookup (
-    (codes "f17x2", PolynomialsModulo 17 2 (14 ∷ 0 ∷ 1 ∷ []))
+    (codes "f2", ResiduesModulo 2)
+    ∷ (codes "f17", ResiduesModulo 17)
+    ∷ (codes "f17b", ResiduesModulo 17)
+    ∷ (codes "f31", ResiduesModulo 31)
+    ∷ (codes "z15", ResiduesModulo 15)
+    ∷ (codes "bb", ResiduesModulo 2013265921)
+    ∷ (codes "kb", ResiduesModulo 2130706433)
+    ∷ (codes "gl", ResiduesModulo 18446744069414584321)
+    ∷ (codes "f17x2", PolynomialsModulo 17 2 (14 ∷ 0 ∷ 1 ∷ []))
     ∷ []) name

@@ -3,9 +3,11 @@ use Rattle.std.specs.Prelude.{ℕ, ◌+◌, ◌-◌, ◌*◌, ◌&&◌, nat_lt, 
 use Rattle.std.specs.Str.{bytes_eq}
 use Rattle.p3_field_bench.specs.declared.commands.Command.{Command}
 use Rattle.p3_field_bench.specs.declared.commands.Command.TheVariants.{Field, Compute}
-use Rattle.p3_field_bench.specs.declared.commands.Operation.TheVariants.{Put, Mul, Inv, Show}
+use Rattle.p3_field_bench.specs.declared.commands.Operation.TheVariants.{Put, Binary, Unary, Pow, Inv, Show}
+use Rattle.p3_field_bench.specs.declared.commands.BinaryOperation.TheVariants.{Add, Sub, Mul}
+use Rattle.p3_field_bench.specs.declared.commands.UnaryOperation.TheVariants.{Neg, Sq, Dbl}
 use Rattle.p3_field_bench.specs.declared.faults.Fault.{Fault}
-use Rattle.p3_field_bench.specs.declared.faults.Fault.TheVariants.{WordCount, BadRegister}
+use Rattle.p3_field_bench.specs.declared.faults.Fault.TheVariants.{WordCount, BadRegister, BadNumber}
 
 -- what stands beside a word in a table, where the word is there
 abbrev pub lookup : {A : Type 0} → List (List ℕ × A) → List ℕ → Option A
@@ -16,7 +18,13 @@ abbrev pub command_of : List ℕ → Option Command
 command_of word = lookup (
     (codes "field", Field)
     ∷ (codes "put", Compute Put)
-    ∷ (codes "mul", Compute Mul)
+    ∷ (codes "add", Compute (Binary Add))
+    ∷ (codes "sub", Compute (Binary Sub))
+    ∷ (codes "mul", Compute (Binary Mul))
+    ∷ (codes "neg", Compute (Unary Neg))
+    ∷ (codes "sq", Compute (Unary Sq))
+    ∷ (codes "dbl", Compute (Unary Dbl))
+    ∷ (codes "pow", Compute Pow)
     ∷ (codes "inv", Compute Inv)
     ∷ (codes "show", Compute Show)
     ∷ []) word
@@ -55,6 +63,12 @@ abbrev pub three_of : Option ℕ → Option ℕ → Option ℕ → Result (ℕ �
 three_of (Some r) (Some a) (Some b) = Ok (r, a, b)
 three_of r a b = Err BadRegister
 
+-- the registers are tested before the number
+abbrev pub two_with_number : Option ℕ → Option ℕ → Option ℕ → Result (ℕ × ℕ × ℕ) Fault
+two_with_number (Some r) (Some a) (Some e) = Ok (r, a, e)
+two_with_number (Some r) (Some a) None = Err BadNumber
+two_with_number r a e = Err BadRegister
+
 -- the words of a line's arguments as registers: their count is tested first
 abbrev pub one_register : List (List ℕ) → Result ℕ Fault
 one_register (r ∷ []) = one_of (register r)
@@ -67,3 +81,8 @@ two_registers args = Err WordCount
 abbrev pub three_registers : List (List ℕ) → Result (ℕ × ℕ × ℕ) Fault
 three_registers (r ∷ a ∷ b ∷ []) = three_of (register r) (register a) (register b)
 three_registers args = Err WordCount
+
+-- two registers and a number of up to 64 bits
+abbrev pub registers_and_number : List (List ℕ) → Result (ℕ × ℕ × ℕ) Fault
+registers_and_number (r ∷ a ∷ e ∷ []) = two_with_number (register r) (register a) (number 18446744073709551615 e)
+registers_and_number args = Err WordCount

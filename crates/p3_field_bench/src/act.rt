@@ -1,18 +1,19 @@
 ghost use Rattle.std.specs.Prelude.{◌≡◌, ◌++◌, ◌∷◌, [], ℕ, List, Some, None, length, IfOk, IfSome, IfNone};
+ghost use Rattle.p3_theory.specs.Powers.{power};
 ghost use Rattle.p3_field_bench.specs.Bank.{state_at};
 ghost use Rattle.p3_field_bench.specs.Display.{display};
-ghost use Rattle.p3_field_bench.specs.Effects.{Computes, State, numbers_below, IsInverse};
+ghost use Rattle.p3_field_bench.specs.Effects.{Computes, State, numbers_below, IsInverse, binary, unary};
 ghost use Rattle.p3_field_bench.specs.Fields.{order, dimension, ops};
 ghost use Rattle.p3_field_bench.specs.Lines.{words};
 ghost use Rattle.p3_field_bench.specs.Outcomes.{outcome, silent};
 
-use crate::commands::Operation;
+use crate::commands::{BinaryOperation, Operation, UnaryOperation};
 use crate::faults::Fault;
 use crate::field::CalculatorField;
 use crate::registers::Registers;
 use crate::words::{
-    has_words, next_word, one_register, parse_number, parse_register, three_registers,
-    two_registers,
+    has_words, next_word, one_register, parse_number, parse_register, registers_and_number,
+    three_registers, two_registers,
 };
 use std::alloc::{AllocError, Allocator};
 
@@ -49,11 +50,33 @@ fn text_of<F: CalculatorField, A: Allocator + Copy>(
     Ok(text)
 }
 
-/// The product of two values.
-fn product<F: CalculatorField>(x: F, y: F) -> F
-    ensures { F.coefficients result ≡ (ops F.spec).mul (F.coefficients x) (F.coefficients y) }
+/// What an operation gives of two values.
+fn of_two<F: CalculatorField>(operation: BinaryOperation, x: F, y: F) -> F
+    ensures { F.coefficients result ≡ binary operation (ops F.spec) (F.coefficients x) (F.coefficients y) }
 {
-    x.product(y)
+    match operation {
+        BinaryOperation::Add => x.sum(y),
+        BinaryOperation::Sub => x.difference(y),
+        BinaryOperation::Mul => x.product(y),
+    }
+}
+
+/// What an operation gives of a value.
+fn of_one<F: CalculatorField>(operation: UnaryOperation, x: F) -> F
+    ensures { F.coefficients result ≡ unary operation (ops F.spec) (F.coefficients x) }
+{
+    match operation {
+        UnaryOperation::Neg => x.negation(),
+        UnaryOperation::Sq => x.squared(),
+        UnaryOperation::Dbl => x.doubled(),
+    }
+}
+
+/// A power of a value.
+fn power<F: CalculatorField>(x: F, exponent: u64) -> F
+    ensures { F.coefficients result ≡ power (ops F.spec) (F.coefficients x) exponent }
+{
+    x.power(exponent)
 }
 
 /// An inverse of a value, where it has one.
@@ -85,13 +108,43 @@ fn put<F: CalculatorField>(regs: &mut Registers<F>, args: &[u8]) -> Result<(), F
     Ok(())
 }
 
-/// The line `mul R A B`.
-fn mul<F: CalculatorField>(regs: &mut Registers<F>, args: &[u8]) -> Result<(), Fault>
+/// The lines `add R A B`, `sub R A B` and `mul R A B`.
+fn set_from_two<F: CalculatorField>(
+    operation: BinaryOperation,
+    regs: &mut Registers<F>,
+    args: &[u8],
+) -> Result<(), Fault>
     ensures { let old = state_at F.spec F.coefficients regs.old in let new = state_at F.spec F.coefficients regs.new in
-        Computes Operation.Mul F.spec old.registers (words args.now) (silent result new) }
+        Computes (Operation.Binary operation) F.spec old.registers (words args.now) (silent result new) }
 {
     let (r, a, b) = three_registers(args)?;
-    let x = product(regs.get(a), regs.get(b));
+    let x = of_two(operation, regs.get(a), regs.get(b));
+    regs.set(r, x);
+    Ok(())
+}
+
+/// The lines `neg R A`, `sq R A` and `dbl R A`.
+fn set_from_one<F: CalculatorField>(
+    operation: UnaryOperation,
+    regs: &mut Registers<F>,
+    args: &[u8],
+) -> Result<(), Fault>
+    ensures { let old = state_at F.spec F.coefficients regs.old in let new = state_at F.spec F.coefficients regs.new in
+        Computes (Operation.Unary operation) F.spec old.registers (words args.now) (silent result new) }
+{
+    let (r, a) = two_registers(args)?;
+    let x = of_one(operation, regs.get(a));
+    regs.set(r, x);
+    Ok(())
+}
+
+/// The line `pow R A E`.
+fn pow<F: CalculatorField>(regs: &mut Registers<F>, args: &[u8]) -> Result<(), Fault>
+    ensures { let old = state_at F.spec F.coefficients regs.old in let new = state_at F.spec F.coefficients regs.new in
+        Computes Operation.Pow F.spec old.registers (words args.now) (silent result new) }
+{
+    let (r, a, exponent) = registers_and_number(args)?;
+    let x = power(regs.get(a), exponent);
     regs.set(r, x);
     Ok(())
 }
@@ -150,7 +203,9 @@ pub fn act<F: CalculatorField, A: Allocator + Copy>(
 {
     match operation {
         Operation::Put => without_text(alloc, put(regs, args)),
-        Operation::Mul => without_text(alloc, mul(regs, args)),
+        Operation::Binary(f) => without_text(alloc, set_from_two(f, regs, args)),
+        Operation::Unary(f) => without_text(alloc, set_from_one(f, regs, args)),
+        Operation::Pow => without_text(alloc, pow(regs, args)),
         Operation::Inv => without_text(alloc, inv(regs, args)),
         Operation::Show => show(alloc, regs, args),
     }

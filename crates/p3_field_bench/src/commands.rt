@@ -1,4 +1,4 @@
-ghost use Rattle.std.specs.Prelude.{◌≡◌};
+ghost use Rattle.std.specs.Prelude.{◌≡◌, Some};
 ghost use Rattle.p3_field_bench.specs.Words.{command_of};
 
 /// What a line asks for by its first word.
@@ -15,12 +15,52 @@ pub enum Command {
 pub enum Operation {
     /// A register is set to the value of the coefficients that are given.
     Put,
-    /// A register is set to the product of two registers.
-    Mul,
+    /// A register is set to what an operation gives of two registers.
+    Binary(BinaryOperation),
+    /// A register is set to what an operation gives of a register.
+    Unary(UnaryOperation),
+    /// A register is set to a power of a register.
+    Pow,
     /// A register is set to the inverse of a register.
     Inv,
     /// A register's value is written.
     Show,
+}
+
+/// An operation on two values.
+#[derive(Clone, Copy, Debug, PartialEq, Eq)]
+pub enum BinaryOperation {
+    /// The sum.
+    Add,
+    /// The difference.
+    Sub,
+    /// The product.
+    Mul,
+}
+
+/// An operation on one value.
+#[derive(Clone, Copy, Debug, PartialEq, Eq)]
+pub enum UnaryOperation {
+    /// The negation.
+    Neg,
+    /// The square.
+    Sq,
+    /// The double.
+    Dbl,
+}
+
+/// The command of an operation on two registers.
+fn binary(operation: BinaryOperation) -> Option<Command>
+    ensures { result ≡ Some (Command.Compute (Operation.Binary operation)) }
+{
+    Some(Command::Compute(Operation::Binary(operation)))
+}
+
+/// The command of an operation on a register.
+fn unary(operation: UnaryOperation) -> Option<Command>
+    ensures { result ≡ Some (Command.Compute (Operation.Unary operation)) }
+{
+    Some(Command::Compute(Operation::Unary(operation)))
 }
 
 /// The command that a word names.
@@ -30,7 +70,13 @@ pub fn parse_command(word: &[u8]) -> Option<Command>
     match word {
         b"field" => Some(Command::Field),
         b"put" => Some(Command::Compute(Operation::Put)),
-        b"mul" => Some(Command::Compute(Operation::Mul)),
+        b"add" => binary(BinaryOperation::Add),
+        b"sub" => binary(BinaryOperation::Sub),
+        b"mul" => binary(BinaryOperation::Mul),
+        b"neg" => unary(UnaryOperation::Neg),
+        b"sq" => unary(UnaryOperation::Sq),
+        b"dbl" => unary(UnaryOperation::Dbl),
+        b"pow" => Some(Command::Compute(Operation::Pow)),
         b"inv" => Some(Command::Compute(Operation::Inv)),
         b"show" => Some(Command::Compute(Operation::Show)),
         _ => None,

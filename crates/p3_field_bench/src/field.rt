@@ -1,5 +1,7 @@
 ghost use Rattle.std.specs.Prelude.{◌≡◌, ◌<◌, ℕ, List, slice_set, string_bytes, IfOk};
-ghost use Rattle.p3_theory.specs.Ring.{Ops};
+ghost use Rattle.p3_theory.specs.Ring.{Ops, subtract};
+ghost use Rattle.p3_theory.specs.Powers.{power};
+ghost use Rattle.p3_theory.specs.Operators.{Gives, GivesOne};
 ghost use Rattle.p3_theory.specs.Polynomial.{quotient_mul};
 ghost use Rattle.p3_theory.specs.Residues.{AreResidues};
 ghost use Rattle.p3_ext.specs.Values.{ext_ops};
@@ -13,6 +15,7 @@ use p3_field::extension::ExtensionProduct;
 use p3_field::extension::ext_field::ExtField;
 use p3_field::integers::QuotientMap;
 use std::alloc::{AllocError, Allocator};
+use std::ops::{Add, Neg, Sub};
 
 /// A field of the calculator: its values are known by their canonical coefficients. It has just
 /// what the lines ask for, since a bound by the whole field trait costs minutes at each name.
@@ -44,9 +47,33 @@ pub trait CalculatorField: Copy {
         requires below { c < order spec }
         ensures { coefficients result ≡ slice_set (coefficients self) i c };
 
+    /// The sum of two values.
+    fn sum(self, other: Self) -> Self
+        ensures { result ≡ ops.add self other };
+
+    /// The value less the other one.
+    fn difference(self, other: Self) -> Self
+        ensures { result ≡ subtract ops self other };
+
     /// The product of two values.
     fn product(self, other: Self) -> Self
         ensures { result ≡ ops.mul self other };
+
+    /// The negation.
+    fn negation(self) -> Self
+        ensures { result ≡ ops.neg self };
+
+    /// The square.
+    fn squared(self) -> Self
+        ensures { result ≡ ops.mul self self };
+
+    /// The double.
+    fn doubled(self) -> Self
+        ensures { result ≡ ops.add self self };
+
+    /// The product of `exponent` copies of the value.
+    fn power(self, exponent: u64) -> Self
+        ensures { result ≡ power ops self exponent };
 
     /// An inverse, and `None` exactly where there is none.
     fn inverse(self) -> Option<Self>
@@ -61,7 +88,7 @@ pub trait CalculatorField: Copy {
 }
 
 /// A base of the calculator's extensions: residues by their canonical values.
-pub trait Base: Copy {
+pub trait Base: Copy + Add<Output = Self> + Sub<Output = Self> + Neg<Output = Self> {
     /// The order.
     ghost order: { ℕ };
 
@@ -83,12 +110,31 @@ pub trait Base: Copy {
     /// The canonical values are one to one onto the numbers below the order, and the operations
     /// are those of residues.
     ghost residues: { AreResidues order ops canon };
+
+    /// The operators of the language are the operations.
+    ghost adds: { Gives Self.can_add Self.add_gives ops.add };
+
+    ghost subs: { Gives Self.can_sub Self.sub_gives (subtract ops) };
+
+    ghost negs: { GivesOne Self.can_neg Self.neg_gives ops.neg };
 }
 
 /// A base with an extension of degree D by the shape S that has a name in the calculator.
 pub trait Extended<const D: usize, S>: Base + ExtensionProduct<Self, D, S> {
     /// The polynomial that is zero in the extension.
     ghost modulus: { List Self };
+
+    /// The square.
+    fn squared(x: ExtField<Self, D, S, Self>) -> ExtField<Self, D, S, Self>
+        ensures { result ≡ (ext_ops Self.ops modulus).mul x x };
+
+    /// The double.
+    fn doubled(x: ExtField<Self, D, S, Self>) -> ExtField<Self, D, S, Self>
+        ensures { result ≡ (ext_ops Self.ops modulus).add x x };
+
+    /// The product of `exponent` copies of the value.
+    fn power(x: ExtField<Self, D, S, Self>, exponent: u64) -> ExtField<Self, D, S, Self>
+        ensures { result ≡ power (ext_ops Self.ops modulus) x exponent };
 
     /// An inverse, and `None` exactly where there is none.
     fn inverse(x: ExtField<Self, D, S, Self>) -> Option<ExtField<Self, D, S, Self>>
@@ -106,7 +152,7 @@ pub trait Extended<const D: usize, S>: Base + ExtensionProduct<Self, D, S> {
 }
 
 impl<W: Form> Base for Fp<W> {
-    ghost use Rattle.p3_theory.specs.Residues.{are_residues};
+    ghost use Rattle.p3_theory.specs.Residues.{are_residues, is_of, is_difference};
     ghost use Rattle.p3_bench_prime.specs.Elements.{canon, ops, is};
 
     ghost order = { W.ORDER };
@@ -124,6 +170,12 @@ impl<W: Form> Base for Fp<W> {
     }
 
     ghost residues = { are_residues (is W.Form) };
+
+    ghost adds = { record { called = λ _ _. tt; answer = λ x y r h. is_of (is W.Form) r _ h } };
+
+    ghost subs = { record { called = λ _ _. tt; answer = λ x y r h. is_difference (is W.Form) x y r h } };
+
+    ghost negs = { record { called = λ _. tt; answer = λ x r h. is_of (is W.Form) r _ h } };
 }
 
 impl<F: Extended<D, S>, const D: usize, S: Copy> CalculatorField for ExtField<F, D, S, F> {
@@ -155,8 +207,32 @@ impl<F: Extended<D, S>, const D: usize, S: Copy> CalculatorField for ExtField<F,
         Self::new(value)
     }
 
+    fn sum(self, other: Self) -> Self {
+        self + other
+    }
+
+    fn difference(self, other: Self) -> Self {
+        self - other
+    }
+
     fn product(self, other: Self) -> Self {
         self * other
+    }
+
+    fn negation(self) -> Self {
+        -self
+    }
+
+    fn squared(self) -> Self {
+        F::squared(self)
+    }
+
+    fn doubled(self) -> Self {
+        F::doubled(self)
+    }
+
+    fn power(self, exponent: u64) -> Self {
+        F::power(self, exponent)
     }
 
     fn inverse(self) -> Option<Self> {

@@ -12,6 +12,9 @@ mod machine;
 mod memory;
 mod names;
 #[cfg(test)]
+mod outside_runs;
+mod primes;
+#[cfg(test)]
 mod refusing;
 mod registers;
 mod report;

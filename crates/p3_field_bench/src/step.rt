@@ -18,6 +18,14 @@ fn open(name: &[u8]) -> Option<Bank>
     ensures { opened result ≡ chosen (field_named name.now) }
 {
     match name {
+        b"f2" => Some(Bank::F2(Registers::zero())),
+        b"f17" => Some(Bank::F17(Registers::zero())),
+        b"f17b" => Some(Bank::F17b(Registers::zero())),
+        b"f31" => Some(Bank::F31(Registers::zero())),
+        b"z15" => Some(Bank::Z15(Registers::zero())),
+        b"bb" => Some(Bank::BabyBear(Registers::zero())),
+        b"kb" => Some(Bank::KoalaBear(Registers::zero())),
+        b"gl" => Some(Bank::Goldilocks(Registers::zero())),
         b"f17x2" => Some(Bank::F17x2(Registers::zero())),
         _ => None,
     }
@@ -48,6 +56,14 @@ fn act_at<A: Allocator + Copy>(
 {
     match bank {
         Bank::Empty => Err(Fault::NoField),
+        Bank::F2(regs) => act(alloc, operation, regs, args),
+        Bank::F17(regs) => act(alloc, operation, regs, args),
+        Bank::F17b(regs) => act(alloc, operation, regs, args),
+        Bank::F31(regs) => act(alloc, operation, regs, args),
+        Bank::Z15(regs) => act(alloc, operation, regs, args),
+        Bank::BabyBear(regs) => act(alloc, operation, regs, args),
+        Bank::KoalaBear(regs) => act(alloc, operation, regs, args),
+        Bank::Goldilocks(regs) => act(alloc, operation, regs, args),
         Bank::F17x2(regs) => act(alloc, operation, regs, args),
     }
 }

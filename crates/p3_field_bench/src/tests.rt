@@ -1,5 +1,7 @@
 //! Runs of the calculator, over sources and sinks in memory.
 
+mod growths;
+
 use crate::refusing::Refusing;
 use crate::{MemSink, MemSource, engine, engine_in};
 use std::process::Abort;
@@ -47,10 +49,12 @@ fn lines_without_a_field(rt: HostRuntime) -> Result<(), Fail> {
         ("\n\n  \n", "", 0),
         ("inv 0 0", "line 1: fault 7\n", 1),
         ("put", "line 1: fault 7\n", 1),
-        ("field f17", "line 1: fault 7\n", 1),
+        ("field f19", "line 1: fault 7\n", 1),
+        ("field F17", "line 1: fault 7\n", 1),
         ("field", "line 1: fault 2\n", 1),
         ("field f17x2 f17x2", "line 1: fault 2\n", 1),
-        ("\n \nadd 1 0 0\n", "line 3: fault 1\n", 1),
+        ("\n \ndiv 1 0 0\n", "line 3: fault 1\n", 1),
+        ("\n \nadd 1 0 0\n", "line 3: fault 7\n", 1),
     ];
     for (input, text, status) in rows {
         assert_text(&rt, input.as_bytes(), text, status)?;
@@ -61,7 +65,7 @@ fn lines_without_a_field(rt: HostRuntime) -> Result<(), Fail> {
 #[test]
 fn faults_of_a_field(rt: HostRuntime) -> Result<(), Fail> {
     let rows = [
-        ("field f17x2\nput 0 1 2\nadd 1 0 0\n", "line 3: fault 1\n"),
+        ("field f17x2\nput 0 1 2\ndiv 1 0 0\n", "line 3: fault 1\n"),
         ("field f17x2\ninv 1 0\n", "line 2: fault 5\n"),
         ("field f17x2\nput 16 1 2\n", "line 2: fault 3\n"),
         ("field f17x2\nput 000 1 2\n", "line 2: fault 3\n"),
@@ -81,6 +85,135 @@ fn faults_of_a_field(rt: HostRuntime) -> Result<(), Fail> {
         assert_text(&rt, input.as_bytes(), text, 1)?;
     }
     Ok(())
+}
+
+#[test]
+fn lines_of_an_extension(rt: HostRuntime) -> Result<(), Fail> {
+    let rows = [
+        ("add 2 0 1", "7 X\n"),
+        ("sub 2 0 1", "2 + 14 X\n"),
+        ("sub 2 1 0", "15 + 3 X\n"),
+        ("mul 2 0 0", "13 + 4 X\n"),
+        ("neg 2 0", "16 + 15 X\n"),
+        ("sq 2 0", "13 + 4 X\n"),
+        ("dbl 2 1", "15 + 10 X\n"),
+        ("pow 2 0 3", "3 + 13 X\n"),
+        ("pow 2 0 0", "1\n"),
+        ("pow 2 2 0", "1\n"),
+        ("pow 2 0 18446744073709551615", "7 + 15 X\n"),
+    ];
+    for (line, text) in rows {
+        let input = format!(in rt.alloc(); "field f17x2\nput 0 1 2\nput 1 16 5\n{line}\nshow 2\n")?;
+        assert_text(&rt, input.as_bytes(), text, 0)?;
+    }
+    Ok(())
+}
+
+#[test]
+fn lines_of_a_prime_field(rt: HostRuntime) -> Result<(), Fail> {
+    let rows = [
+        ("add 2 0 1", "0\n"),
+        ("sub 2 0 1", "10\n"),
+        ("mul 2 0 1", "9\n"),
+        ("neg 2 0", "12\n"),
+        ("sq 2 0", "8\n"),
+        ("dbl 2 1", "7\n"),
+        ("inv 2 0", "7\n"),
+        ("pow 2 0 3", "6\n"),
+        ("pow 2 0 18446744073709551615", "7\n"),
+    ];
+    for name in ["f17", "f17b"] {
+        for (line, text) in rows {
+            let input = format!(in rt.alloc(); "field {name}\nput 0 5\nput 1 12\n{line}\nshow 2")?;
+            assert_text(&rt, input.as_bytes(), text, 0)?;
+        }
+    }
+    Ok(())
+}
+
+/// The inverse of two, the negation of one, and its double.
+#[test]
+fn prime_fields(rt: HostRuntime) -> Result<(), Fail> {
+    let rows = [
+        ("f31", "16\n30\n29\n"),
+        ("z15", "8\n14\n13\n"),
+        ("bb", "1006632961\n2013265920\n2013265919\n"),
+        ("kb", "1065353217\n2130706432\n2130706431\n"),
+        (
+            "gl",
+            "9223372034707292161\n18446744069414584320\n18446744069414584319\n",
+        ),
+    ];
+    for (name, text) in rows {
+        let lines = "put 0 2\nput 1 1\ninv 0 0\nneg 1 1\ndbl 2 1\nshow 0\nshow 1\nshow 2";
+        let input = format!(in rt.alloc(); "field {name}\n{lines}")?;
+        assert_text(&rt, input.as_bytes(), text, 0)?;
+    }
+    Ok(())
+}
+
+#[test]
+fn the_order_is_no_coefficient(rt: HostRuntime) -> Result<(), Fail> {
+    let rows = [
+        ("f2", "1", "2"),
+        ("f17", "16", "17"),
+        ("f17b", "16", "17"),
+        ("f31", "30", "31"),
+        ("z15", "14", "15"),
+        ("bb", "2013265920", "2013265921"),
+        ("kb", "2130706432", "2130706433"),
+        ("gl", "18446744069414584320", "18446744069414584321"),
+    ];
+    for (name, last, order) in rows {
+        let input = format!(in rt.alloc(); "field {name}\nput 0 {last}\nshow 0\nput 0 {order}\n")?;
+        let text = format!(in rt.alloc(); "{last}\nline 4: fault 4\n")?;
+        assert_text(&rt, input.as_bytes(), text.as_str(), 1)?;
+    }
+    Ok(())
+}
+
+#[test]
+fn faults_of_a_prime_field(rt: HostRuntime) -> Result<(), Fail> {
+    let rows = [
+        ("field f17\nput 16 1\n", "line 2: fault 3\n"),
+        ("field f17\nput 0 17\n", "line 2: fault 4\n"),
+        ("field f17\nput 0 1 2\n", "line 2: fault 2\n"),
+        ("field f17\ninv 1 0\n", "line 2: fault 5\n"),
+        ("field f2\ninv 1 0\n", "line 2: fault 5\n"),
+        ("field z15\nput 0 6\ninv 0 0\n", "line 3: fault 5\n"),
+        ("field f17\nadd 1 0\n", "line 2: fault 2\n"),
+        ("field f17\nsub 0 0 16\n", "line 2: fault 3\n"),
+        ("field f17\nneg 1\n", "line 2: fault 2\n"),
+        ("field f17\nsq 1 0 0\n", "line 2: fault 2\n"),
+        ("field f17\ndbl 16 0\n", "line 2: fault 3\n"),
+    ];
+    for (input, text) in rows {
+        assert_text(&rt, input.as_bytes(), text, 1)?;
+    }
+    Ok(())
+}
+
+#[test]
+fn faults_of_a_power(rt: HostRuntime) -> Result<(), Fail> {
+    let rows = [
+        ("pow 0 0", "line 2: fault 2\n"),
+        ("pow 0 0 1 1", "line 2: fault 2\n"),
+        ("pow 16 0 x", "line 2: fault 3\n"),
+        ("pow 0 16 x", "line 2: fault 3\n"),
+        ("pow 0 0 x", "line 2: fault 4\n"),
+        ("pow 0 0 18446744073709551616", "line 2: fault 4\n"),
+        ("pow 0 0 000000000000000000001", "line 2: fault 4\n"),
+    ];
+    for (line, text) in rows {
+        let input = format!(in rt.alloc(); "field gl\n{line}\n")?;
+        assert_text(&rt, input.as_bytes(), text, 1)?;
+    }
+    Ok(())
+}
+
+#[test]
+fn zero_without_a_last_line_end(rt: HostRuntime) -> Result<(), Fail> {
+    assert_text(&rt, b"field f17\nshow 0".as_slice(), "0\n", 0)
 }
 
 #[test]
@@ -118,6 +251,19 @@ fn a_read_fails(rt: HostRuntime) -> Result<(), Fail> {
         let answer = engine(rt.alloc(), &mut source, &mut sink);
         assert_eq!(rt; answer, 1, "{text}");
         assert_eq!(rt; sink.text(), text.as_bytes());
+    }
+    Ok(())
+}
+
+#[test]
+fn a_read_fails_in_a_line(rt: HostRuntime) -> Result<(), Fail> {
+    let input = "field f17\nput 0 3\nshow 0\nput 1";
+    for (piece, reads) in [(30usize, 1usize), (6, 5), (1, 30)] {
+        let mut source = MemSource::new(input.as_bytes().to_vec(rt.alloc())?, piece, Some(reads));
+        let mut sink = MemSink::new(rt.alloc(), 100, true)?;
+        let answer = engine(rt.alloc(), &mut source, &mut sink);
+        assert_eq!(rt; answer, 1);
+        assert_eq!(rt; sink.text(), b"3\nline 4: fault 9\n".as_slice());
     }
     Ok(())
 }
@@ -162,4 +308,16 @@ fn refused_growths(rt: HostRuntime) -> Result<(), Fail> {
         assert_eq!(rt; sink.text(), b"line 2: fault 8\n".as_slice());
     }
     panic!(rt; "a text of one digit takes more than eight growths")
+}
+
+#[test]
+fn a_refused_growth_of_a_prime_field(rt: HostRuntime) -> Result<(), Fail> {
+    let heap = Refusing::after(rt.alloc(), 0);
+    let mut source = MemSource::new(b"field f17\nshow 0\n".to_vec(rt.alloc())?, 7, None);
+    let mut sink = MemSink::new(rt.alloc(), 100, true)?;
+    let answer = engine_in(&heap, &mut source, &mut sink);
+    assert_eq!(rt; answer, 1);
+    assert_eq!(rt; sink.text(), b"line 2: fault 8\n".as_slice());
+    assert_eq!(rt; heap.blocks(), 0);
+    Ok(())
 }

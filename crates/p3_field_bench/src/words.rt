@@ -1,6 +1,6 @@
 ghost use Rattle.std.specs.Prelude.{◌≡◌, ◌<◌, ◌≤◌, ◌∷◌, [], List, ℕ, length, IfNone, IfSome, IfOk, nat_eq};
 ghost use Rattle.p3_field_bench.specs.Lines.{words};
-ghost use Rattle.p3_field_bench.specs.Words.{number, register, decimal_up_to, one_register, two_registers, three_registers};
+ghost use Rattle.p3_field_bench.specs.Words.{number, register, decimal_up_to, one_register, two_registers, three_registers, registers_and_number};
 
 use crate::faults::Fault;
 
@@ -160,4 +160,25 @@ pub fn three_registers(args: &[u8]) -> Result<(usize, usize, usize), Fault>
         return Err(Fault::BadRegister);
     };
     Ok((r, a, b))
+}
+
+/// The registers and the number of a line that has two registers and a number. The number is
+/// tested last.
+pub fn registers_and_number(args: &[u8]) -> Result<(usize, usize, u64), Fault>
+    ensures value { result ≡ registers_and_number (words args.now) }
+    ensures below { IfOk result (λ p. (p.0 < 16) × (p.1 < 16)) }
+{
+    let Some((r, a, e)) = three_words(args) else {
+        return Err(Fault::WordCount);
+    };
+    let Some(r) = parse_register(r) else {
+        return Err(Fault::BadRegister);
+    };
+    let Some(a) = parse_register(a) else {
+        return Err(Fault::BadRegister);
+    };
+    let Some(e) = parse_number(e, u64::MAX) else {
+        return Err(Fault::BadNumber);
+    };
+    Ok((r, a, e))
 }

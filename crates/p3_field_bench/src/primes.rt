@@ -1,0 +1,144 @@
+//! The prime fields of the calculator: the one coefficient of a residue is its canonical value.
+ghost use Rattle.std.specs.Prelude.{◌≡◌, string_bytes, slice_set, IfOk};
+
+use crate::field::CalculatorField;
+use p3_bench_prime::form::Form;
+use p3_bench_prime::fp::Fp;
+use p3_bench_prime::goldilocks::Goldilocks;
+use p3_field::integers::QuotientMap;
+use p3_field::{Field, PrimeCharacteristicRing, PrimeField64};
+use std::alloc::{AllocError, Allocator};
+
+impl<W: Form> CalculatorField for Fp<W> {
+    ghost use Rattle.p3_theory.specs.Residues.{are_residues};
+    ghost use Rattle.p3_bench_prime.specs.Elements.{canon, ops, is};
+    ghost use Rattle.p3_field_bench.specs.Coefficients.{one_coefficient, residues_represented};
+    ghost use Rattle.p3_field_bench.specs.Fields.{ResiduesModulo};
+
+    ghost spec = { ResiduesModulo W.ORDER };
+
+    ghost coefficients = { one_coefficient (canon W.Form) };
+
+    ghost ops = { ops W.Form };
+
+    fn base_order() -> u64 {
+        W::ORDER as u64
+    }
+
+    fn coefficient_count() -> usize {
+        1
+    }
+
+    fn zero() -> Self {
+        Self::new(0)
+    }
+
+    fn with_coefficient(self, i: usize, c: u64) -> Self {
+        Self::from_canonical_unchecked(c)
+    }
+
+    fn sum(self, other: Self) -> Self {
+        self + other
+    }
+
+    fn difference(self, other: Self) -> Self {
+        self - other
+    }
+
+    fn product(self, other: Self) -> Self {
+        self * other
+    }
+
+    fn negation(self) -> Self {
+        -self
+    }
+
+    fn squared(self) -> Self {
+        self.square()
+    }
+
+    fn doubled(self) -> Self {
+        self.double()
+    }
+
+    fn power(self, exponent: u64) -> Self {
+        self.exp_u64(exponent)
+    }
+
+    fn inverse(self) -> Option<Self> {
+        self.try_inverse()
+    }
+
+    fn text<A: Allocator + Copy>(self, alloc: A) -> Result<String<A>, AllocError> {
+        self.to_string(alloc)
+    }
+
+    ghost represents = { residues_represented W.ORDER (ops W.Form) (canon W.Form) (are_residues (is W.Form)) };
+}
+
+impl CalculatorField for Goldilocks {
+    ghost use Rattle.p3_theory.specs.Residues.{are_residues};
+    ghost use Rattle.p3_bench_prime.specs.GoldilocksElements.{canon, ops, is};
+    ghost use Rattle.p3_field_bench.specs.Coefficients.{one_coefficient, residues_represented};
+    ghost use Rattle.p3_field_bench.specs.Fields.{ResiduesModulo};
+
+    ghost spec = { ResiduesModulo 18446744069414584321 };
+
+    ghost coefficients = { one_coefficient canon };
+
+    ghost ops = { ops };
+
+    fn base_order() -> u64 {
+        Goldilocks::ORDER_U64
+    }
+
+    fn coefficient_count() -> usize {
+        1
+    }
+
+    fn zero() -> Self {
+        Self::new(0)
+    }
+
+    fn with_coefficient(self, i: usize, c: u64) -> Self {
+        Self::from_canonical_unchecked(c)
+    }
+
+    fn sum(self, other: Self) -> Self {
+        self + other
+    }
+
+    fn difference(self, other: Self) -> Self {
+        self - other
+    }
+
+    fn product(self, other: Self) -> Self {
+        self * other
+    }
+
+    fn negation(self) -> Self {
+        -self
+    }
+
+    fn squared(self) -> Self {
+        self.square()
+    }
+
+    fn doubled(self) -> Self {
+        self.double()
+    }
+
+    fn power(self, exponent: u64) -> Self {
+        self.exp_u64(exponent)
+    }
+
+    fn inverse(self) -> Option<Self> {
+        self.try_inverse()
+    }
+
+    fn text<A: Allocator + Copy>(self, alloc: A) -> Result<String<A>, AllocError> {
+        self.to_string(alloc)
+    }
+
+    ghost represents = { residues_represented 18446744069414584321 ops canon (are_residues is) };
+}
