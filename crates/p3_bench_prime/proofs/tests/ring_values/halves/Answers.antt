@@ -4,7 +4,7 @@ use Rattle.p3_bench_prime.specs.Halves.{two_has_inverse}
 use Rattle.p3_bench_prime.proofs.tests.ring_values.halves.Goals as goal
 
 pub halve-requires : goal.halve-requires
-halve-requires c = two_has_inverse (is _) refl
+halve-requires g c = two_has_inverse (is _) refl
 
 pub div_2exp_u64-requires : goal.div_2exp_u64-requires
-div_2exp_u64-requires c = two_has_inverse (is _) refl
+div_2exp_u64-requires g c = two_has_inverse (is _) refl
