@@ -182,7 +182,7 @@ pub trait AlgebraIdentity<F: PrimeCharacteristicRing>: BasedVectorSpace<F> {
 
     /// The bytes of the name, for which room is asked once.
     #[inline]
-    fn algebra_id(alloc: Global) -> Result<Vec<u8>, AllocError>
+    final fn algebra_id(alloc: Global) -> Result<Vec<u8>, AllocError>
         ensures { IfOk result (λ v. v.items ≡ identity) }
     {
         Self::algebra_id_in(alloc)

@@ -7,6 +7,7 @@ pub mod basis;
 pub mod columnwise;
 pub mod const_power;
 pub mod dup;
+pub mod extension_field;
 pub mod field;
 pub mod integers;
 pub mod linear_combination;

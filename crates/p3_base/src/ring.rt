@@ -390,10 +390,13 @@ pub trait Algebra<F: PrimeCharacteristicRing>: PrimeCharacteristicRing
 
     ghost BATCHED_LC_CHUNK: { ℕ };
 
-    /// The square of `a[0] + a[1] * X` modulo `X^2 = w`, as its two coefficients.
+    /// The square of `a[0] + a[1] * X` modulo `X^2 = w`: its two coefficients are written to `res`.
+    /// Both slices have length 2.
     #[inline]
-    fn quadratic_extension_square(a: &[Self; 2], w: F) -> [Self; 2]
-        ensures { result ≡ quotient_mul Self.ops 2 (binomial Self.ops 2 (embed w)) a.now a.now }
+    fn quadratic_extension_square(a: &[Self], w: F, res: &mut [Self])
+        requires input { length a.now ≡ 2 }
+        requires room { length res.old ≡ 2 }
+        ensures { res.new ≡ quotient_mul Self.ops 2 (binomial Self.ops 2 (embed w)) a.now a.now }
     {
         let a0 = a[0];
         let a1 = a[1];
@@ -403,7 +406,7 @@ pub trait Algebra<F: PrimeCharacteristicRing>: PrimeCharacteristicRing
         let low = constant + folded;
         let twice = a1.double();
         let high = a0 * twice;
-        [low, high]
+        res.copy_from_slice(&[low, high]);
     }
 
     /// The sum of the products of values and elements of F, position by position. The slices have

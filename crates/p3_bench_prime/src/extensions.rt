@@ -1,5 +1,5 @@
 //! The extensions of the bench fields.
-ghost use Rattle.std.specs.Prelude.{◌≡◌, ◌==◌, [], ◌∷◌, if◌then◌else◌, refl};
+ghost use Rattle.std.specs.Prelude.{◌≡◌, ◌==◌, [], ◌∷◌, if◌then◌else◌, codes, refl};
 ghost use Rattle.std.proofs.Common.{lit≤};
 ghost use Rattle.p3_theory.specs.Polynomial.{quotient_mul, binomial};
 ghost use Rattle.p3_theory.specs.BinomialFrobenius.{binomial_is_monic};
@@ -51,6 +51,13 @@ impl BinomiallyExtendable<2> for F17 {
     ghost dth_root = { of ⟦<Plain<M17> as Form>⟧ 16 };
 
     ghost ext_generator = { λ i. of ⟦<Plain<M17> as Form>⟧ (if i == 0 then 1 else 2) };
+
+    ghost binomial_algebra_id = { codes "bench:f17x2" };
+
+    #[inline]
+    fn binomial_algebra_id() -> &'static str {
+        "bench:f17x2"
+    }
 
     #[inline]
     fn w() -> F17 {

@@ -1,12 +1,12 @@
 -- The base inside an extension.
-use Rattle.std.specs.Prelude.{◌≡◌, ◌≤◌, ℕ, List, length, refl}
+use Rattle.std.specs.Prelude.{◌≡◌, ◌≤◌, ◌<◌, ℕ, List, length, refl}
 use Rattle.std.proofs.Common.{ap, arith, ◌∙◌, sym, zero, suc}
 use Rattle.p3_theory.specs.Ring.{Ops, Ring, Hom}
 use Rattle.p3_theory.specs.Polynomial.{IsMonic, embed}
 use Rattle.p3_theory.specs.Multiples.{of_nat}
 use Rattle.p3_theory.specs.Homomorphism.{map-of_nat}
 use Rattle.p3_theory.specs.Substitution as Substitution
-use Rattle.p3_ext.specs.Values.{constant, ext_ops, same_value}
+use Rattle.p3_ext.specs.Values.{constant, ext_ops, same_value, value_of}
 use Rattle.p3_ext.specs.declared.extension.ext_field.ExtField.{ExtField}
 
 -- the base is embedded: its operations are kept
@@ -32,3 +32,11 @@ pub multiple_of_one : {F S A : Type 0} (R : Ring A) (D : ℕ) → 2 ≤ D → (f
     → r.value ≡ embed R.ops D x → x ≡ of_nat R.ops n → r ≡ of_nat (ext_ops R.ops f) n
 multiple_of_one {F = F} {S = S} R D h f m r x n e k =
     same_value r (constant R.ops x) e ∙ ap (constant R.ops) k ∙ map-of_nat (embedding {F = F} {S = S} R D h f m) n
+
+-- a degree of two or more has a place 0
+pub some_place : {D : ℕ} → 2 ≤ D → 0 < D
+some_place h = omega arith
+
+-- the value with some D coefficients
+pub with_coefficients : {F S A : Type 0} {D : ℕ} (xs : List A) → length xs ≡ D → (x : ExtField F D S A) × (x.value ≡ xs)
+with_coefficients xs h = (value_of xs h, refl)

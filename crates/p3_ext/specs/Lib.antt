@@ -1,5 +1,6 @@
 pub mod Values
 pub mod Bases
+pub mod Scalars
 pub mod Conjugates
 pub mod BinomialShape
 pub mod Remainders

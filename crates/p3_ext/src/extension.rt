@@ -6,6 +6,8 @@ ghost use Rattle.p3_theory.specs.FrobeniusTable.{frobenius_list, orbit_list, IsF
 ghost use Rattle.p3_theory.specs.Frobenius.{iterate};
 ghost use Rattle.p3_ext.specs.Entries.{entrywise_difference};
 
+pub mod algebra;
+pub mod basis;
 pub mod binomial_extension;
 mod binomial_products;
 pub mod display;
@@ -127,6 +129,13 @@ pub trait BinomiallyExtendable<const D: usize>: Field + ExtensionAlgebra<Self, D
     /// The coefficients of the chosen element.
     ghost ext_generator: { ℕ → Self };
 
+    /// The bytes of the name of the extension as an algebra.
+    ghost binomial_algebra_id: { List ℕ };
+
+    /// The name of the extension as an algebra, which tells it from others over the same base.
+    fn binomial_algebra_id() -> &'static str
+        ensures { result.now ≡ binomial_algebra_id };
+
     /// The W of `X^D = W`.
     fn w() -> Self
         ensures { result ≡ w };
@@ -157,6 +166,13 @@ pub trait FrobeniusExtendable<const D: usize, S: ExtensionShape>: Field
 
     /// The coefficients of the chosen element of the extension.
     ghost generator_coefficients: { ℕ → Self };
+
+    /// The bytes of the name of the extension as an algebra.
+    ghost algebra_id: { List ℕ };
+
+    /// The name of the extension as an algebra, which tells it from others over the same base.
+    fn algebra_id() -> &'static str
+        ensures { result.now ≡ algebra_id };
 
     /// The coefficients of the image of a value.
     fn apply_frobenius(a: &[Self], res: &mut [Self])

@@ -45,12 +45,15 @@ pub mod BitLength
 pub mod AdditiveMaps
 pub mod Streams
 pub mod StreamLemmas
+pub mod TakenItems
 pub mod Coordinates
 pub mod IndexCalls
 pub mod CoordinateLemmas
+pub mod BasisSums
 pub mod PowerChains
 pub mod HornerFold
 pub mod BaseProduct
+pub mod ScalarSums
 pub mod BinomialSquares
 pub mod CubicNorm
 pub mod CubicProduct

@@ -147,6 +147,13 @@ impl<F: BinomiallyExtendable<D>, const D: usize> FrobeniusExtendable<D, Binomial
 
     ghost generator_coefficients = { F.BinomiallyExtendable.ext_generator };
 
+    ghost algebra_id = { F.BinomiallyExtendable.binomial_algebra_id };
+
+    #[inline]
+    fn algebra_id() -> &'static str {
+        F::binomial_algebra_id()
+    }
+
     #[inline]
     fn apply_frobenius(a: &[F], res: &mut [F]) {
         scale_by_powers(a, F::dth_root(), res);

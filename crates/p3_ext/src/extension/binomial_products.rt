@@ -123,9 +123,7 @@ pub(super) fn quadratic_square<F: PrimeCharacteristicRing, A: Algebra<F>>(
     requires room { length res.old ≡ 2 }
     ensures { res.new ≡ quotient_mul A.ops 2 (binomial A.ops 2 (A.embed w)) a.now a.now }
 {
-    let pair = [a[0], a[1]];
-    let square = A::quadratic_extension_square(&pair, w);
-    res.copy_from_slice(&square);
+    A::quadratic_extension_square(a, w, res);
 }
 
 /// The product of two lists of three coefficients modulo `X^3 - W`, by Karatsuba's method.

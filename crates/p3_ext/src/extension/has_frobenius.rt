@@ -1,22 +1,17 @@
-ghost use Rattle.std.specs.Prelude.{◌≡◌, ℕ, IfOk};
+ghost use Rattle.std.specs.Prelude.{◌≡◌, IfOk};
 ghost use Rattle.p3_theory.specs.Ring.{Ops, Invertible, IsInverse};
 ghost use Rattle.p3_theory.specs.Frobenius.{iterate, IsFrobenius};
 ghost use Rattle.p3_theory.specs.FrobeniusTable.{orbit_list};
 
 use super::ext_field::ExtField;
 use super::{ExtensionShape, FrobeniusExtendable};
+use p3_base::extension_field::ExtensionField;
 use p3_base::field::Field;
 use p3_base::ring::PrimeCharacteristicRing;
 use std::alloc::{AllocError, Allocator, Global};
 
 /// An extension of F with its Frobenius map. Upstream's `HasFrobenius`.
-pub trait HasFrobenius<F: Field>: Field {
-    /// An element of the base as a value.
-    ghost base: { F → Self };
-
-    /// The degree of the extension.
-    ghost degree: { ℕ };
-
+pub trait HasFrobenius<F: Field>: ExtensionField<F> {
     /// The Frobenius map.
     ghost frobenius: { Self → Self };
 
@@ -33,37 +28,32 @@ pub trait HasFrobenius<F: Field>: Field {
         ensures inverse { Invertible Self.ops self.now → IsInverse Self.ops self.now result }
         ensures none { ¬ (Invertible Self.ops self.now) → result ≡ Self.ops.zero };
 
-    /// The value and its images under the map, taken up to degree less one times; `Err` where the
+    /// The value and its images under the map, taken up to dimension less one times; `Err` where the
     /// memory for them is refused.
     #[inline]
     fn galois_orbit(self, alloc: Global) -> Result<Vec<Self>, AllocError>
-        ensures { IfOk result (λ orbit. orbit.items ≡ orbit_list frobenius degree self) }
+        ensures { IfOk result (λ orbit. orbit.items ≡ orbit_list frobenius Self.DIMENSION self) }
     {
         self.galois_orbit_in(alloc)
     }
 
     /// `galois_orbit` in any allocator. It asks for memory once. This project's own.
     fn galois_orbit_in<A: Allocator + Copy>(self, alloc: A) -> Result<Vec<Self, A>, AllocError>
-        ensures { IfOk result (λ orbit. orbit.items ≡ orbit_list frobenius degree self) };
+        ensures { IfOk result (λ orbit. orbit.items ≡ orbit_list frobenius Self.DIMENSION self) };
 
     /// The map keeps sums.
     ghost keeps_sums: { (x y : Self) → frobenius (Self.ops.add x y) ≡ Self.ops.add (frobenius x) (frobenius y) };
 
-    /// The map keeps products, fixes the base, is the identity after degree times, and leaves only
-    /// base values unchanged.
-    ghost frobenius_laws: { IsFrobenius F.ops Self.ops base degree frobenius };
+    /// The map keeps products, fixes the base, is the identity after as many times as the dimension
+    /// says, and leaves only base values unchanged.
+    ghost frobenius_laws: { IsFrobenius F.ops Self.ops Self.embed Self.DIMENSION frobenius };
 }
 
 impl<F: FrobeniusExtendable<D, S>, const D: usize, S: ExtensionShape> HasFrobenius<F>
     for ExtField<F, D, S, F> {
     ghost use Rattle.p3_theory.specs.Ring.{ring_of};
-    ghost use Rattle.p3_ext.specs.Values.{constant};
     ghost use Rattle.p3_ext.specs.Conjugates.{frobenius_map};
     ghost use Rattle.p3_ext.specs.FrobeniusLaws.{map_keeps_sums, map_is_frobenius};
-
-    ghost base = { constant F.ops };
-
-    ghost degree = { D };
 
     ghost frobenius = { frobenius_map F.ops F.modulus F.image };
 

@@ -1,4 +1,4 @@
-use Rattle.std.proofs.Common.{ap, ap₂, ◌∙◌, get_or}
+use Rattle.std.proofs.Common.{ap, ap₂, ◌∙◌}
 use Rattle.p3_theory.specs.Ring.{ring_of}
 use Rattle.p3_theory.specs.QuadraticProduct.{quadratic_square}
 use Rattle.p3_base.proofs.ring.Algebra.quadratic_extension_square.Goals as goal
@@ -7,11 +7,10 @@ pub returns : goal.returns
 returns g c =
     let o = g.Self.PrimeCharacteristicRing.ops in
     let m = g.met.Self.PrimeCharacteristicRing in
-    let a = c.args.a.now in
-    let a0 = get_or a 0 c.index-a-0.result in
-    let a1 = get_or a 1 c.index-a-1.result in
-    quadratic_square (ring_of m.ring) (g.Self.Algebra.embed c.args.w) a a0 a1 c.double-twice.result c.add-low.result c.mul-high.result
-    c.type_inv.a (ap (get_or a 0) c.index-a-0.is) (ap (get_or a 1) c.index-a-1.is) c.double-twice.ensures
+    let a0 = c.index-a-0.result in
+    let a1 = c.index-a-1.result in
+    c.copy_from_slice.ensures.after ∙ quadratic_square (ring_of m.ring) (g.Self.Algebra.embed c.args.w) c.args.a.now a0 a1 c.double-twice.result c.add-low.result c.mul-high.result
+    c.requires.input c.index-a-0.is c.index-a-1.is c.double-twice.ensures
     (m.adds.answer _ _ _ c.add-low.ensures ∙ ap₂ o.add (m.muls.answer _ _ _ c.mul-constant.ensures)
     (m.muls.answer _ _ _ c.mul-folded.ensures ∙ ap (o.mul a1) (g.met.Self.Algebra.mixed_muls.answer _ _ _ c.mul-a1_w.ensures)))
     (m.muls.answer _ _ _ c.mul-high.ensures)
