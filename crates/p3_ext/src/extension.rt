@@ -32,7 +32,7 @@ mod sealed {
 pub trait ExtensionShape: Copy + sealed::Sealed {}
 
 /// The shape `X^D = W`, for a base field F.
-#[derive(Clone, Copy)]
+#[derive(Clone, Copy, Debug, PartialEq, Eq, PartialOrd, Ord, Hash)]
 pub struct Binomial<F>(PhantomData<F>);
 
 impl<F: Copy> sealed::Sealed for Binomial<F> {}

@@ -5,6 +5,7 @@ pub mod Frobenius
 pub mod Sequences
 pub mod Coefficients
 pub mod Congruence
+pub mod Remainders
 pub mod QuotientRing
 pub mod Horner
 pub mod Substitution

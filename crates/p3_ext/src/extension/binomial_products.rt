@@ -1,25 +1,9 @@
 ghost use Rattle.std.specs.Prelude.{◌≡◌, ◌≤◌, ◌<◌, ◌+◌, ◌-◌, length, get_or};
 ghost use Rattle.p3_theory.specs.Polynomial.{quotient_mul, binomial};
 ghost use Rattle.p3_theory.specs.ConvolutionSums.{first_sum};
-ghost use Rattle.p3_theory.specs.DotProduct.{dot};
 ghost use Rattle.p3_theory.specs.ProductPlaces.{product_place};
 
 use p3_base::ring::{Algebra, PrimeCharacteristicRing};
-
-/// The sum of the products of two slices of one length, position by position.
-#[inline]
-fn dot_product<A: PrimeCharacteristicRing>(u: &[A], v: &[A]) -> A
-    requires some { 1 ≤ length u.now }
-    requires lengths { length u.now ≡ length v.now }
-    ensures { result ≡ dot A.ops u.now v.now }
-{
-    let mut sum = u[0] * v[0];
-    for i in 1..u.len() {
-        let product = u[i] * v[i];
-        sum = sum + product;
-    }
-    sum
-}
 
 /// The sum of `a[skip + i] * b[top - i]` for i below `count`.
 #[inline]
@@ -220,10 +204,10 @@ pub(super) fn quartic_square<F: PrimeCharacteristicRing, A: Algebra<F>>(
     let two_a2 = a2.double();
     let a2_w = a2 * w;
     let a3_w = a3 * w;
-    let c0 = dot_product(&[a0, a2_w, two_a1], &[a0, a2, a3_w]);
-    let c1 = dot_product(&[two_a0, two_a2], &[a1, a3_w]);
-    let c2 = dot_product(&[a1, a3_w, two_a0], &[a1, a3, a2]);
-    let c3 = dot_product(&[two_a0, two_a2], &[a3, a1]);
+    let c0 = A::dot_product(&[a0, a2_w, two_a1], &[a0, a2, a3_w]);
+    let c1 = A::dot_product(&[two_a0, two_a2], &[a1, a3_w]);
+    let c2 = A::dot_product(&[a1, a3_w, two_a0], &[a1, a3, a2]);
+    let c3 = A::dot_product(&[two_a0, two_a2], &[a3, a1]);
     res.copy_from_slice(&[c0, c1, c2, c3]);
 }
 
@@ -265,11 +249,11 @@ pub(super) fn quintic_square<F: PrimeCharacteristicRing, A: Algebra<F>>(
     let two_a3 = a3.double();
     let w_a3 = a3 * w;
     let w_a4 = a4 * w;
-    let c0 = dot_product(&[a0, w_a4, w_a3], &[a0, two_a1, two_a2]);
-    let c1 = dot_product(&[w_a3, two_a0, w_a4], &[a3, a1, two_a2]);
-    let c2 = dot_product(&[a1, two_a0, w_a4], &[a1, a2, two_a3]);
-    let c3 = dot_product(&[w_a4, two_a0, two_a1], &[a4, a3, a2]);
-    let c4 = dot_product(&[a2, two_a0, two_a1], &[a2, a4, a3]);
+    let c0 = A::dot_product(&[a0, w_a4, w_a3], &[a0, two_a1, two_a2]);
+    let c1 = A::dot_product(&[w_a3, two_a0, w_a4], &[a3, a1, two_a2]);
+    let c2 = A::dot_product(&[a1, two_a0, w_a4], &[a1, a2, two_a3]);
+    let c3 = A::dot_product(&[w_a4, two_a0, two_a1], &[a4, a3, a2]);
+    let c4 = A::dot_product(&[a2, two_a0, two_a1], &[a2, a4, a3]);
     res.copy_from_slice(&[c0, c1, c2, c3, c4]);
 }
 
@@ -312,13 +296,13 @@ pub(super) fn octic_square<F: PrimeCharacteristicRing, A: Algebra<F>>(a: &[A], r
     let w_a5_2 = w_a5.double();
     let w_a6_2 = w_a6.double();
     let w_a7_2 = w_a7.double();
-    let c0 = dot_product(&[a0, a1, a2, a3, a4], &[a0, w_a7_2, w_a6_2, w_a5_2, w_a4]);
-    let c1 = dot_product(&[a0_2, a2, a3, a4], &[a1, w_a7_2, w_a6_2, w_a5_2]);
-    let c2 = dot_product(&[a0_2, a1, a3, a4, a5], &[a2, a1, w_a7_2, w_a6_2, w_a5]);
-    let c3 = dot_product(&[a0_2, a1_2, a4, a5], &[a3, a2, w_a7_2, w_a6_2]);
-    let c4 = dot_product(&[a0_2, a1_2, a2, a5, a6], &[a4, a3, a2, w_a7_2, w_a6]);
-    let c5 = dot_product(&[a0_2, a1_2, a2_2, a6], &[a5, a4, a3, w_a7_2]);
-    let c6 = dot_product(&[a0_2, a1_2, a2_2, a3, a7], &[a6, a5, a4, a3, w_a7]);
-    let c7 = dot_product(&[a0_2, a1_2, a2_2, a3_2], &[a7, a6, a5, a4]);
+    let c0 = A::dot_product(&[a0, a1, a2, a3, a4], &[a0, w_a7_2, w_a6_2, w_a5_2, w_a4]);
+    let c1 = A::dot_product(&[a0_2, a2, a3, a4], &[a1, w_a7_2, w_a6_2, w_a5_2]);
+    let c2 = A::dot_product(&[a0_2, a1, a3, a4, a5], &[a2, a1, w_a7_2, w_a6_2, w_a5]);
+    let c3 = A::dot_product(&[a0_2, a1_2, a4, a5], &[a3, a2, w_a7_2, w_a6_2]);
+    let c4 = A::dot_product(&[a0_2, a1_2, a2, a5, a6], &[a4, a3, a2, w_a7_2, w_a6]);
+    let c5 = A::dot_product(&[a0_2, a1_2, a2_2, a6], &[a5, a4, a3, w_a7_2]);
+    let c6 = A::dot_product(&[a0_2, a1_2, a2_2, a3, a7], &[a6, a5, a4, a3, w_a7]);
+    let c7 = A::dot_product(&[a0_2, a1_2, a2_2, a3_2], &[a7, a6, a5, a4]);
     res.copy_from_slice(&[c0, c1, c2, c3, c4, c5, c6, c7]);
 }

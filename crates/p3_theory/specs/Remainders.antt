@@ -1,4 +1,4 @@
--- The product of values as a remainder.
+-- What is left of a list modulo a monic polynomial: that it is, and that it is the only one.
 use Rattle.std.specs.Prelude.{◌≡◌, ◌≤◌, ℕ, List}
 use Rattle.std.proofs.Common.{zero, suc, arith}
 use Rattle.p3_theory.specs.Ring.{Ring}
