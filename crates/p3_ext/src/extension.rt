@@ -1,7 +1,8 @@
-ghost use Rattle.std.specs.Prelude.{◌≡◌, ◌≤◌, ◌<◌, ℕ, List, length, replicate};
+ghost use Rattle.std.specs.Prelude.{◌≡◌, ◌≤◌, ◌<◌, ◌+◌, ℕ, List, length, replicate};
 ghost use Rattle.p3_theory.specs.Ring.{Ops, Invertible, subtract};
-ghost use Rattle.p3_theory.specs.Polynomial.{IsMonic, quotient_mul, quotient_add, embed, binomial};
+ghost use Rattle.p3_theory.specs.Polynomial.{IsMonic, at, quotient_mul, quotient_add, quotient_ops, embed, binomial};
 ghost use Rattle.p3_theory.specs.Powers.{power};
+ghost use Rattle.p3_theory.specs.Trinomials.{cubic_trinomial, quintic_trinomial};
 ghost use Rattle.p3_theory.specs.FrobeniusTable.{frobenius_list, orbit_list, IsFrobeniusTable};
 ghost use Rattle.p3_theory.specs.Frobenius.{iterate};
 ghost use Rattle.p3_ext.specs.Entries.{entrywise_difference};
@@ -9,11 +10,14 @@ ghost use Rattle.p3_ext.specs.Entries.{entrywise_difference};
 pub mod algebra;
 pub mod basis;
 pub mod binomial_extension;
+pub mod cubic_extension;
 mod binomial_products;
 pub mod display;
 pub mod ext_field;
 pub mod frobenius;
 mod has_frobenius;
+mod power_table;
+pub mod quintic_extension;
 mod vectors;
 
 use ext_field::ExtField;
@@ -39,8 +43,30 @@ impl<F: Copy> sealed::Sealed for Binomial<F> {}
 
 impl<F: Copy> ExtensionShape for Binomial<F> {}
 
+/// The shape `X^3 = X + 1`.
+#[derive(Clone, Copy, Debug, PartialEq, Eq, PartialOrd, Ord, Hash)]
+pub struct CubicTrinomial;
+
+impl sealed::Sealed for CubicTrinomial {}
+
+impl ExtensionShape for CubicTrinomial {}
+
+/// The shape `X^5 = 1 - X^2`.
+#[derive(Clone, Copy, Debug, PartialEq, Eq, PartialOrd, Ord, Hash)]
+pub struct QuinticTrinomial;
+
+impl sealed::Sealed for QuinticTrinomial {}
+
+impl ExtensionShape for QuinticTrinomial {}
+
 /// An extension of F modulo `X^D - W`. Upstream's `BinomialExtensionField`.
 pub type BinomialExtensionField<F, const D: usize, A = F> = ExtField<F, D, Binomial<F>, A>;
+
+/// An extension of F modulo `X^3 - X - 1`. Upstream's `CubicTrinomialExtensionField`.
+pub type CubicTrinomialExtensionField<F, A = F> = ExtField<F, 3, CubicTrinomial, A>;
+
+/// An extension of F modulo `X^5 + X^2 - 1`. Upstream's `QuinticTrinomialExtensionField`.
+pub type QuinticTrinomialExtensionField<F, A = F> = ExtField<F, 5, QuinticTrinomial, A>;
 
 /// The product of coefficient lists alone, under the smallest bounds. `*` of `ExtField` stands on
 /// it; upstream has the product in `ExtensionAlgebra`.
@@ -155,6 +181,61 @@ pub trait BinomiallyExtendable<const D: usize>: Field + ExtensionAlgebra<Self, D
     ghost root_power: { power Self.ops dth_root D ≡ Self.ops.one };
 
     ghost apart: { (k : ℕ) → 1 ≤ k → k < D → Invertible Self.ops (subtract Self.ops (power Self.ops dth_root k) Self.ops.one) };
+}
+
+/// A field with a Frobenius map for its extension of degree 3 by `X^3 = X + 1`. Upstream's
+/// `CubicTrinomialExtendable`.
+pub trait CubicTrinomialExtendable: Field + ExtensionAlgebra<Self, 3, CubicTrinomial> {
+    /// The image of X.
+    ghost image: { List Self };
+
+    /// The coefficients of the chosen element.
+    ghost ext_generator: { ℕ → Self };
+
+    /// The entry in row i and column j of the map's matrix: the coefficient at `X^i` of power j of the
+    /// image of X. Upstream's `FROBENIUS_MATRIX`.
+    fn frobenius_matrix(i: usize, j: usize) -> Self
+        requires row { i < 3 }
+        requires column { j < 3 }
+        ensures { result ≡ at Self.ops (power (quotient_ops Self.ops 3 Self.modulus) image j) i };
+
+    /// The coefficient at `X^i` of a chosen element.
+    fn ext_generator(i: usize) -> Self
+        requires { i < 3 }
+        ensures { result ≡ ext_generator i };
+
+    ghost by_trinomial: { Self.modulus ≡ cubic_trinomial Self.ops };
+
+    /// The map keeps sums and products, fixes the base, is the identity after three times, and leaves
+    /// only base values unchanged.
+    ghost table_laws: { IsFrobeniusTable Self.ops 3 Self.modulus image };
+}
+
+/// A field with a Frobenius map for its extension of degree 5 by `X^5 = 1 - X^2`. Upstream's
+/// `QuinticTrinomialExtendable`.
+pub trait QuinticTrinomialExtendable: Field + ExtensionAlgebra<Self, 5, QuinticTrinomial> {
+    /// The image of X.
+    ghost image: { List Self };
+
+    /// The coefficients of the chosen element.
+    ghost ext_generator: { ℕ → Self };
+
+    /// The coefficient at `X^k` of power i + 1 of the image of X. Upstream's `FROBENIUS_COEFFS`.
+    fn frobenius_coeffs(i: usize, k: usize) -> Self
+        requires power { i < 4 }
+        requires place { k < 5 }
+        ensures { result ≡ at Self.ops (power (quotient_ops Self.ops 5 Self.modulus) image (i + 1)) k };
+
+    /// The coefficient at `X^i` of a chosen element.
+    fn ext_generator(i: usize) -> Self
+        requires { i < 5 }
+        ensures { result ≡ ext_generator i };
+
+    ghost by_trinomial: { Self.modulus ≡ quintic_trinomial Self.ops };
+
+    /// The map keeps sums and products, fixes the base, is the identity after five times, and leaves
+    /// only base values unchanged.
+    ghost table_laws: { IsFrobeniusTable Self.ops 5 Self.modulus image };
 }
 
 /// A field whose extension has a Frobenius map: X becomes its image. It stands for what the

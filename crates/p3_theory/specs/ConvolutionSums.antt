@@ -23,7 +23,7 @@ module _ {A : Type 0} (R : Ring A) where
   sum-last zero s = R.add_comm (s zero) 𝟎
   sum-last (suc n) s = ap (λ v. s zero ⊕ v) (sum-last n (tail R s)) ∙ sym (R.add_assoc _ _ _)
 
-  first-sum : (n : ℕ) (s : ℕ → A) → first_sum 𝟎 R.add n s ≡ sum_of R.ops n s
+  pub first-sum : (n : ℕ) (s : ℕ → A) → first_sum 𝟎 R.add n s ≡ sum_of R.ops n s
   first-sum zero s = refl
   first-sum (suc n) s = ap (λ v. v ⊕ s n) (first-sum n s) ∙ sym (sum-last n s)
 

@@ -55,6 +55,8 @@ pub mod PowerChains
 pub mod HornerFold
 pub mod BaseProduct
 pub mod ScalarSums
+pub mod Trinomials
+pub mod TableImages
 pub mod BinomialSquares
 pub mod CubicNorm
 pub mod CubicProduct
