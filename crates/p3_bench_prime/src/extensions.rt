@@ -1,16 +1,18 @@
 //! The extensions of the bench fields.
 ghost use Rattle.std.specs.Prelude.{◌≡◌, ◌==◌, [], ◌∷◌, if◌then◌else◌, codes, refl};
-ghost use Rattle.std.proofs.Common.{lit≤};
+ghost use Rattle.std.proofs.Common.{lit≤, lit<};
 ghost use Rattle.p3_theory.specs.Polynomial.{quotient_mul, binomial};
 ghost use Rattle.p3_theory.specs.BinomialFrobenius.{binomial_is_monic};
 ghost use Rattle.p3_theory.specs.RootsOfUnity.{root_power, root_apart};
 ghost use Rattle.p3_bench_prime.specs.Elements.{of, ops, is};
 
 use crate::form::{Form, Plain};
+use crate::fp::Fp;
 use crate::small::{F17, M17};
 use p3_field::extension::binomial_extension::{binomial_product, binomial_square};
 use p3_field::extension::{
-    Binomial, BinomialExtensionField, BinomiallyExtendable, ExtensionAlgebra, ExtensionProduct,
+    Binomial, BinomialExtensionField, BinomiallyExtendable, ByteCountFits, ExtensionAlgebra,
+    ExtensionProduct,
 };
 
 /// The extension of `F17` by `X^2 = 3`.
@@ -43,6 +45,10 @@ impl ExtensionAlgebra<F17, 2, Binomial<F17>> for F17 {
     ghost monic = { binomial_is_monic (ops ⟦<Plain<M17> as Form>⟧) 2 (lit≤ tt) (of ⟦<Plain<M17> as Form>⟧ 3) };
 
     ghost ext_products = { λ a b r h. h };
+}
+
+impl<W: Form> ByteCountFits<2> for Fp<W> {
+    ghost fits = { lit< tt };
 }
 
 impl BinomiallyExtendable<2> for F17 {

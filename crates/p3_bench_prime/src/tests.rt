@@ -1,3 +1,4 @@
+mod extension_values;
 mod ring_values;
 mod stream_values;
 mod tool_values;

@@ -8,3 +8,5 @@ pub mod Entries
 pub mod FrobeniusLaws
 pub mod Doublings
 pub mod Orders
+pub mod ValueBytes
+pub mod ValueOrder

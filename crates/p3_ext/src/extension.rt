@@ -10,22 +10,32 @@ ghost use Rattle.p3_ext.specs.Entries.{entrywise_difference};
 pub mod algebra;
 pub mod basis;
 pub mod binomial_extension;
-pub mod cubic_extension;
 mod binomial_products;
+pub mod cubic_extension;
+mod defaults;
 pub mod display;
 pub mod ext_field;
 pub mod frobenius;
 mod has_frobenius;
+mod order;
 mod power_table;
 pub mod quintic_extension;
+mod streams;
 mod vectors;
 
-use ext_field::ExtField;
+pub use binomial_extension::{
+    binomial_mul, binomial_square, octic_mul, quartic_mul, quintic_mul,
+};
+pub use cubic_extension::{cubic_square, trinomial_cubic_mul};
+pub use ext_field::ExtField;
 pub use has_frobenius::HasFrobenius;
 use p3_base::field::Field;
 use p3_base::ring::{Algebra, PrimeCharacteristicRing};
+pub use quintic_extension::{quintic_square, trinomial_quintic_mul};
 use std::marker::PhantomData;
+pub use streams::ByteCountFits;
 use vectors::{add_entries, scale_entries, sub_entries};
+pub use vectors::{vector_add, vector_sub};
 
 mod sealed {
     pub trait Sealed {}

@@ -69,3 +69,4 @@ pub mod QuadraticTower
 pub mod ScaledPowers
 pub mod ParallelStreams
 pub mod ColumnwiseProducts
+pub mod ListOrder

@@ -2,13 +2,14 @@
 use Rattle.std.proofs.Common.{◌≡◌, ◌≢◌, ◌<◌, ◌≤◌, ◌+◌, ◌-◌, ◌*◌, ◌/◌, ◌%◌, ◌^◌, ℕ, zero, suc, List, [], ◌∷◌, ◌++◌, length, take, drop, map, replicate, Option, Some, None, Bool, true, false, refl, ap, ap₂, sym, subst, ◌∙◌, pow-suc, mul-zero, mul_assoc, mul_comm, arith, nat_lt, inl, inr, length-drop, length-append}
 use Rattle.std.proofs.Math.Seq.{drop-nil}
 use Rattle.std.proofs.Math.ListN.{set}
-use Rattle.std.specs.Prelude.{slice_index}
+use Rattle.std.specs.Prelude.{slice_index, get_or}
 use Rattle.std.specs.Int.{sum_through, byte_worth}
 use Rattle.std.specs.Option.{MatchOption}
 use Rattle.std.specs.Iterator.{Yields, AlwaysYields}
-use Rattle.std.proofs.lemmas.List.{drop_all, take_all, length-replicate}
+use Rattle.std.proofs.lemmas.List.{drop_all, take_all, length-replicate, append_assoc, nil_from_length, get_or_append_left, get_or-append-add}
+use Rattle.std.specs.List.{flat_map}
 use Rattle.std.proofs.lemmas.Nat.{mul-le, div-mul-add, div-add-mod'}
-use Rattle.std.proofs.Math.Nat.{mod-lt}
+use Rattle.std.proofs.Math.Nat.{mod-lt, div-lt_iff_lt-mul}
 use Rattle.std.proofs.Math.Nat.{mul-add}
 use Rattle.std.proofs.Math.Decide.{dec_le}
 use mathlib.Core.Logic.{dite}
@@ -354,3 +355,60 @@ from_bytes k bs l =
     let none : drop (suc k) bs ≡ [] = drop_all (suc k) bs (omega (arith, l)) in
     let gone : 256 ^ suc k * little_endian (drop (suc k) bs) ≡ 0 = ap (λ cs. 256 ^ suc k * little_endian cs) none ∙ mul-zero (256 ^ suc k) in
     omega (arith, gone, bytes_through k bs)
+
+-- ---- bytes of elements
+
+-- elements of m bytes each
+pub length-byte_stream : {A : Type 0} (bytes : A → List ℕ) (m : ℕ) → ((x : A) → length (bytes x) ≡ m) → (xs : List A) → length (byte_stream bytes xs) ≡ m * length xs
+length-byte_stream bytes m h [] = let e : 0 ≡ m * 0 = omega arith in e
+length-byte_stream bytes m h (x ∷ xs) =
+    let more : m + m * length xs ≡ m * suc (length xs) = omega arith in
+    length-append (bytes x) (byte_stream bytes xs) ∙ ap₂ (λ a b. a + b) (h x) (length-byte_stream bytes m h xs) ∙ more
+
+byte_in : {A : Type 0} (bytes : A → List ℕ) (m : ℕ) → ((x : A) → length (bytes x) ≡ m) → (xs : List A) (a : A) (q r : ℕ) → q < length xs → r < m
+    → slice_index (bytes (get_or xs q a)) r ≡ slice_index (byte_stream bytes xs) (q * m + r)
+byte_in bytes m h [] a q r l k = absurd (omega arith)
+byte_in bytes m h (x ∷ xs) a zero r l k =
+    let here : r ≡ 0 * m + r = omega arith in
+    let there : r < length (bytes x) = omega (arith, h x, k) in
+    sym (get_or_append_left (bytes x) (byte_stream bytes xs) 0 r there) ∙ ap (slice_index (bytes x ++ byte_stream bytes xs)) here
+byte_in bytes m h (x ∷ xs) a (suc q) r l k =
+    let more : suc q * m ≡ m + q * m = omega arith in
+    let place : length (bytes x) + (q * m + r) ≡ suc q * m + r = omega (arith, more, h x) in
+    byte_in bytes m h xs a q r (omega arith) k
+    ∙ sym (get_or-append-add (bytes x) (byte_stream bytes xs) (q * m + r) 0)
+    ∙ ap (slice_index (bytes x ++ byte_stream bytes xs)) place
+
+-- byte i of elements of m bytes each is byte i % m of element i / m
+pub byte_stream-at : {A : Type 0} (bytes : A → List ℕ) (m : ℕ) → ((x : A) → length (bytes x) ≡ m) → (xs : List A) (a : A) (i : ℕ) → i < m * length xs
+    → slice_index (bytes (get_or xs (i / m) a)) (i % m) ≡ slice_index (byte_stream bytes xs) i
+byte_stream-at bytes m h xs a i l =
+    let some : 0 < m = positive m l in
+    let split : i / m * m + i % m ≡ i = div-add-mod' i m in
+    let place : i / m < length xs = quotient_below some l in
+    byte_in bytes m h xs a (i / m) (i % m) place (mod-lt i some) ∙ ap (slice_index (byte_stream bytes xs)) split
+  where
+    positive : (m : ℕ) → i < m * length xs → 0 < m
+    positive zero l = absurd (omega (arith, l))
+    positive (suc m) l = omega arith
+
+    quotient_below : 0 < m → i < m * length xs → i / m < length xs
+    quotient_below z l = (div-lt_iff_lt-mul z).1 (omega (arith, l, mul_comm m (length xs)))
+
+byte_stream-append : {A : Type 0} (bytes : A → List ℕ) (xs ys : List A) → byte_stream bytes (xs ++ ys) ≡ byte_stream bytes xs ++ byte_stream bytes ys
+byte_stream-append bytes [] ys = refl
+byte_stream-append bytes (x ∷ xs) ys = ap (λ l. bytes x ++ l) (byte_stream-append bytes xs ys) ∙ sym (append_assoc (bytes x) (byte_stream bytes xs) (byte_stream bytes ys))
+
+-- elements that are made of parts: the bytes of all parts, one element after the other
+pub byte_stream-parts : {A B : Type 0} (bytes : B → List ℕ) (parts : A → List B) (xs : List A) → byte_stream (λ x. byte_stream bytes (parts x)) xs ≡ byte_stream bytes (flat_map parts xs)
+byte_stream-parts bytes parts [] = refl
+byte_stream-parts bytes parts (x ∷ xs) = ap (λ l. byte_stream bytes (parts x) ++ l) (byte_stream-parts bytes parts xs) ∙ sym (byte_stream-append bytes (parts x) (flat_map parts xs))
+
+-- calls that take the first of a list that the state has, and answer `None` where it is empty
+pub YieldsExactly-from_list : {T A : Type 0} (turn : T → Option A → T → Type 0) (left : T → List A)
+    → ((s t : T) → turn s None t → length (left s) ≡ 0) → ((s t : T) (y : A) → turn s (Some y) t → left s ≡ y ∷ left t)
+    → (s : T) (zs : List A) → left s ≡ zs → YieldsExactly turn s zs
+YieldsExactly-from_list turn left none some s zs e = YieldsExactly-by_state turn (λ t ys. left t ≡ ys)
+    (λ s t ys l h. sym l ∙ nil_from_length (left s) (none s t h))
+    (λ s t y ys l h. (left t, sym l ∙ some s t y h, refl))
+    s zs e

@@ -1,0 +1,46 @@
+ghost use Rattle.std.specs.Prelude.{◌*◌, ◌<◌, ◌^◌};
+
+use super::ext_field::ExtField;
+use p3_base::streams::{ByteStream, RawDataSerializable};
+use std::array::IntoIter;
+
+/// A base over which the bytes of D coefficients are counted by a `usize`: what an extension of
+/// degree D asks for to be written as bytes. The fact is computed at each base and degree. This
+/// project's own; upstream's constant doesn't compile where it doesn't fit.
+pub trait ByteCountFits<const D: usize>: RawDataSerializable {
+    /// D coefficients make fewer than `2^64` bytes.
+    ghost fits: { Self.NUM_BYTES * D < 2 ^ 64 };
+}
+
+/// The bytes of the coefficients, one coefficient after the other, from the constant one upward.
+/// The streams over many values are the calls of the trait. Upstream's `RawDataSerializable` of its
+/// extension types.
+impl<F: ByteCountFits<D> + Copy, const D: usize, S: Copy> RawDataSerializable
+    for ExtField<F, D, S, F> {
+    ghost use Rattle.p3_theory.specs.Streams.{byte_stream};
+    ghost use Rattle.p3_ext.specs.ValueBytes.{byte_count};
+
+    const NUM_BYTES: usize = F::NUM_BYTES * D;
+
+    ghost NUM_BYTES = { F.NUM_BYTES * D };
+
+    ghost bytes = { λ x. byte_stream F.bytes x.value };
+
+    type Bytes = ByteStream<IntoIter<F, D>, F::Bytes>;
+
+    #[inline]
+    fn into_bytes(self) -> Self::Bytes {
+        let coefficients = self.value.into_iter();
+        F::into_byte_stream(coefficients)
+    }
+
+    /// Byte i of the value, read from its coefficient alone.
+    #[inline]
+    fn byte_at(self, i: usize) -> u8 {
+        let width = F::NUM_BYTES;
+        let coefficient = self.value[i / width];
+        coefficient.byte_at(i % width)
+    }
+
+    ghost num_bytes = { byte_count F.bytes F.num_bytes };
+}
