@@ -10,5 +10,6 @@ pub mod goldilocks;
 mod inverse;
 pub mod koala_bear;
 pub mod small;
+pub mod trinomial_constants;
 #[cfg(test)]
 mod tests;

@@ -57,6 +57,7 @@ pub mod BaseProduct
 pub mod ScalarSums
 pub mod Trinomials
 pub mod TableImages
+pub mod TableEntries
 pub mod BinomialSquares
 pub mod CubicNorm
 pub mod CubicProduct

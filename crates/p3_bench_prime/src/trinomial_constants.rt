@@ -1,0 +1,207 @@
+//! Extensions of `Fp` by `X^3 = X + 1` and `X^5 = 1 - X^2`: from a table of numbers to all laws.
+ghost use Rattle.std.specs.Prelude.{◌≡◌, ◌<◌, ℕ, List, [], get_or};
+ghost use Rattle.p3_theory.specs.FrobeniusTable.{TableProof, matrix_of, coeffs_of};
+ghost use Rattle.p3_theory.specs.Residues.{residues};
+ghost use Rattle.p3_theory.specs.Trinomials.{cubic_trinomial, quintic_trinomial};
+
+use crate::form::Form;
+use crate::fp::Fp;
+use p3_field::extension::{
+    CubicTrinomial, CubicTrinomialExtendable, ExtensionAlgebra, ExtensionProduct, QuinticTrinomial,
+    QuinticTrinomialExtendable, cubic_square, quintic_square, trinomial_cubic_mul,
+    trinomial_quintic_mul,
+};
+
+/// The constants of the extension of `Fp` by `X^3 = X + 1`, as numbers, for the marker of a form. It
+/// stands for what upstream writes in each impl of `CubicTrinomialExtendable`.
+pub trait CubicConstants: Form {
+    /// The image of X.
+    ghost image: { List ℕ };
+
+    /// The powers 0 to 2 of the image of X.
+    ghost powers: { List (List ℕ) };
+
+    /// What leads back from the image of a value less the value to its coefficients past place 0.
+    ghost dual: { List (List ℕ) };
+
+    /// The matrix of the map by rows: column j is power j of the image of X.
+    ghost matrix: { List (List ℕ) };
+
+    /// The coefficients of the chosen element, from X^0 upward.
+    ghost ext_generator: { List ℕ };
+
+    /// The entry of the matrix in row i and column j.
+    fn frobenius_matrix(i: usize, j: usize) -> u32
+        requires row { i < 3 }
+        requires column { j < 3 }
+        ensures { result ≡ get_or (get_or matrix i []) j 0 };
+
+    /// The coefficient at `X^i` of a chosen element.
+    fn ext_generator(i: usize) -> u32
+        requires { i < 3 }
+        ensures { result ≡ get_or ext_generator i 0 };
+
+    /// The equations that the table owes, computed on numbers.
+    ghost table: { TableProof (residues Self.ORDER) 3 (cubic_trinomial (residues Self.ORDER)) image powers dual };
+
+    ghost matrix_of_image: { matrix_of (residues Self.ORDER) 3 (cubic_trinomial (residues Self.ORDER)) image ≡ matrix };
+}
+
+impl<W: CubicConstants> ExtensionProduct<Fp<W>, 3, CubicTrinomial> for Fp<W> {
+    ghost use Rattle.p3_theory.specs.Polynomial.{quotient_mul};
+    ghost use Rattle.p3_bench_prime.specs.Elements.{ops};
+
+    ghost ext_product_gives = { λ a b r. r ≡ quotient_mul (ops W.Form) 3 (cubic_trinomial (ops W.Form)) a b };
+
+    #[inline]
+    fn ext_product(a: &[Self], b: &[Self], res: &mut [Self]) {
+        trinomial_cubic_mul(a, b, res);
+    }
+}
+
+impl<W: CubicConstants> ExtensionAlgebra<Fp<W>, 3, CubicTrinomial> for Fp<W> {
+    ghost use Rattle.std.proofs.Common.{lit≤};
+    ghost use Rattle.p3_theory.specs.Trinomials.{cubic_trinomial_is_monic};
+    ghost use Rattle.p3_bench_prime.specs.Elements.{ops};
+
+    ghost modulus = { cubic_trinomial (ops W.Form) };
+
+    #[inline]
+    fn ext_mul(a: &[Self], b: &[Self], res: &mut [Self]) {
+        trinomial_cubic_mul(a, b, res);
+    }
+
+    #[inline]
+    fn ext_square(a: &[Self], res: &mut [Self]) {
+        cubic_square(a, res);
+    }
+
+    ghost at_least_two = { lit≤ tt };
+
+    ghost monic = { cubic_trinomial_is_monic (ops W.Form) };
+
+    ghost ext_products = { λ a b r h. h };
+}
+
+impl<W: CubicConstants> CubicTrinomialExtendable for Fp<W> {
+    ghost use Rattle.std.specs.Prelude.{map, refl};
+    ghost use Rattle.p3_theory.specs.TableEntries.{table_laws_of, cubic-along};
+    ghost use Rattle.p3_theory.specs.Residues.{of_keeps};
+    ghost use Rattle.p3_theory.specs.Trinomials.{cubic_trinomial_is_monic};
+    ghost use Rattle.p3_bench_prime.specs.Elements.{of, is};
+
+    ghost image = { map (of W.Form) W.CubicConstants.image };
+
+    ghost ext_generator = { λ i. of W.Form (get_or W.ext_generator i 0) };
+
+    #[inline]
+    fn frobenius_matrix(i: usize, j: usize) -> Self {
+        Self::new(W::frobenius_matrix(i, j))
+    }
+
+    #[inline]
+    fn ext_generator(i: usize) -> Self {
+        Self::new(W::ext_generator(i))
+    }
+
+    ghost by_trinomial = { refl };
+
+    ghost table_laws = { table_laws_of (is W.Form) 2 (cubic_trinomial (residues W.ORDER)) W.CubicConstants.image _ (cubic-along (of_keeps (is W.Form))) W.powers W.dual (cubic_trinomial_is_monic (residues W.ORDER)) W.table };
+}
+
+/// The constants of the extension of `Fp` by `X^5 = 1 - X^2`, as numbers, for the marker of a form. It
+/// stands for what upstream writes in each impl of `QuinticTrinomialExtendable`.
+pub trait QuinticConstants: Form {
+    /// The image of X.
+    ghost image: { List ℕ };
+
+    /// The powers 0 to 4 of the image of X.
+    ghost powers: { List (List ℕ) };
+
+    /// What leads back from the image of a value less the value to its coefficients past place 0.
+    ghost dual: { List (List ℕ) };
+
+    /// The powers 1 to 4 of the image of X.
+    ghost coeffs: { List (List ℕ) };
+
+    /// The coefficients of the chosen element, from X^0 upward.
+    ghost ext_generator: { List ℕ };
+
+    /// The coefficient at `X^k` of power i + 1 of the image of X.
+    fn frobenius_coeffs(i: usize, k: usize) -> u32
+        requires power { i < 4 }
+        requires place { k < 5 }
+        ensures { result ≡ get_or (get_or coeffs i []) k 0 };
+
+    /// The coefficient at `X^i` of a chosen element.
+    fn ext_generator(i: usize) -> u32
+        requires { i < 5 }
+        ensures { result ≡ get_or ext_generator i 0 };
+
+    /// The equations that the table owes, computed on numbers.
+    ghost table: { TableProof (residues Self.ORDER) 5 (quintic_trinomial (residues Self.ORDER)) image powers dual };
+
+    ghost coeffs_of_image: { coeffs_of (residues Self.ORDER) 5 (quintic_trinomial (residues Self.ORDER)) image ≡ coeffs };
+}
+
+impl<W: QuinticConstants> ExtensionProduct<Fp<W>, 5, QuinticTrinomial> for Fp<W> {
+    ghost use Rattle.p3_theory.specs.Polynomial.{quotient_mul};
+    ghost use Rattle.p3_bench_prime.specs.Elements.{ops};
+
+    ghost ext_product_gives = { λ a b r. r ≡ quotient_mul (ops W.Form) 5 (quintic_trinomial (ops W.Form)) a b };
+
+    #[inline]
+    fn ext_product(a: &[Self], b: &[Self], res: &mut [Self]) {
+        trinomial_quintic_mul(a, b, res);
+    }
+}
+
+impl<W: QuinticConstants> ExtensionAlgebra<Fp<W>, 5, QuinticTrinomial> for Fp<W> {
+    ghost use Rattle.std.proofs.Common.{lit≤};
+    ghost use Rattle.p3_theory.specs.Trinomials.{quintic_trinomial_is_monic};
+    ghost use Rattle.p3_bench_prime.specs.Elements.{ops};
+
+    ghost modulus = { quintic_trinomial (ops W.Form) };
+
+    #[inline]
+    fn ext_mul(a: &[Self], b: &[Self], res: &mut [Self]) {
+        trinomial_quintic_mul(a, b, res);
+    }
+
+    #[inline]
+    fn ext_square(a: &[Self], res: &mut [Self]) {
+        quintic_square(a, res);
+    }
+
+    ghost at_least_two = { lit≤ tt };
+
+    ghost monic = { quintic_trinomial_is_monic (ops W.Form) };
+
+    ghost ext_products = { λ a b r h. h };
+}
+
+impl<W: QuinticConstants> QuinticTrinomialExtendable for Fp<W> {
+    ghost use Rattle.std.specs.Prelude.{map, refl};
+    ghost use Rattle.p3_theory.specs.TableEntries.{table_laws_of, quintic-along};
+    ghost use Rattle.p3_theory.specs.Residues.{of_keeps};
+    ghost use Rattle.p3_theory.specs.Trinomials.{quintic_trinomial_is_monic};
+    ghost use Rattle.p3_bench_prime.specs.Elements.{of, is};
+
+    ghost image = { map (of W.Form) W.QuinticConstants.image };
+
+    ghost ext_generator = { λ i. of W.Form (get_or W.ext_generator i 0) };
+
+    #[inline]
+    fn frobenius_coeffs(i: usize, k: usize) -> Self {
+        Self::new(W::frobenius_coeffs(i, k))
+    }
+
+    #[inline]
+    fn ext_generator(i: usize) -> Self {
+        Self::new(W::ext_generator(i))
+    }
+
+    ghost by_trinomial = { refl };
+
+    ghost table_laws = { table_laws_of (is W.Form) 4 (quintic_trinomial (residues W.ORDER)) W.QuinticConstants.image _ (quintic-along (of_keeps (is W.Form))) W.powers W.dual (quintic_trinomial_is_monic (residues W.ORDER)) W.table };
+}
