@@ -1,7 +1,6 @@
 -- The Frobenius map of values, their norm, and which of them have an inverse.
-use Rattle.std.specs.Prelude.{◌≡◌, ◌↔◌, ◌<◌, ◌≤◌, ◌-◌, ◌+◌, ◌≢◌, ℕ, List, length, refl, get_or}
-use Rattle.std.proofs.Common.{ap, ap₂, arith, ◌∙◌, sym, zero, suc, subst}
-use Rattle.std.proofs.lemmas.List.{get_or_default}
+use Rattle.std.specs.Prelude.{◌≡◌, ◌↔◌, ◌≤◌, ◌-◌, ◌≢◌, ℕ, List, refl, get_or}
+use Rattle.std.proofs.Common.{ap, arith, ◌∙◌, sym, zero, suc, subst}
 use Rattle.p3_theory.specs.Ring.{Ops, Ring, RingLaws, Invertible}
 use Rattle.p3_theory.specs.Polynomial as P
 use Rattle.p3_theory.specs.Polynomial.{IsMonic}
@@ -14,6 +13,7 @@ use Rattle.p3_theory.specs.OrbitLists.{product-orbit_list}
 use Rattle.p3_theory.specs.FrobeniusTableLaws.{length-frobenius_list}
 use Rattle.p3_theory.specs.FrobeniusNorm as T
 use Rattle.p3_theory.specs.Iteration.{orbit}
+use Rattle.p3_theory.specs.ListInverses.{HasNoInverse}
 use Rattle.p3_ext.specs.Values.{value_of, constant, ext_ops, same_value, ext_laws}
 use Rattle.p3_ext.specs.declared.extension.ext_field.ExtField.{ExtField}
 
@@ -97,25 +97,21 @@ module _ (F S : Type 0) {A : Type 0} (R : Ring A) where
           ∙ ap (λ z. M z (constant R.ops i)) (norm_is D h m L x)
           ∙ constant_mul D h m (norm_of R.ops f phi x) i ∙ ap (constant R.ops) is
 
-      norm-by : (rest whole : ExtField F D S A) (n : A) → rest ≡ conjugate_product R.ops f phi x → whole.value ≡ P.quotient_mul R.ops D f x.value rest.value
-          → n ≡ get_or whole.value 0 n → n ≡ norm_of R.ops f phi x
-      norm-by rest whole n er ew en =
-          en ∙ get_or_default whole.value 0 n R.zero (omega (arith, whole.sized, h))
-          ∙ ap (λ l. get_or l 0 R.zero) (ew ∙ ap (λ (r : ExtField F D S A). P.quotient_mul R.ops D f x.value r.value) er)
+      norm-by : (rest : ExtField F D S A) (n : A) → rest ≡ conjugate_product R.ops f phi x → n ≡ P.at R.ops (P.quotient_mul R.ops D f x.value rest.value) 0
+          → n ≡ norm_of R.ops f phi x
+      norm-by rest n er en = en ∙ ap (λ (r : ExtField F D S A). P.at R.ops (P.quotient_mul R.ops D f x.value r.value) 0) er
 
       -- from the steps of the code
-      pub found_by : (rest whole factor y : ExtField F D S A) (n i : A) → rest ≡ conjugate_product R.ops f phi x → whole.value ≡ P.quotient_mul R.ops D f x.value rest.value
-          → n ≡ get_or whole.value 0 n → R.mul n i ≡ R.one → factor.value ≡ P.embed R.ops D i → y.value ≡ P.quotient_mul R.ops D f rest.value factor.value
-          → (ext_ops R.ops f).mul x y ≡ constant R.ops R.one
-      found_by rest whole factor y n i er ew en ei ef ey =
-          ap ((ext_ops R.ops f).mul x) (same_value y ((ext_ops R.ops f).mul rest factor) ey
-          ∙ ap₂ ((ext_ops R.ops f).mul) er (same_value factor (constant R.ops i) ef))
-          ∙ found i (ap (λ k. R.mul k i) (sym (norm-by rest whole n er ew en)) ∙ ei)
+      pub found_by : (rest y : ExtField F D S A) (n i : A) → rest ≡ conjugate_product R.ops f phi x → n ≡ P.at R.ops (P.quotient_mul R.ops D f x.value rest.value) 0
+          → R.mul n i ≡ R.one → y.value ≡ P.quotient_mul R.ops D f rest.value (P.embed R.ops D i) → (ext_ops R.ops f).mul x y ≡ constant R.ops R.one
+      found_by rest y n i er en ei ey =
+          ap ((ext_ops R.ops f).mul x) (same_value y ((ext_ops R.ops f).mul rest (constant R.ops i)) ey ∙ ap (λ r. (ext_ops R.ops f).mul r (constant R.ops i)) er)
+          ∙ found i (ap (λ k. R.mul k i) (sym (norm-by rest n er en)) ∙ ei)
 
-      pub absent_by : (rest whole : ExtField F D S A) (n : A) → rest ≡ conjugate_product R.ops f phi x → whole.value ≡ P.quotient_mul R.ops D f x.value rest.value
-          → n ≡ get_or whole.value 0 n → ((i : A) → R.mul n i ≢ R.one) → (y : ExtField F D S A) → (ext_ops R.ops f).mul x y ≢ constant R.ops R.one
-      absent_by rest whole n er ew en none y e =
-          let v = norm_decides D h m L x (y, e) in none v.0 (ap (λ k. R.mul k v.0) (norm-by rest whole n er ew en) ∙ v.1)
+      pub absent_by : (rest : ExtField F D S A) (n : A) → rest ≡ conjugate_product R.ops f phi x → n ≡ P.at R.ops (P.quotient_mul R.ops D f x.value rest.value) 0
+          → ((i : A) → R.mul n i ≢ R.one) → (y : ExtField F D S A) → (ext_ops R.ops f).mul x y ≢ constant R.ops R.one
+      absent_by rest n er en none y e =
+          let v = norm_decides D h m L x (y, e) in none v.0 (ap (λ k. R.mul k v.0) (norm-by rest n er en) ∙ v.1)
 
       -- the norm has an inverse exactly where the value has one
       pub norm_exact : Invertible {A = ExtField F D S A} (ext_ops R.ops f) x ↔ Invertible R.ops (norm_of R.ops f phi x)
@@ -147,3 +143,12 @@ pub divided : {F S A : Type 0} {D : ℕ} (o : Ops A) (f : List A) → RingLaws {
 divided {F = F} {S = S} {A = A} {D = D} o f l x y i r p q =
     let M : ExtField F D S A → ExtField F D S A → ExtField F D S A = (ext_ops o f).mul in
     ap (λ z. M z y) p ∙ l.mul_assoc x i y ∙ ap (M x) (l.mul_comm i y ∙ q) ∙ l.mul_one x
+
+-- an inverse as a list is one as a value, and where no list is one no value is
+module _ {F S A : Type 0} {D : ℕ} (o : Ops A) (f : List A) (x : ExtField F D S A) where
+  pub inverse_as_list : (y : ExtField F D S A) (v : List A) → y.value ≡ v → P.quotient_mul o D f x.value v ≡ P.embed o D o.one
+      → (ext_ops o f).mul x y ≡ constant o o.one
+  inverse_as_list y v ey e = same_value _ _ (ap (P.quotient_mul o D f x.value) ey ∙ e)
+
+  pub none_as_list : HasNoInverse o D f x.value → (y : ExtField F D S A) → (ext_ops o f).mul x y ≢ constant o o.one
+  none_as_list none y e = none y.value y.sized (ap (λ (z : ExtField F D S A). z.value) e)

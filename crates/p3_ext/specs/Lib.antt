@@ -10,3 +10,4 @@ pub mod Doublings
 pub mod Orders
 pub mod ValueBytes
 pub mod ValueOrder
+pub mod ConjugateChains

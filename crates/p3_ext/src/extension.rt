@@ -1,6 +1,7 @@
 ghost use Rattle.std.specs.Prelude.{◌≡◌, ◌≤◌, ◌<◌, ◌+◌, ℕ, List, length, replicate};
-ghost use Rattle.p3_theory.specs.Ring.{Ops, Invertible, subtract};
+ghost use Rattle.p3_theory.specs.Ring.{Ops, Invertible, IsInverse, subtract};
 ghost use Rattle.p3_theory.specs.Polynomial.{IsMonic, at, quotient_mul, quotient_add, quotient_ops, embed, binomial};
+ghost use Rattle.p3_theory.specs.ListInverses.{HasNoInverse};
 ghost use Rattle.p3_theory.specs.Powers.{power};
 ghost use Rattle.p3_theory.specs.Trinomials.{cubic_trinomial, quintic_trinomial};
 ghost use Rattle.p3_theory.specs.FrobeniusTable.{frobenius_list, orbit_list, IsFrobeniusTable};
@@ -10,6 +11,7 @@ ghost use Rattle.p3_ext.specs.Entries.{entrywise_difference};
 pub mod algebra;
 pub mod basis;
 pub mod binomial_extension;
+mod binomial_inverses;
 mod binomial_products;
 pub mod cubic_extension;
 mod defaults;
@@ -248,6 +250,18 @@ pub trait QuinticTrinomialExtendable: Field + ExtensionAlgebra<Self, 5, QuinticT
     ghost table_laws: { IsFrobeniusTable Self.ops 5 Self.modulus image };
 }
 
+/// What the fixed formula of a degree says of the inverse of a list of coefficients. This
+/// project's own.
+#[derive(Clone, Copy)]
+pub enum InverseByFormula {
+    /// The degree has no formula.
+    NoFormula,
+    /// There is an inverse, and the formula wrote it.
+    Found,
+    /// There is no inverse.
+    NoInverse,
+}
+
 /// A field whose extension has a Frobenius map: X becomes its image. It stands for what the
 /// shapes share; this project's own.
 pub trait FrobeniusExtendable<const D: usize, S: ExtensionShape>: Field
@@ -285,6 +299,30 @@ pub trait FrobeniusExtendable<const D: usize, S: ExtensionShape>: Field
             value.copy_from_slice(res);
         }
         res.copy_from_slice(&value);
+    }
+
+    /// The constant coefficient of the product of two lists.
+    #[inline]
+    fn constant_of_product(a: &[Self], b: &[Self]) -> Self
+        requires left { length a.now ≡ D }
+        requires right { length b.now ≡ D }
+        ensures { result ≡ at Self.ops (quotient_mul Self.ops D Self.modulus a.now b.now) 0 }
+    {
+        let mut product = [Self::zero(); D];
+        Self::ext_product(a, b, &mut product);
+        product[0]
+    }
+
+    /// The inverse of a list by the fixed formula of the degree, where the shape has one: written
+    /// to `res`, whatever that held.
+    #[inline]
+    fn inverse_by_formula(a: &[Self], res: &mut [Self]) -> InverseByFormula
+        requires input { length a.now ≡ D }
+        requires room { length res.old ≡ D }
+        ensures inverse { result ≡ InverseByFormula.Found → IsInverse (quotient_ops Self.ops D Self.modulus) a.now res.new }
+        ensures none { result ≡ InverseByFormula.NoInverse → HasNoInverse Self.ops D Self.modulus a.now }
+    {
+        InverseByFormula::NoFormula
     }
 
     /// The coefficient at `X^i` of the chosen element, which `generator` of the extension answers.

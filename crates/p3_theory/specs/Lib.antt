@@ -71,3 +71,8 @@ pub mod ScaledPowers
 pub mod ParallelStreams
 pub mod ColumnwiseProducts
 pub mod ListOrder
+pub mod ListInverses
+pub mod QuadraticNorm
+pub mod CubicInverse
+pub mod InversesByHalves
+pub mod Interleaving

@@ -1,9 +1,9 @@
 -- The product modulo X^D - w as the list of its coefficients, each a sum of products.
 use Rattle.std.specs.Prelude.{◌≡◌, ◌≤◌, ◌<◌, ◌+◌, ◌-◌, ℕ, List, [], length, get_or, replicate, refl}
-use Rattle.std.proofs.Common.{arith, ap, ◌∙◌, sym}
+use Rattle.std.proofs.Common.{ap, ◌∙◌, sym}
 use Rattle.std.proofs.lemmas.List.{get_or-replicate}
 use Rattle.p3_theory.specs.Ring.{Ring}
-use Rattle.p3_theory.specs.Polynomial.{tabulate, convolution, quotient_mul, quotient_add, binomial}
+use Rattle.p3_theory.specs.Polynomial.{at, tabulate, convolution, quotient_mul, quotient_add, binomial}
 use Rattle.p3_theory.specs.ConvolutionSums.{first_sum}
 use Rattle.p3_theory.specs.ProductPlaces.{product_place, product_by_places}
 use Rattle.p3_theory.specs.Coefficients.{length-tabulate}
@@ -33,6 +33,12 @@ module _ {A : Type 0} (R : Ring A) where
     where
       s : ℕ → A
       s = product_place R.ops D w a b
+
+  -- so is each of them
+  pub place_of_product : (D : ℕ) → 1 ≤ D → (w : A) (a b : List A) → length a ≡ D → length b ≡ D → (k : ℕ) → k < D
+      → product_place R.ops D w a b k ≡ at R.ops (quotient_mul R.ops D (binomial R.ops D w) a b) k
+  place_of_product D h w a b la lb k lt =
+      sym (get-tabulate D (product_place R.ops D w a b) k R.zero lt) ∙ ap (λ l. at R.ops l k) (product_places D h w a b la lb)
 
   -- a sum of one product or more may begin with the first of them
   pub first_sum-one : (s : ℕ → A) → first_sum R.zero R.add 1 s ≡ s 0

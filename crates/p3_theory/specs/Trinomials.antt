@@ -1,10 +1,8 @@
 -- The products modulo X^3 - X - 1 and X^5 + X^2 - 1, and their Frobenius maps by tables.
-use Rattle.std.proofs.Common.{◌≡◌, ◌<◌, ℕ, List, [], ◌∷◌, length, get_or, refl}
+use Rattle.std.proofs.Common.{◌≡◌, List, [], ◌∷◌, get_or, refl, ap}
 use Rattle.p3_theory.specs.Ring.{Ops, Ring, subtract}
-use Rattle.p3_theory.specs.Polynomial.{IsMonic, at, quotient_mul, quotient_ops}
-use Rattle.p3_theory.specs.Powers.{power}
+use Rattle.p3_theory.specs.Polynomial.{IsMonic, at, quotient_mul}
 use Rattle.p3_theory.specs.DotProduct.{dot}
-use Rattle.p3_theory.specs.FrobeniusTable.{frobenius_list}
 use Rattle.p3_theory.specs.Solver.{Expr, V, free}
 use Rattle.p3_theory.specs.Formula.{by_ring}
 
@@ -90,3 +88,20 @@ module _ {A : Type 0} (R : Ring A) where
   quintic_square a0 a1 a2 a3 a4 =
       let a : List Expr = V 0 ∷ V 1 ∷ V 2 ∷ V 3 ∷ V 4 ∷ [] in
       by_ring R (a0 ∷ a1 ∷ a2 ∷ a3 ∷ a4 ∷ []) (quintic_square_places free (V 0) (V 1) (V 2) (V 3) (V 4)) (quotient_mul free 5 (quintic_trinomial free) a a) refl
+
+  -- the constant coefficients of the products
+  pub cubic_constant : (a0 a1 a2 b0 b1 b2 : A) → R.add (R.mul a0 b0) (dot R.ops (a1 ∷ a2 ∷ []) (b2 ∷ b1 ∷ []))
+      ≡ at R.ops (quotient_mul R.ops 3 (cubic_trinomial R.ops) (a0 ∷ a1 ∷ a2 ∷ []) (b0 ∷ b1 ∷ b2 ∷ [])) 0
+  cubic_constant a0 a1 a2 b0 b1 b2 =
+      let c : List Expr = quotient_mul free 3 (cubic_trinomial free) (V 0 ∷ V 1 ∷ V 2 ∷ []) (V 3 ∷ V 4 ∷ V 5 ∷ []) in
+      ap (λ l. get_or l 0 R.zero) (by_ring R (a0 ∷ a1 ∷ a2 ∷ b0 ∷ b1 ∷ b2 ∷ []) (free.add (free.mul (V 0) (V 3)) (dot free (V 1 ∷ V 2 ∷ []) (V 5 ∷ V 4 ∷ [])) ∷ [])
+      (get_or c 0 free.zero ∷ []) refl)
+
+  pub quintic_constant : (a0 a1 a2 a3 a4 b0 b1 b2 b3 b4 : A)
+      → subtract R.ops (R.add (R.mul a0 b0) (dot R.ops (a1 ∷ a2 ∷ a3 ∷ a4 ∷ []) (b4 ∷ b3 ∷ b2 ∷ b1 ∷ []))) (R.mul a4 b4)
+      ≡ at R.ops (quotient_mul R.ops 5 (quintic_trinomial R.ops) (a0 ∷ a1 ∷ a2 ∷ a3 ∷ a4 ∷ []) (b0 ∷ b1 ∷ b2 ∷ b3 ∷ b4 ∷ [])) 0
+  quintic_constant a0 a1 a2 a3 a4 b0 b1 b2 b3 b4 =
+      let c : List Expr = quotient_mul free 5 (quintic_trinomial free) (V 0 ∷ V 1 ∷ V 2 ∷ V 3 ∷ V 4 ∷ []) (V 5 ∷ V 6 ∷ V 7 ∷ V 8 ∷ V 9 ∷ []) in
+      ap (λ l. get_or l 0 R.zero) (by_ring R (a0 ∷ a1 ∷ a2 ∷ a3 ∷ a4 ∷ b0 ∷ b1 ∷ b2 ∷ b3 ∷ b4 ∷ [])
+      (subtract free (free.add (free.mul (V 0) (V 5)) (dot free (V 1 ∷ V 2 ∷ V 3 ∷ V 4 ∷ []) (V 9 ∷ V 8 ∷ V 7 ∷ V 6 ∷ []))) (free.mul (V 4) (V 9)) ∷ [])
+      (get_or c 0 free.zero ∷ []) refl)

@@ -3,12 +3,15 @@ ghost use Rattle.p3_theory.specs.Polynomial.{quotient_mul, quotient_add, binomia
 ghost use Rattle.p3_theory.specs.Powers.{scale_powers};
 ghost use Rattle.p3_ext.specs.FixedFormulas.{has_fixed_formula};
 
+use super::binomial_inverses::binomial_inv;
 pub use super::binomial_products::{octic_mul, quartic_mul, quintic_mul};
 use super::binomial_products::{
     compute_coefficient, cubic_mul, cubic_square, octic_square, quadratic_mul, quadratic_square,
     quartic_square, quintic_square,
 };
-use super::{Binomial, BinomiallyExtendable, ExtensionAlgebra, FrobeniusExtendable};
+use super::{
+    Binomial, BinomiallyExtendable, ExtensionAlgebra, FrobeniusExtendable, InverseByFormula,
+};
 use p3_base::field::Field;
 use p3_base::ring::{Algebra, PrimeCharacteristicRing};
 
@@ -163,6 +166,16 @@ impl<F: BinomiallyExtendable<D>, const D: usize> FrobeniusExtendable<D, Binomial
     fn apply_repeated_frobenius(a: &[F], count: usize, res: &mut [F]) {
         let root = F::dth_root().exp_u64(count as u64);
         scale_by_powers(a, root, res);
+    }
+
+    #[inline]
+    fn constant_of_product(a: &[F], b: &[F]) -> F {
+        compute_coefficient(a, b, D, 0, F::w())
+    }
+
+    #[inline]
+    fn inverse_by_formula(a: &[F], res: &mut [F]) -> InverseByFormula {
+        binomial_inv::<F, D>(a, res, F::w())
     }
 
     #[inline]

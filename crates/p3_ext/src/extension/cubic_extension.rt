@@ -83,6 +83,15 @@ impl<F: CubicTrinomialExtendable> FrobeniusExtendable<3, CubicTrinomial> for F {
     }
 
     #[inline]
+    fn constant_of_product(a: &[F], b: &[F]) -> F {
+        let (a0, a1, a2) = (a[0], a[1], a[2]);
+        let (b0, b1, b2) = (b[0], b[1], b[2]);
+        let c0 = a0 * b0;
+        let c3 = F::dot_product(&[a1, a2], &[b2, b1]);
+        c0 + c3
+    }
+
+    #[inline]
     fn generator_coefficient(i: usize) -> F {
         F::ext_generator(i)
     }

@@ -5,7 +5,7 @@ ghost use Rattle.p3_ext.specs.Values.{ext_ops};
 ghost use Rattle.p3_ext.specs.Conjugates.{frobenius_map, conjugate_product};
 
 use super::ext_field::ExtField;
-use super::{ExtensionShape, FrobeniusExtendable};
+use super::{ExtensionShape, FrobeniusExtendable, InverseByFormula};
 use p3_base::field::Field;
 use p3_base::ring::PrimeCharacteristicRing;
 use std::ops::{Div, DivAssign};
@@ -21,35 +21,87 @@ impl<F: FrobeniusExtendable<D, S>, const D: usize, S: ExtensionShape> ExtField<F
         ExtField::<F, D, S, F>::new(value)
     }
 
-    /// The product of the images after 1 to D - 1 times.
+    /// The product of the images after 1 to D - 1 times, by D - 2 products.
     #[inline]
     fn conjugates(&self) -> Self
         ensures { result ≡ conjugate_product F.ops F.modulus F.image self.now }
     {
-        let mut image = *self;
-        let mut product = <Self as PrimeCharacteristicRing>::one();
-        for i in 1..D {
-            image = image.frobenius_image();
-            product = product * image;
+        let mut product = self.frobenius_image();
+        for _ in 2..D {
+            let next = product * *self;
+            product = next.frobenius_image();
         }
         product
     }
 
-    /// An inverse, by the norm: the value times its conjugates lies in the base.
+    /// The product of the images after 1 to 4 times, by two products.
+    #[inline]
+    fn quintic_conjugates(&self) -> Self
+        requires { D ≡ 5 }
+        ensures { result ≡ conjugate_product F.ops F.modulus F.image self.now }
+    {
+        let image = self.frobenius_image();
+        let pair = *self * image;
+        let first = pair.frobenius_image();
+        let mut value = first.value;
+        F::apply_repeated_frobenius(&first.value, 2, &mut value);
+        let second = ExtField::<F, D, S, F>::new(value);
+        first * second
+    }
+
+    /// An inverse, from the product of the conjugates: that divided by the norm, which is the
+    /// constant coefficient of the value times its conjugates.
+    #[inline]
+    fn inverse_from(&self, conjugates: Self) -> Option<Self>
+        requires { conjugates ≡ conjugate_product F.ops F.modulus F.image self.now }
+        ensures { MatchOption result ((y : _) → (ext_ops F.ops F.modulus).mul self.now y ≢ (ext_ops F.ops F.modulus).one) (λ y. IsInverse (ext_ops F.ops F.modulus) self.now y) }
+    {
+        let norm = F::constant_of_product(&self.value, &conjugates.value);
+        match norm.try_inverse() {
+            Some(i) => {
+                let mut value = conjugates.value;
+                F::ext_base_mul(&conjugates.value, i, &mut value);
+                let y = ExtField::<F, D, S, F>::new(value);
+                Some(y)
+            }
+            None => None,
+        }
+    }
+
+    /// An inverse, by the norm, at any degree.
     #[inline]
     pub(super) fn inverse_by_norm(&self) -> Option<Self>
         ensures { MatchOption result ((y : _) → (ext_ops F.ops F.modulus).mul self.now y ≢ (ext_ops F.ops F.modulus).one) (λ y. IsInverse (ext_ops F.ops F.modulus) self.now y) }
     {
-        let rest = self.conjugates();
-        let whole = *self * rest;
-        let norm = whole.value[0];
-        match norm.try_inverse() {
-            Some(i) => {
-                let factor = ExtField::<F, D, S, F>::constant(i);
-                let y = rest * factor;
-                Some(y)
+        self.inverse_from(self.conjugates())
+    }
+
+    /// An inverse at degree five. Upstream's `quintic_inv`.
+    #[inline]
+    fn quintic_inv(&self) -> Option<Self>
+        requires { D ≡ 5 }
+        ensures { MatchOption result ((y : _) → (ext_ops F.ops F.modulus).mul self.now y ≢ (ext_ops F.ops F.modulus).one) (λ y. IsInverse (ext_ops F.ops F.modulus) self.now y) }
+    {
+        self.inverse_from(self.quintic_conjugates())
+    }
+
+    /// An inverse, by the fixed formula of the degree where there is one, and by the norm
+    /// elsewhere.
+    #[inline]
+    pub(super) fn exact_inverse(&self) -> Option<Self>
+        ensures { MatchOption result ((y : _) → (ext_ops F.ops F.modulus).mul self.now y ≢ (ext_ops F.ops F.modulus).one) (λ y. IsInverse (ext_ops F.ops F.modulus) self.now y) }
+    {
+        let mut value = self.value;
+        match F::inverse_by_formula(&self.value, &mut value) {
+            InverseByFormula::Found => Some(ExtField::<F, D, S, F>::new(value)),
+            InverseByFormula::NoInverse => None,
+            InverseByFormula::NoFormula => {
+                if D == 5 {
+                    self.quintic_inv()
+                } else {
+                    self.inverse_by_norm()
+                }
             }
-            None => None,
         }
     }
 }
@@ -63,7 +115,7 @@ impl<F: FrobeniusExtendable<D, S>, const D: usize, S: ExtensionShape> Div for Ex
 
     #[inline]
     fn div(self, other: Self) -> Self {
-        self * other.inverse_by_norm().unwrap()
+        self * other.exact_inverse().unwrap()
     }
 }
 
@@ -107,7 +159,7 @@ impl<F: FrobeniusExtendable<D, S>, const D: usize, S: ExtensionShape> Field
 
     #[inline]
     fn try_inverse(&self) -> Option<Self> {
-        self.inverse_by_norm()
+        self.exact_inverse()
     }
 
     #[inline]

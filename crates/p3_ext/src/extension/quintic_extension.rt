@@ -109,6 +109,17 @@ impl<F: QuinticTrinomialExtendable> FrobeniusExtendable<5, QuinticTrinomial> for
     }
 
     #[inline]
+    fn constant_of_product(a: &[F], b: &[F]) -> F {
+        let (a0, a1, a2, a3, a4) = (a[0], a[1], a[2], a[3], a[4]);
+        let (b0, b1, b2, b3, b4) = (b[0], b[1], b[2], b[3], b[4]);
+        let c0 = a0 * b0;
+        let c5 = F::dot_product(&[a1, a2, a3, a4], &[b4, b3, b2, b1]);
+        let c8 = a4 * b4;
+        let sum = c0 + c5;
+        sum - c8
+    }
+
+    #[inline]
     fn generator_coefficient(i: usize) -> F {
         F::ext_generator(i)
     }

@@ -10,4 +10,4 @@ returns g c =
     let f = g.F.ExtensionAlgebra.modulus in
     divided o f (ext_laws (ring_of g.met.F.PrimeCharacteristicRing.ring) g.row.D m.at_least_two f m.monic) c.args.self c.args.other c.unwrap.result c.mul.result
     (same_value c.mul.result ((ext_ops o f).mul c.args.self c.unwrap.result) (m.ext_products _ _ _ c.mul.ensures))
-    (rw c.unwrap.ensures at c.inverse_by_norm.ensures)
+    (rw c.unwrap.ensures at c.exact_inverse.ensures)

@@ -1,0 +1,17 @@
+use Rattle.std.proofs.Common.{◌≡◌, ◌∙◌, List, [], ◌∷◌, ap, ap₂, sym}
+use Rattle.p3_theory.specs.Ring.{ring_of, subtract}
+use Rattle.p3_theory.specs.Polynomial.{at, quotient_mul}
+use Rattle.p3_theory.specs.ListItems.{items_are}
+use Rattle.p3_theory.specs.Trinomials.{cubic_trinomial, cubic_constant}
+use Rattle.p3_ext.proofs.extension.cubic_extension.AnyFrobeniusExtendable3CubicTrinomial.constant_of_product.Goals as goal
+
+pub returns : goal.returns
+returns g c =
+    let o = g.F.PrimeCharacteristicRing.ops in
+    let m = g.met.F.PrimeCharacteristicRing in
+    let a = sym (items_are c.args.a.now (c.index-a-0.result ∷ c.index-a-1.result ∷ c.index-a-2.result ∷ []) c.requires.left (c.index-a-0.is, (c.index-a-1.is, (c.index-a-2.is, tt)))) in
+    let b = sym (items_are c.args.b.now (c.index-b-0.result ∷ c.index-b-1.result ∷ c.index-b-2.result ∷ []) c.requires.right (c.index-b-0.is, (c.index-b-1.is, (c.index-b-2.is, tt)))) in
+    m.adds.answer _ _ _ c.add.ensures ∙ ap₂ o.add (m.muls.answer _ _ _ c.mul-c0.ensures) c.dot_product-c3.ensures
+    ∙ cubic_constant (ring_of m.ring) c.index-a-0.result c.index-a-1.result c.index-a-2.result c.index-b-0.result c.index-b-1.result c.index-b-2.result
+    ∙ (λ i. at o (quotient_mul o 3 (cubic_trinomial o) (a i) (b i)) 0)
+    ∙ ap (λ f. at o (quotient_mul o 3 f c.args.a.now c.args.b.now) 0) (sym g.met.F.CubicTrinomialExtendable.by_trinomial)
