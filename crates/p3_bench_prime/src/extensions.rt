@@ -1,88 +1,423 @@
 //! The extensions of the bench fields.
-ghost use Rattle.std.specs.Prelude.{◌≡◌, ◌==◌, [], ◌∷◌, if◌then◌else◌, codes, refl};
+ghost use Rattle.std.specs.Prelude.{[], ◌∷◌, codes, refl};
 ghost use Rattle.std.proofs.Common.{lit≤, lit<};
-ghost use Rattle.p3_theory.specs.Polynomial.{quotient_mul, binomial};
-ghost use Rattle.p3_theory.specs.BinomialFrobenius.{binomial_is_monic};
-ghost use Rattle.p3_theory.specs.RootsOfUnity.{root_power, root_apart};
-ghost use Rattle.p3_bench_prime.specs.Elements.{of, ops, is};
 
+use crate::baby_bear::{BabyBear, BabyBearModulus};
+use crate::binomial_constants::BinomialConstants;
 use crate::form::{Form, Plain};
 use crate::fp::Fp;
-use crate::small::{F17, M17};
-use p3_field::extension::binomial_extension::{binomial_product, binomial_square};
+use crate::small::{F2, F17, F17b, F31, M2, M15, M17, M17b, M31, Z15};
+use crate::trinomial_constants::{CubicConstants, QuinticConstants};
 use p3_field::extension::{
-    Binomial, BinomialExtensionField, BinomiallyExtendable, ByteCountFits, ExtensionAlgebra,
-    ExtensionProduct,
+    BinomialExtensionField, ByteCountFits, CubicTrinomialExtensionField,
+    QuinticTrinomialExtensionField,
 };
 
 /// The extension of `F17` by `X^2 = 3`.
 pub type F17x2 = BinomialExtensionField<F17, 2>;
 
-impl ExtensionProduct<F17, 2, Binomial<F17>> for F17 {
-    ghost ext_product_gives = { let form = ⟦<Plain<M17> as Form>⟧ in λ a b r. r ≡ quotient_mul (ops form) 2 (binomial (ops form) 2 (of form 3)) a b };
+impl BinomialConstants<2> for Plain<M17> {
+    ghost W = { 3 };
+
+    ghost DTH_ROOT = { 16 };
+
+    ghost inverses = { 8 ∷ [] };
+
+    ghost ext_generator = { 1 ∷ 2 ∷ [] };
+
+    ghost algebra_id = { codes "bench:f17x2" };
+
+    const W: u32 = 3;
+
+    const DTH_ROOT: u32 = 16;
 
     #[inline]
-    fn ext_product(a: &[F17], b: &[F17], res: &mut [F17]) {
-        binomial_product::<F17, F17, 2>(a, b, res, F17::new(3));
+    fn algebra_id() -> &'static str {
+        "bench:f17x2"
     }
-}
-
-impl ExtensionAlgebra<F17, 2, Binomial<F17>> for F17 {
-    ghost modulus = { let form = ⟦<Plain<M17> as Form>⟧ in binomial (ops form) 2 (of form 3) };
 
     #[inline]
-    fn ext_mul(a: &[F17], b: &[F17], res: &mut [F17]) {
-        binomial_product::<F17, F17, 2>(a, b, res, F17::new(3));
-    }
-
-    #[inline]
-    fn ext_square(a: &[F17], res: &mut [F17]) {
-        binomial_square::<F17, F17, 2>(a, res, F17::new(3));
+    fn ext_generator(i: usize) -> u32 {
+        [1, 2][i]
     }
 
     ghost at_least_two = { lit≤ tt };
 
-    ghost monic = { binomial_is_monic (ops ⟦<Plain<M17> as Form>⟧) 2 (lit≤ tt) (of ⟦<Plain<M17> as Form>⟧ 3) };
+    ghost root_of_unity = { refl };
+}
 
-    ghost ext_products = { λ a b r h. h };
+/// The extension of `F17` by `X^4 = 3`.
+pub type F17x4 = BinomialExtensionField<F17, 4>;
+
+impl BinomialConstants<4> for Plain<M17> {
+    ghost W = { 3 };
+
+    ghost DTH_ROOT = { 13 };
+
+    ghost inverses = { 10 ∷ 8 ∷ 6 ∷ [] };
+
+    ghost ext_generator = { 0 ∷ 1 ∷ 0 ∷ 0 ∷ [] };
+
+    ghost algebra_id = { codes "bench:f17x4" };
+
+    const W: u32 = 3;
+
+    const DTH_ROOT: u32 = 13;
+
+    #[inline]
+    fn algebra_id() -> &'static str {
+        "bench:f17x4"
+    }
+
+    #[inline]
+    fn ext_generator(i: usize) -> u32 {
+        [0, 1, 0, 0][i]
+    }
+
+    ghost at_least_two = { lit≤ tt };
+
+    ghost root_of_unity = { refl };
+}
+
+/// The extension of `F17` by `X^8 = 3`.
+pub type F17x8 = BinomialExtensionField<F17, 8>;
+
+impl BinomialConstants<8> for Plain<M17> {
+    ghost W = { 3 };
+
+    ghost DTH_ROOT = { 9 };
+
+    ghost inverses = { 15 ∷ 10 ∷ 11 ∷ 8 ∷ 5 ∷ 6 ∷ 1 ∷ [] };
+
+    ghost ext_generator = { 0 ∷ 1 ∷ 0 ∷ 0 ∷ 0 ∷ 0 ∷ 0 ∷ 0 ∷ [] };
+
+    ghost algebra_id = { codes "bench:f17x8" };
+
+    const W: u32 = 3;
+
+    const DTH_ROOT: u32 = 9;
+
+    #[inline]
+    fn algebra_id() -> &'static str {
+        "bench:f17x8"
+    }
+
+    #[inline]
+    fn ext_generator(i: usize) -> u32 {
+        [0, 1, 0, 0, 0, 0, 0, 0][i]
+    }
+
+    ghost at_least_two = { lit≤ tt };
+
+    ghost root_of_unity = { refl };
+}
+
+/// The extension of `F17b` by `X^2 = 4`. 4 is the square of 2, so values such as `2 + X` have no inverse.
+pub type F17bx2 = BinomialExtensionField<F17b, 2>;
+
+impl BinomialConstants<2> for Plain<M17b> {
+    ghost W = { 4 };
+
+    ghost DTH_ROOT = { 16 };
+
+    ghost inverses = { 8 ∷ [] };
+
+    ghost ext_generator = { 0 ∷ 1 ∷ [] };
+
+    ghost algebra_id = { codes "bench:f17bx2" };
+
+    const W: u32 = 4;
+
+    const DTH_ROOT: u32 = 16;
+
+    #[inline]
+    fn algebra_id() -> &'static str {
+        "bench:f17bx2"
+    }
+
+    #[inline]
+    fn ext_generator(i: usize) -> u32 {
+        [0, 1][i]
+    }
+
+    ghost at_least_two = { lit≤ tt };
+
+    ghost root_of_unity = { refl };
+}
+
+/// The extension of `Z15` by `X^2 = 2`. The order of the base is composite.
+pub type Z15x2 = BinomialExtensionField<Z15, 2>;
+
+impl BinomialConstants<2> for Plain<M15> {
+    ghost W = { 2 };
+
+    ghost DTH_ROOT = { 14 };
+
+    ghost inverses = { 7 ∷ [] };
+
+    ghost ext_generator = { 0 ∷ 1 ∷ [] };
+
+    ghost algebra_id = { codes "bench:z15x2" };
+
+    const W: u32 = 2;
+
+    const DTH_ROOT: u32 = 14;
+
+    #[inline]
+    fn algebra_id() -> &'static str {
+        "bench:z15x2"
+    }
+
+    #[inline]
+    fn ext_generator(i: usize) -> u32 {
+        [0, 1][i]
+    }
+
+    ghost at_least_two = { lit≤ tt };
+
+    ghost root_of_unity = { refl };
+}
+
+/// The extension of `F31` by `X^3 = 3`.
+pub type F31x3 = BinomialExtensionField<F31, 3>;
+
+impl BinomialConstants<3> for Plain<M31> {
+    ghost W = { 3 };
+
+    ghost DTH_ROOT = { 25 };
+
+    ghost inverses = { 22 ∷ 8 ∷ [] };
+
+    ghost ext_generator = { 0 ∷ 1 ∷ 0 ∷ [] };
+
+    ghost algebra_id = { codes "bench:f31x3" };
+
+    const W: u32 = 3;
+
+    const DTH_ROOT: u32 = 25;
+
+    #[inline]
+    fn algebra_id() -> &'static str {
+        "bench:f31x3"
+    }
+
+    #[inline]
+    fn ext_generator(i: usize) -> u32 {
+        [0, 1, 0][i]
+    }
+
+    ghost at_least_two = { lit≤ tt };
+
+    ghost root_of_unity = { refl };
+}
+
+/// The extension of `F31` by `X^5 = 3`.
+pub type F31x5 = BinomialExtensionField<F31, 5>;
+
+impl BinomialConstants<5> for Plain<M31> {
+    ghost W = { 3 };
+
+    ghost DTH_ROOT = { 16 };
+
+    ghost inverses = { 29 ∷ 9 ∷ 21 ∷ 1 ∷ [] };
+
+    ghost ext_generator = { 0 ∷ 1 ∷ 0 ∷ 0 ∷ 0 ∷ [] };
+
+    ghost algebra_id = { codes "bench:f31x5" };
+
+    const W: u32 = 3;
+
+    const DTH_ROOT: u32 = 16;
+
+    #[inline]
+    fn algebra_id() -> &'static str {
+        "bench:f31x5"
+    }
+
+    #[inline]
+    fn ext_generator(i: usize) -> u32 {
+        [0, 1, 0, 0, 0][i]
+    }
+
+    ghost at_least_two = { lit≤ tt };
+
+    ghost root_of_unity = { refl };
+}
+
+/// The extension of `F31` by `X^6 = 3`.
+pub type F31x6 = BinomialExtensionField<F31, 6>;
+
+impl BinomialConstants<6> for Plain<M31> {
+    ghost W = { 3 };
+
+    ghost DTH_ROOT = { 26 };
+
+    ghost inverses = { 5 ∷ 22 ∷ 15 ∷ 8 ∷ 25 ∷ [] };
+
+    ghost ext_generator = { 1 ∷ 0 ∷ 0 ∷ 1 ∷ 0 ∷ 0 ∷ [] };
+
+    ghost algebra_id = { codes "bench:f31x6" };
+
+    const W: u32 = 3;
+
+    const DTH_ROOT: u32 = 26;
+
+    #[inline]
+    fn algebra_id() -> &'static str {
+        "bench:f31x6"
+    }
+
+    #[inline]
+    fn ext_generator(i: usize) -> u32 {
+        [1, 0, 0, 1, 0, 0][i]
+    }
+
+    ghost at_least_two = { lit≤ tt };
+
+    ghost root_of_unity = { refl };
+}
+
+/// The extension of `BabyBear` by `X^4 = 31`.
+pub type BabyBearx4 = BinomialExtensionField<BabyBear, 4>;
+
+impl BinomialConstants<4> for Plain<BabyBearModulus> {
+    ghost W = { 31 };
+
+    ghost DTH_ROOT = { 1728404513 };
+
+    ghost inverses = { 1149063664 ∷ 1006632960 ∷ 864202256 ∷ [] };
+
+    ghost ext_generator = { 0 ∷ 1 ∷ 0 ∷ 0 ∷ [] };
+
+    ghost algebra_id = { codes "bench:bbx4" };
+
+    const W: u32 = 31;
+
+    /// 31 to the power (p - 1) / 4 modulo the order p: the generator of the roots of unity of order 4.
+    const DTH_ROOT: u32 = 1728404513;
+
+    #[inline]
+    fn algebra_id() -> &'static str {
+        "bench:bbx4"
+    }
+
+    #[inline]
+    fn ext_generator(i: usize) -> u32 {
+        [0, 1, 0, 0][i]
+    }
+
+    ghost at_least_two = { lit≤ tt };
+
+    ghost root_of_unity = { refl };
+}
+
+/// The extension of `F31` by `X^3 = X + 1`.
+pub type F31t3 = CubicTrinomialExtensionField<F31>;
+
+impl CubicConstants for Plain<M31> {
+    ghost image = { 27 ∷ 6 ∷ 6 ∷ [] };
+
+    ghost powers = { (1 ∷ 0 ∷ 0 ∷ []) ∷ (27 ∷ 6 ∷ 6 ∷ []) ∷ (26 ∷ 29 ∷ 24 ∷ []) ∷ [] };
+
+    ghost dual = { (30 ∷ 18 ∷ 0 ∷ []) ∷ (13 ∷ 29 ∷ 0 ∷ []) ∷ [] };
+
+    ghost matrix = { (1 ∷ 27 ∷ 26 ∷ []) ∷ (0 ∷ 6 ∷ 29 ∷ []) ∷ (0 ∷ 6 ∷ 24 ∷ []) ∷ [] };
+
+    ghost ext_generator = { 3 ∷ 0 ∷ 0 ∷ [] };
+
+    #[inline]
+    fn frobenius_matrix(i: usize, j: usize) -> u32 {
+        [[1, 27, 26], [0, 6, 29], [0, 6, 24]][i][j]
+    }
+
+    #[inline]
+    fn ext_generator(i: usize) -> u32 {
+        [3, 0, 0][i]
+    }
+
+    ghost table = { record { width = refl; rows = refl; root = refl; order = refl; apart = refl } };
+
+    ghost matrix_of_image = { refl };
+}
+
+/// The extension of `F17` by `X^5 = 1 - X^2`.
+pub type F17t5 = QuinticTrinomialExtensionField<F17>;
+
+impl QuinticConstants for Plain<M17> {
+    ghost image = { 1 ∷ 3 ∷ 0 ∷ 13 ∷ 14 ∷ [] };
+
+    ghost powers = { (1 ∷ 0 ∷ 0 ∷ 0 ∷ 0 ∷ []) ∷ (1 ∷ 3 ∷ 0 ∷ 13 ∷ 14 ∷ []) ∷ (8 ∷ 5 ∷ 9 ∷ 2 ∷ 14 ∷ []) ∷ (7 ∷ 11 ∷ 14 ∷ 7 ∷ 4 ∷ []) ∷ (10 ∷ 13 ∷ 7 ∷ 11 ∷ 14 ∷ []) ∷ [] };
+
+    ghost dual = { (0 ∷ 14 ∷ 1 ∷ 0 ∷ 9 ∷ []) ∷ (2 ∷ 12 ∷ 13 ∷ 0 ∷ 3 ∷ []) ∷ (5 ∷ 8 ∷ 16 ∷ 0 ∷ 7 ∷ []) ∷ (12 ∷ 14 ∷ 14 ∷ 0 ∷ 2 ∷ []) ∷ [] };
+
+    ghost coeffs = { (1 ∷ 3 ∷ 0 ∷ 13 ∷ 14 ∷ []) ∷ (8 ∷ 5 ∷ 9 ∷ 2 ∷ 14 ∷ []) ∷ (7 ∷ 11 ∷ 14 ∷ 7 ∷ 4 ∷ []) ∷ (10 ∷ 13 ∷ 7 ∷ 11 ∷ 14 ∷ []) ∷ [] };
+
+    ghost ext_generator = { 3 ∷ 0 ∷ 0 ∷ 0 ∷ 0 ∷ [] };
+
+    #[inline]
+    fn frobenius_coeffs(i: usize, k: usize) -> u32 {
+        [[1, 3, 0, 13, 14], [8, 5, 9, 2, 14], [7, 11, 14, 7, 4], [10, 13, 7, 11, 14]][i][k]
+    }
+
+    #[inline]
+    fn ext_generator(i: usize) -> u32 {
+        [3, 0, 0, 0, 0][i]
+    }
+
+    ghost table = { record { width = refl; rows = refl; root = refl; order = refl; apart = refl } };
+
+    ghost coeffs_of_image = { refl };
+}
+
+/// The extension of `F2` by `X^5 = 1 - X^2`.
+pub type F2t5 = QuinticTrinomialExtensionField<F2>;
+
+impl QuinticConstants for Plain<M2> {
+    ghost image = { 0 ∷ 0 ∷ 1 ∷ 0 ∷ 0 ∷ [] };
+
+    ghost powers = { (1 ∷ 0 ∷ 0 ∷ 0 ∷ 0 ∷ []) ∷ (0 ∷ 0 ∷ 1 ∷ 0 ∷ 0 ∷ []) ∷ (0 ∷ 0 ∷ 0 ∷ 0 ∷ 1 ∷ []) ∷ (0 ∷ 1 ∷ 0 ∷ 1 ∷ 0 ∷ []) ∷ (1 ∷ 0 ∷ 1 ∷ 1 ∷ 0 ∷ []) ∷ [] };
+
+    ghost dual = { (0 ∷ 0 ∷ 1 ∷ 0 ∷ 1 ∷ []) ∷ (1 ∷ 0 ∷ 0 ∷ 0 ∷ 1 ∷ []) ∷ (0 ∷ 1 ∷ 1 ∷ 0 ∷ 1 ∷ []) ∷ (1 ∷ 0 ∷ 0 ∷ 0 ∷ 0 ∷ []) ∷ [] };
+
+    ghost coeffs = { (0 ∷ 0 ∷ 1 ∷ 0 ∷ 0 ∷ []) ∷ (0 ∷ 0 ∷ 0 ∷ 0 ∷ 1 ∷ []) ∷ (0 ∷ 1 ∷ 0 ∷ 1 ∷ 0 ∷ []) ∷ (1 ∷ 0 ∷ 1 ∷ 1 ∷ 0 ∷ []) ∷ [] };
+
+    ghost ext_generator = { 0 ∷ 1 ∷ 0 ∷ 0 ∷ 0 ∷ [] };
+
+    #[inline]
+    fn frobenius_coeffs(i: usize, k: usize) -> u32 {
+        [[0, 0, 1, 0, 0], [0, 0, 0, 0, 1], [0, 1, 0, 1, 0], [1, 0, 1, 1, 0]][i][k]
+    }
+
+    #[inline]
+    fn ext_generator(i: usize) -> u32 {
+        [0, 1, 0, 0, 0][i]
+    }
+
+    ghost table = { record { width = refl; rows = refl; root = refl; order = refl; apart = refl } };
+
+    ghost coeffs_of_image = { refl };
 }
 
 impl<W: Form> ByteCountFits<2> for Fp<W> {
     ghost fits = { lit< tt };
 }
 
-impl BinomiallyExtendable<2> for F17 {
-    ghost w = { of ⟦<Plain<M17> as Form>⟧ 3 };
+impl<W: Form> ByteCountFits<3> for Fp<W> {
+    ghost fits = { lit< tt };
+}
 
-    ghost dth_root = { of ⟦<Plain<M17> as Form>⟧ 16 };
+impl<W: Form> ByteCountFits<4> for Fp<W> {
+    ghost fits = { lit< tt };
+}
 
-    ghost ext_generator = { λ i. of ⟦<Plain<M17> as Form>⟧ (if i == 0 then 1 else 2) };
+impl<W: Form> ByteCountFits<5> for Fp<W> {
+    ghost fits = { lit< tt };
+}
 
-    ghost binomial_algebra_id = { codes "bench:f17x2" };
+impl<W: Form> ByteCountFits<6> for Fp<W> {
+    ghost fits = { lit< tt };
+}
 
-    #[inline]
-    fn binomial_algebra_id() -> &'static str {
-        "bench:f17x2"
-    }
-
-    #[inline]
-    fn w() -> F17 {
-        F17::new(3)
-    }
-
-    #[inline]
-    fn dth_root() -> F17 {
-        F17::new(16)
-    }
-
-    #[inline]
-    fn ext_generator(i: usize) -> F17 {
-        if i == 0 { F17::new(1) } else { F17::new(2) }
-    }
-
-    ghost by_w = { refl };
-
-    ghost root_power = { root_power (is ⟦<Plain<M17> as Form>⟧) 2 16 (8 ∷ []) refl };
-
-    ghost apart = { root_apart (is ⟦<Plain<M17> as Form>⟧) 2 16 (8 ∷ []) refl };
+impl<W: Form> ByteCountFits<8> for Fp<W> {
+    ghost fits = { lit< tt };
 }

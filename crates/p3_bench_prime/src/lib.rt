@@ -3,6 +3,7 @@
 #![tactic(auto)]
 
 pub mod baby_bear;
+pub mod binomial_constants;
 pub mod extensions;
 pub mod form;
 pub mod fp;

@@ -1,4 +1,8 @@
+mod extension_constants;
+mod extension_rows;
+mod extension_tables;
 mod extension_values;
+mod extensions;
 mod ring_values;
 mod stream_values;
 mod tool_values;

@@ -2,7 +2,9 @@
 
 use crate::registers::Registers;
 use p3_bench_prime::baby_bear::BabyBear;
-use p3_bench_prime::extensions::F17x2;
+use p3_bench_prime::extensions::{
+    BabyBearx4, F2t5, F17bx2, F17t5, F17x2, F17x4, F17x8, F31t3, F31x3, F31x5, F31x6, Z15x2,
+};
 use p3_bench_prime::goldilocks::Goldilocks;
 use p3_bench_prime::koala_bear::KoalaBear;
 use p3_bench_prime::small::{F2, F17, F17b, F31, Z15};
@@ -21,4 +23,15 @@ pub enum Bank {
     KoalaBear(Registers<KoalaBear>),
     Goldilocks(Registers<Goldilocks>),
     F17x2(Registers<F17x2>),
+    F17x4(Registers<F17x4>),
+    F17x8(Registers<F17x8>),
+    F17bx2(Registers<F17bx2>),
+    Z15x2(Registers<Z15x2>),
+    F31x3(Registers<F31x3>),
+    F31x5(Registers<F31x5>),
+    F31x6(Registers<F31x6>),
+    BabyBearx4(Registers<BabyBearx4>),
+    F31t3(Registers<F31t3>),
+    F17t5(Registers<F17t5>),
+    F2t5(Registers<F2t5>),
 }

@@ -24,6 +24,7 @@ mod step;
 mod streams;
 #[cfg(test)]
 mod tests;
+mod trinomial_names;
 mod words;
 
 pub use memory::{MemSink, MemSource};

@@ -1,4 +1,4 @@
-//! The extensions that have a name in the calculator.
+//! The extensions of `Fp` by `X^D = W` that have a name in the calculator.
 ghost use Rattle.std.specs.Prelude.{◌≡◌, string_bytes, IfOk};
 ghost use Rattle.p3_theory.specs.Polynomial.{binomial};
 ghost use Rattle.p3_theory.specs.Powers.{power};
@@ -8,42 +8,44 @@ ghost use Rattle.p3_field_bench.specs.Display.{canonical_text};
 ghost use Rattle.p3_field_bench.specs.Representation.{InverseOrNone};
 
 use crate::field::Extended;
-use p3_bench_prime::extensions::F17x2;
-use p3_bench_prime::form::{Form, Plain};
-use p3_bench_prime::small::{F17, M17};
-use p3_field::extension::Binomial;
+use p3_bench_prime::binomial_constants::BinomialConstants;
+use p3_bench_prime::fp::Fp;
+use p3_field::extension::{Binomial, BinomialExtensionField};
 use p3_field::{Field, PrimeCharacteristicRing};
 use std::alloc::{AllocError, Allocator};
 
-impl Extended<2, Binomial<F17>> for F17 {
-    ghost modulus = { let form = ⟦<Plain<M17> as Form>⟧ in binomial (ops form) 2 (of form 3) };
+impl<W: BinomialConstants<D>, const D: usize> Extended<D, Binomial<Fp<W>>> for Fp<W> {
+    ghost modulus = { binomial (ops W.Form) D (of W.Form W.W) };
 
-    fn squared(x: F17x2) -> F17x2
-        ensures { result ≡ ⟦<F17x2 as PrimeCharacteristicRing>⟧.ops.mul x x }
+    fn squared(x: BinomialExtensionField<Fp<W>, D>) -> BinomialExtensionField<Fp<W>, D>
+        ensures { result ≡ (ext_ops (ops W.Form) (binomial (ops W.Form) D (of W.Form W.W))).mul x x }
     {
         x.square()
     }
 
-    fn doubled(x: F17x2) -> F17x2
-        ensures { result ≡ ⟦<F17x2 as PrimeCharacteristicRing>⟧.ops.add x x }
+    fn doubled(x: BinomialExtensionField<Fp<W>, D>) -> BinomialExtensionField<Fp<W>, D>
+        ensures { result ≡ (ext_ops (ops W.Form) (binomial (ops W.Form) D (of W.Form W.W))).add x x }
     {
         x.double()
     }
 
-    fn power(x: F17x2, exponent: u64) -> F17x2
-        ensures { result ≡ power ⟦<F17x2 as PrimeCharacteristicRing>⟧.ops x exponent }
+    fn power(x: BinomialExtensionField<Fp<W>, D>, exponent: u64) -> BinomialExtensionField<Fp<W>, D>
+        ensures { result ≡ power (ext_ops (ops W.Form) (binomial (ops W.Form) D (of W.Form W.W))) x exponent }
     {
         x.exp_u64(exponent)
     }
 
-    fn inverse(x: F17x2) -> Option<F17x2>
-        ensures { let form = ⟦<Plain<M17> as Form>⟧ in InverseOrNone (ext_ops (ops form) (binomial (ops form) 2 (of form 3))) x result }
+    fn inverse(x: BinomialExtensionField<Fp<W>, D>) -> Option<BinomialExtensionField<Fp<W>, D>>
+        ensures { InverseOrNone (ext_ops (ops W.Form) (binomial (ops W.Form) D (of W.Form W.W))) x result }
     {
         x.try_inverse()
     }
 
-    fn text<A: Allocator + Copy>(x: F17x2, alloc: A) -> Result<String<A>, AllocError>
-        ensures { IfOk result (λ text. string_bytes text ≡ canonical_text (canon ⟦<Plain<M17> as Form>⟧) x.value) }
+    fn text<A: Allocator + Copy>(
+        x: BinomialExtensionField<Fp<W>, D>,
+        alloc: A,
+    ) -> Result<String<A>, AllocError>
+        ensures { IfOk result (λ text. string_bytes text ≡ canonical_text (canon W.Form) x.value) }
     {
         x.to_string(alloc)
     }

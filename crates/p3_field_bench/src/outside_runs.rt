@@ -2,9 +2,12 @@
 //! rules; their texts and statuses were made with the original Rust crate over the same fields, and
 //! checked against a second program that works from the definitions of the operations alone.
 
+mod vector_runs;
+
 use crate::{MemSink, MemSource, engine};
 use std::process::Abort;
 use std::test::Fail;
+use vector_runs::{EDGES, FAULTS, VALUES};
 
 /// Runs the input, and compares the text and the status.
 fn assert_run(
@@ -19,6 +22,34 @@ fn assert_run(
     assert_eq!(rt; answer, status, "{input}");
     assert_eq!(rt; sink.text(), text.as_bytes(), "{input}");
     Ok(())
+}
+
+/// Runs each row's input, and compares the text and the status.
+fn assert_runs(rt: &(impl Abort + AllocGlobal), rows: &[(&[u8], &str, u8)]) -> Result<(), Fail> {
+    for row in rows {
+        let (input, text, status) = *row;
+        let mut source = MemSource::new(input.to_vec(rt.alloc())?, 100, None);
+        let mut sink = MemSink::new(rt.alloc(), 2000, true)?;
+        let answer = engine(rt.alloc(), &mut source, &mut sink);
+        assert_eq!(rt; answer, status, "{text}");
+        assert_eq!(rt; sink.text(), text.as_bytes(), "{text}");
+    }
+    Ok(())
+}
+
+#[test]
+fn runs_at_the_edges(rt: HostRuntime) -> Result<(), Fail> {
+    assert_runs(&rt, &EDGES)
+}
+
+#[test]
+fn runs_with_faults(rt: HostRuntime) -> Result<(), Fail> {
+    assert_runs(&rt, &FAULTS)
+}
+
+#[test]
+fn runs_that_compute(rt: HostRuntime) -> Result<(), Fail> {
+    assert_runs(&rt, &VALUES)
 }
 
 #[test]

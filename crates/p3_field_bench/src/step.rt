@@ -18,15 +18,26 @@ fn open(name: &[u8]) -> Option<Bank>
     ensures { opened result ≡ chosen (field_named name.now) }
 {
     match name {
-        b"f2" => Some(Bank::F2(Registers::zero())),
-        b"f17" => Some(Bank::F17(Registers::zero())),
-        b"f17b" => Some(Bank::F17b(Registers::zero())),
-        b"f31" => Some(Bank::F31(Registers::zero())),
-        b"z15" => Some(Bank::Z15(Registers::zero())),
-        b"bb" => Some(Bank::BabyBear(Registers::zero())),
-        b"kb" => Some(Bank::KoalaBear(Registers::zero())),
-        b"gl" => Some(Bank::Goldilocks(Registers::zero())),
-        b"f17x2" => Some(Bank::F17x2(Registers::zero())),
+        _ if name == b"f2".as_slice() => Some(Bank::F2(Registers::zero())),
+        _ if name == b"f17".as_slice() => Some(Bank::F17(Registers::zero())),
+        _ if name == b"f17b".as_slice() => Some(Bank::F17b(Registers::zero())),
+        _ if name == b"f31".as_slice() => Some(Bank::F31(Registers::zero())),
+        _ if name == b"z15".as_slice() => Some(Bank::Z15(Registers::zero())),
+        _ if name == b"bb".as_slice() => Some(Bank::BabyBear(Registers::zero())),
+        _ if name == b"kb".as_slice() => Some(Bank::KoalaBear(Registers::zero())),
+        _ if name == b"gl".as_slice() => Some(Bank::Goldilocks(Registers::zero())),
+        _ if name == b"f17x2".as_slice() => Some(Bank::F17x2(Registers::zero())),
+        _ if name == b"f17x4".as_slice() => Some(Bank::F17x4(Registers::zero())),
+        _ if name == b"f17x8".as_slice() => Some(Bank::F17x8(Registers::zero())),
+        _ if name == b"f17bx2".as_slice() => Some(Bank::F17bx2(Registers::zero())),
+        _ if name == b"z15x2".as_slice() => Some(Bank::Z15x2(Registers::zero())),
+        _ if name == b"f31x3".as_slice() => Some(Bank::F31x3(Registers::zero())),
+        _ if name == b"f31x5".as_slice() => Some(Bank::F31x5(Registers::zero())),
+        _ if name == b"f31x6".as_slice() => Some(Bank::F31x6(Registers::zero())),
+        _ if name == b"bbx4".as_slice() => Some(Bank::BabyBearx4(Registers::zero())),
+        _ if name == b"f31t3".as_slice() => Some(Bank::F31t3(Registers::zero())),
+        _ if name == b"f17t5".as_slice() => Some(Bank::F17t5(Registers::zero())),
+        _ if name == b"f2t5".as_slice() => Some(Bank::F2t5(Registers::zero())),
         _ => None,
     }
 }
@@ -65,6 +76,17 @@ fn act_at<A: Allocator + Copy>(
         Bank::KoalaBear(regs) => act(alloc, operation, regs, args),
         Bank::Goldilocks(regs) => act(alloc, operation, regs, args),
         Bank::F17x2(regs) => act(alloc, operation, regs, args),
+        Bank::F17x4(regs) => act(alloc, operation, regs, args),
+        Bank::F17x8(regs) => act(alloc, operation, regs, args),
+        Bank::F17bx2(regs) => act(alloc, operation, regs, args),
+        Bank::Z15x2(regs) => act(alloc, operation, regs, args),
+        Bank::F31x3(regs) => act(alloc, operation, regs, args),
+        Bank::F31x5(regs) => act(alloc, operation, regs, args),
+        Bank::F31x6(regs) => act(alloc, operation, regs, args),
+        Bank::BabyBearx4(regs) => act(alloc, operation, regs, args),
+        Bank::F31t3(regs) => act(alloc, operation, regs, args),
+        Bank::F17t5(regs) => act(alloc, operation, regs, args),
+        Bank::F2t5(regs) => act(alloc, operation, regs, args),
     }
 }
 

@@ -1,5 +1,6 @@
 //! Runs of the calculator, over sources and sinks in memory.
 
+mod extensions;
 mod growths;
 
 use crate::refusing::Refusing;

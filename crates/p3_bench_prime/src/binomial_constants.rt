@@ -1,0 +1,127 @@
+//! Extensions of `Fp` by `X^D = W`: from W, a root of unity and the chosen element to all laws.
+ghost use Rattle.std.specs.Prelude.{◌≡◌, ◌<◌, ◌≤◌, ℕ, List, true, get_or};
+ghost use Rattle.p3_theory.specs.RootsOfUnity.{is_root_of_unity};
+
+use crate::form::Form;
+use crate::fp::Fp;
+use p3_field::extension::binomial_extension::{binomial_product, binomial_square};
+use p3_field::extension::{Binomial, BinomiallyExtendable, ExtensionAlgebra, ExtensionProduct};
+
+/// The constants of the extension of `Fp` by `X^D = W`, as numbers, for the marker of a form. It
+/// stands for what upstream writes in each impl of `BinomiallyExtendable`.
+pub trait BinomialConstants<const D: usize>: Form {
+    ghost W: { ℕ };
+
+    ghost DTH_ROOT: { ℕ };
+
+    /// The inverses of the powers 1 to D - 1 of the root, each less one.
+    ghost inverses: { List ℕ };
+
+    /// The coefficients of the chosen element, from X^0 upward.
+    ghost ext_generator: { List ℕ };
+
+    /// The bytes of the name of the extension as an algebra.
+    ghost algebra_id: { List ℕ };
+
+    /// The W of `X^D = W`.
+    const W: u32;
+
+    /// A root of unity of order D.
+    const DTH_ROOT: u32;
+
+    /// The name of the extension as an algebra.
+    fn algebra_id() -> &'static str
+        ensures { result.now ≡ algebra_id };
+
+    /// The coefficient at `X^i` of a chosen element whose order has the full power of two. Upstream's
+    /// `EXT_GENERATOR`.
+    fn ext_generator(i: usize) -> u32
+        requires { i < D }
+        ensures { result ≡ get_or ext_generator i 0 };
+
+    /// The degree is two or more.
+    ghost at_least_two: { 2 ≤ D };
+
+    /// The power D of the root is one, and the powers 1 to D - 1, each less one, have the inverses
+    /// listed.
+    ghost root_of_unity: { is_root_of_unity Self.ORDER D DTH_ROOT inverses ≡ true };
+}
+
+impl<W: BinomialConstants<D>, const D: usize> ExtensionProduct<Fp<W>, D, Binomial<Fp<W>>>
+    for Fp<W> {
+    ghost use Rattle.p3_theory.specs.Polynomial.{quotient_mul, binomial};
+    ghost use Rattle.p3_bench_prime.specs.Elements.{of, ops};
+
+    ghost ext_product_gives = { λ a b r. r ≡ quotient_mul (ops W.Form) D (binomial (ops W.Form) D (of W.Form W.W)) a b };
+
+    #[inline]
+    fn ext_product(a: &[Self], b: &[Self], res: &mut [Self]) {
+        binomial_product::<Self, Self, D>(a, b, res, Self::new(W::W));
+    }
+}
+
+impl<W: BinomialConstants<D>, const D: usize> ExtensionAlgebra<Fp<W>, D, Binomial<Fp<W>>>
+    for Fp<W> {
+    ghost use Rattle.std.proofs.Common.{arith};
+    ghost use Rattle.p3_theory.specs.Polynomial.{binomial};
+    ghost use Rattle.p3_theory.specs.BinomialFrobenius.{binomial_is_monic};
+    ghost use Rattle.p3_bench_prime.specs.Elements.{of, ops};
+
+    ghost modulus = { binomial (ops W.Form) D (of W.Form W.W) };
+
+    #[inline]
+    fn ext_mul(a: &[Self], b: &[Self], res: &mut [Self]) {
+        binomial_product::<Self, Self, D>(a, b, res, Self::new(W::W));
+    }
+
+    #[inline]
+    fn ext_square(a: &[Self], res: &mut [Self]) {
+        binomial_square::<Self, Self, D>(a, res, Self::new(W::W));
+    }
+
+    ghost at_least_two = { W.at_least_two };
+
+    ghost monic = { binomial_is_monic (ops W.Form) D (omega (arith, W.at_least_two)) (of W.Form W.W) };
+
+    ghost ext_products = { λ a b r h. h };
+}
+
+impl<W: BinomialConstants<D>, const D: usize> BinomiallyExtendable<D> for Fp<W> {
+    ghost use Rattle.std.specs.Prelude.{refl};
+    ghost use Rattle.p3_theory.specs.RootsOfUnity.{root_power, root_apart};
+    ghost use Rattle.p3_bench_prime.specs.Elements.{of, is};
+
+    ghost w = { of W.Form W.W };
+
+    ghost dth_root = { of W.Form W.DTH_ROOT };
+
+    ghost ext_generator = { λ i. of W.Form (get_or W.ext_generator i 0) };
+
+    ghost binomial_algebra_id = { W.algebra_id };
+
+    #[inline]
+    fn binomial_algebra_id() -> &'static str {
+        W::algebra_id()
+    }
+
+    #[inline]
+    fn w() -> Self {
+        Self::new(W::W)
+    }
+
+    #[inline]
+    fn dth_root() -> Self {
+        Self::new(W::DTH_ROOT)
+    }
+
+    #[inline]
+    fn ext_generator(i: usize) -> Self {
+        Self::new(W::ext_generator(i))
+    }
+
+    ghost by_w = { refl };
+
+    ghost root_power = { root_power (is W.Form) D W.DTH_ROOT W.inverses W.root_of_unity };
+
+    ghost apart = { root_apart (is W.Form) D W.DTH_ROOT W.inverses W.root_of_unity };
+}
