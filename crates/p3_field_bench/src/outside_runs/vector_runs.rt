@@ -293,7 +293,7 @@ pub static FAULTS: [(&[u8], &str, u8); 43] = [
 ];
 
 /// Runs that compute, with the text and the status.
-pub static VALUES: [(&[u8], &str, u8); 16] = [
+pub static VALUES: [(&[u8], &str, u8); 19] = [
     (
         b"field f17x8\nput 0 0 0 0 0 0 0 0 0\nshow 0\nput 0 2 0 0 0 0 0 0 0\nshow 0\n\
         put 0 0 2 0 0 0 0 0 0\nshow 0\nput 0 1 2 0 0 0 0 0 0\nshow 0\nput 0 0 0 2 0 0 0 0 0\n\
@@ -591,5 +591,34 @@ pub static VALUES: [(&[u8], &str, u8); 16] = [
         b"field z15\nput 0 2\ninv 1 0\nshow 1\nmul 1 1 0\nshow 1\n",
         "8\n1\n",
         0,
+    ),
+    (
+        b"field f17t5\nput 00 12 3 1 3 3\nput 1 01 5 000 16 012\nput 2 16 05 16 9 0\n\
+        show 4\n  show 15\n sq  2 13\nput 9 9 12 7 1 16\n dbl   6 5\n\
+        put 1 9 16 16 1 0\n  sub  12  14  13\ndbl 5 10\nshow 2\n\
+        put 2 009 1 16 16 0\nshow  01  \nadd 2 10 12\npow 7 12 16\nshow 13\n  \n\
+        dbl 10 8\n neg   5   6\nmul 07 9 11\nshow 3\nshow 4\nshow 5\nsq 12 14\n\
+        \x20sub   15   2  10\n   \nmul 4 15 7\nsq 5 2\nsub   13   5   4  \n\
+        pow 01 14 3792821456\nshow 5\n  dbl   9  13 \nshow 9\npow 1 6 17\n\
+        add 8   13  13\nput 15 16 15 9 5 6\ndbl  01 12 \ndbl 15 11\nneg 05 12\n\
+        mul 2 7 10\nput 3 0 00 16 0 2\n  sq   0 8 \nsq 5 10\nneg 4 13\nsub 0 2 14\n\
+        put 9 010 7 3 6 0\nneg 7 8\nsq 3 5\nshow 1\nsq 9 4\nput 04 1 16 13 0 16\n\
+        put 11 1 14 0 1 16\nshow 15\nput 7 0 15 5 1 1\nshow 4\n \n  mul 4 8  10\n\
+        pow 9 15 2\nshow 12\nshow 7\nshow 8\nshow 0\n",
+        "0\n0\n0\n9 + 16 X + 16 X^2 + X^3\n0\n0\n0\n0\n0\n0\n0\n0\n\
+        1 + 16 X + 13 X^2 + 16 X^4\n0\n15 X + 5 X^2 + X^3 + X^4\n0\n0\n",
+        0,
+    ),
+    (
+        b"field f31t3\nput 0 016 0 23\nput 1 30 16 0\nput 2 0 30 30\ninv 2 2\n\
+        pow 4 10 3\npow 5 2 3\ninv 00 2\nadd 01 6 15\ndbl 6 12\n  inv   13   11\n\
+        show 13\nshow 6\nshow 3\nshow 8\n",
+        "line 11: fault 5\n",
+        1,
+    ),
+    (
+        b"field f17t5\nput 0 0 0 0 0\n",
+        "line 2: fault 2\n",
+        1,
     ),
 ];
