@@ -1,4 +1,5 @@
-//! The extensions of `Fp` by trinomials that have a name in the calculator.
+//! The extensions by trinomials that have a name in the calculator. Each is written out: the
+//! toolchain takes no impl for every form of the word where the degree is a literal.
 ghost use Rattle.std.specs.Prelude.{◌≡◌, string_bytes, IfOk};
 ghost use Rattle.p3_theory.specs.Trinomials.{cubic_trinomial, quintic_trinomial};
 ghost use Rattle.p3_theory.specs.Powers.{power};
@@ -8,46 +9,42 @@ ghost use Rattle.p3_field_bench.specs.Display.{canonical_text};
 ghost use Rattle.p3_field_bench.specs.Representation.{InverseOrNone};
 
 use crate::field::Extended;
-use p3_bench_prime::fp::Fp;
-use p3_bench_prime::trinomial_constants::{CubicConstants, QuinticConstants};
-use p3_field::extension::{
-    CubicTrinomial, CubicTrinomialExtensionField, QuinticTrinomial, QuinticTrinomialExtensionField,
-};
+use p3_bench_prime::extensions::{F2t5, F17t5, F31t3};
+use p3_bench_prime::form::{Form, Plain};
+use p3_bench_prime::small::{F2, F17, F31, M2, M17, M31};
+use p3_field::extension::{CubicTrinomial, QuinticTrinomial};
 use p3_field::{Field, PrimeCharacteristicRing};
 use std::alloc::{AllocError, Allocator};
 
-impl<W: CubicConstants> Extended<3, CubicTrinomial> for Fp<W> {
-    ghost modulus = { cubic_trinomial (ops W.Form) };
+impl Extended<3, CubicTrinomial> for F31 {
+    ghost modulus = { cubic_trinomial (ops ⟦<Plain<M31> as Form>⟧) };
 
-    fn squared(x: CubicTrinomialExtensionField<Fp<W>>) -> CubicTrinomialExtensionField<Fp<W>>
-        ensures { result ≡ (ext_ops (ops W.Form) (cubic_trinomial (ops W.Form))).mul x x }
+    fn squared(x: F31t3) -> F31t3
+        ensures { result ≡ ⟦<F31t3 as PrimeCharacteristicRing>⟧.ops.mul x x }
     {
         x.square()
     }
 
-    fn doubled(x: CubicTrinomialExtensionField<Fp<W>>) -> CubicTrinomialExtensionField<Fp<W>>
-        ensures { result ≡ (ext_ops (ops W.Form) (cubic_trinomial (ops W.Form))).add x x }
+    fn doubled(x: F31t3) -> F31t3
+        ensures { result ≡ ⟦<F31t3 as PrimeCharacteristicRing>⟧.ops.add x x }
     {
         x.double()
     }
 
-    fn power(x: CubicTrinomialExtensionField<Fp<W>>, exponent: u64) -> CubicTrinomialExtensionField<Fp<W>>
-        ensures { result ≡ power (ext_ops (ops W.Form) (cubic_trinomial (ops W.Form))) x exponent }
+    fn power(x: F31t3, exponent: u64) -> F31t3
+        ensures { result ≡ power ⟦<F31t3 as PrimeCharacteristicRing>⟧.ops x exponent }
     {
         x.exp_u64(exponent)
     }
 
-    fn inverse(x: CubicTrinomialExtensionField<Fp<W>>) -> Option<CubicTrinomialExtensionField<Fp<W>>>
-        ensures { InverseOrNone (ext_ops (ops W.Form) (cubic_trinomial (ops W.Form))) x result }
+    fn inverse(x: F31t3) -> Option<F31t3>
+        ensures { let form = ⟦<Plain<M31> as Form>⟧ in InverseOrNone (ext_ops (ops form) (cubic_trinomial (ops form))) x result }
     {
         x.try_inverse()
     }
 
-    fn text<A: Allocator + Copy>(
-        x: CubicTrinomialExtensionField<Fp<W>>,
-        alloc: A,
-    ) -> Result<String<A>, AllocError>
-        ensures { IfOk result (λ text. string_bytes text ≡ canonical_text (canon W.Form) x.value) }
+    fn text<A: Allocator + Copy>(x: F31t3, alloc: A) -> Result<String<A>, AllocError>
+        ensures { IfOk result (λ text. string_bytes text ≡ canonical_text (canon ⟦<Plain<M31> as Form>⟧) x.value) }
     {
         x.to_string(alloc)
     }
@@ -55,38 +52,71 @@ impl<W: CubicConstants> Extended<3, CubicTrinomial> for Fp<W> {
     ghost products = { λ a b r h. h };
 }
 
-impl<W: QuinticConstants> Extended<5, QuinticTrinomial> for Fp<W> {
-    ghost modulus = { quintic_trinomial (ops W.Form) };
+impl Extended<5, QuinticTrinomial> for F17 {
+    ghost modulus = { quintic_trinomial (ops ⟦<Plain<M17> as Form>⟧) };
 
-    fn squared(x: QuinticTrinomialExtensionField<Fp<W>>) -> QuinticTrinomialExtensionField<Fp<W>>
-        ensures { result ≡ (ext_ops (ops W.Form) (quintic_trinomial (ops W.Form))).mul x x }
+    fn squared(x: F17t5) -> F17t5
+        ensures { result ≡ ⟦<F17t5 as PrimeCharacteristicRing>⟧.ops.mul x x }
     {
         x.square()
     }
 
-    fn doubled(x: QuinticTrinomialExtensionField<Fp<W>>) -> QuinticTrinomialExtensionField<Fp<W>>
-        ensures { result ≡ (ext_ops (ops W.Form) (quintic_trinomial (ops W.Form))).add x x }
+    fn doubled(x: F17t5) -> F17t5
+        ensures { result ≡ ⟦<F17t5 as PrimeCharacteristicRing>⟧.ops.add x x }
     {
         x.double()
     }
 
-    fn power(x: QuinticTrinomialExtensionField<Fp<W>>, exponent: u64) -> QuinticTrinomialExtensionField<Fp<W>>
-        ensures { result ≡ power (ext_ops (ops W.Form) (quintic_trinomial (ops W.Form))) x exponent }
+    fn power(x: F17t5, exponent: u64) -> F17t5
+        ensures { result ≡ power ⟦<F17t5 as PrimeCharacteristicRing>⟧.ops x exponent }
     {
         x.exp_u64(exponent)
     }
 
-    fn inverse(x: QuinticTrinomialExtensionField<Fp<W>>) -> Option<QuinticTrinomialExtensionField<Fp<W>>>
-        ensures { InverseOrNone (ext_ops (ops W.Form) (quintic_trinomial (ops W.Form))) x result }
+    fn inverse(x: F17t5) -> Option<F17t5>
+        ensures { let form = ⟦<Plain<M17> as Form>⟧ in InverseOrNone (ext_ops (ops form) (quintic_trinomial (ops form))) x result }
     {
         x.try_inverse()
     }
 
-    fn text<A: Allocator + Copy>(
-        x: QuinticTrinomialExtensionField<Fp<W>>,
-        alloc: A,
-    ) -> Result<String<A>, AllocError>
-        ensures { IfOk result (λ text. string_bytes text ≡ canonical_text (canon W.Form) x.value) }
+    fn text<A: Allocator + Copy>(x: F17t5, alloc: A) -> Result<String<A>, AllocError>
+        ensures { IfOk result (λ text. string_bytes text ≡ canonical_text (canon ⟦<Plain<M17> as Form>⟧) x.value) }
+    {
+        x.to_string(alloc)
+    }
+
+    ghost products = { λ a b r h. h };
+}
+
+impl Extended<5, QuinticTrinomial> for F2 {
+    ghost modulus = { quintic_trinomial (ops ⟦<Plain<M2> as Form>⟧) };
+
+    fn squared(x: F2t5) -> F2t5
+        ensures { result ≡ ⟦<F2t5 as PrimeCharacteristicRing>⟧.ops.mul x x }
+    {
+        x.square()
+    }
+
+    fn doubled(x: F2t5) -> F2t5
+        ensures { result ≡ ⟦<F2t5 as PrimeCharacteristicRing>⟧.ops.add x x }
+    {
+        x.double()
+    }
+
+    fn power(x: F2t5, exponent: u64) -> F2t5
+        ensures { result ≡ power ⟦<F2t5 as PrimeCharacteristicRing>⟧.ops x exponent }
+    {
+        x.exp_u64(exponent)
+    }
+
+    fn inverse(x: F2t5) -> Option<F2t5>
+        ensures { let form = ⟦<Plain<M2> as Form>⟧ in InverseOrNone (ext_ops (ops form) (quintic_trinomial (ops form))) x result }
+    {
+        x.try_inverse()
+    }
+
+    fn text<A: Allocator + Copy>(x: F2t5, alloc: A) -> Result<String<A>, AllocError>
+        ensures { IfOk result (λ text. string_bytes text ≡ canonical_text (canon ⟦<Plain<M2> as Form>⟧) x.value) }
     {
         x.to_string(alloc)
     }

@@ -166,7 +166,7 @@ fn mixed_operators(rt: HostRuntime) {
 
 #[test]
 fn names_and_zeros(rt: HostRuntime) -> Result<(), Fail> {
-    let name: Vec<u8> = AlgebraIdentity::<F17>::algebra_id(rt.alloc())?;
+    let name: Vec<u8> = <F17 as AlgebraIdentity<F17>>::algebra_id(rt.alloc())?;
     assert_eq!(rt; name.as_slice(), b"p3-scalar-basis-v1".as_slice());
     let name: Vec<u8> = <F17x4 as AlgebraIdentity<F17>>::algebra_id(rt.alloc())?;
     assert_eq!(rt; name.as_slice(), b"bench:f17x4".as_slice());

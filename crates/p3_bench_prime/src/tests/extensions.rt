@@ -1,72 +1,83 @@
 //! The calls of extensions against the values of `extension_tables`.
 
 use super::extension_tables as tables;
+use super::extension_tables::Table;
+use crate::extensions::{
+    BabyBearx4, F2t5, F17bx2, F17t5, F17x2, F17x4, F17x8, F31t3, F31x3, F31x5, F31x6, Z15x2,
+};
 use crate::baby_bear::BabyBear;
 use crate::small::{F2, F17, F17b, F31, Z15};
-use p3_field::extension::{
-    Binomial, ByteCountFits, CubicTrinomial, ExtField, ExtensionShape, FrobeniusExtendable, HasFrobenius,
-    QuinticTrinomial,
-};
-use p3_field::{
-    ExtensionField, Field, PrimeCharacteristicRing, PrimeField64, RawDataSerializable,
-};
+use p3_field::extension::{ExtField, ExtensionShape, FrobeniusExtendable, HasFrobenius};
+use p3_field::{PrimeCharacteristicRing, PrimeField64, RawDataSerializable};
+use std::fmt::Debug;
 use std::process::Abort;
 use std::test::Fail;
 
-/// The value with these canonical coefficients.
-fn value<F: FrobeniusExtendable<D, S> + PrimeField64, const D: usize, S: ExtensionShape>(
-    numbers: &[u64; D],
-) -> ExtField<F, D, S, F> {
-    let mut coefficients = [F::zero(); D];
-    for i in 0..D {
-        coefficients[i] = F::from_u64(numbers[i]);
-    }
-    ExtField::<F, D, S, F>::new(coefficients)
+/// A type whose values stand in a table, by their canonical coefficients.
+trait Tabled: Copy {
+    type Row: Copy + PartialEq + Debug;
+
+    /// The value with these canonical coefficients.
+    fn of(row: Self::Row) -> Self;
+
+    /// The canonical coefficients.
+    fn row(self) -> Self::Row;
 }
 
-/// The canonical coefficients of a value.
-fn numbers<F: FrobeniusExtendable<D, S> + PrimeField64, const D: usize, S: ExtensionShape>(
-    x: &ExtField<F, D, S, F>,
-) -> [u64; D] {
-    let mut numbers = [0; D];
-    for i in 0..D {
-        numbers[i] = x.value[i].as_canonical_u64();
+impl<F: FrobeniusExtendable<D, S> + PrimeField64, const D: usize, S: ExtensionShape> Tabled
+    for ExtField<F, D, S, F> {
+    type Row = [u64; D];
+
+    fn of(row: [u64; D]) -> Self {
+        let mut coefficients = [F::zero(); D];
+        for i in 0..D {
+            coefficients[i] = F::from_u64(row[i]);
+        }
+        ExtField::<F, D, S, F>::new(coefficients)
     }
-    numbers
+
+    fn row(self) -> [u64; D] {
+        let mut row = [0; D];
+        for i in 0..D {
+            let c = self.value[i];
+            row[i] = c.as_canonical_u64();
+        }
+        row
+    }
 }
 
 /// Asserts that the second value of each row is the square of the first.
-fn assert_squares<F: FrobeniusExtendable<D, S> + PrimeField64, const D: usize, S: ExtensionShape>(
+fn assert_squares<T: PrimeCharacteristicRing + Tabled>(
     rt: &impl Abort,
-    rows: &[([u64; D], [u64; D])],
+    rows: &[(T::Row, T::Row)],
 ) {
     for row in rows {
         let (x, square) = *row;
-        assert_eq!(rt; numbers::<F, D, S>(&value::<F, D, S>(&x).square()), square);
+        assert_eq!(rt; T::of(x).square().row(), square);
     }
 }
 
 /// Asserts that the third value of each row is the product of the others.
-fn assert_products<F: FrobeniusExtendable<D, S> + PrimeField64, const D: usize, S: ExtensionShape>(
+fn assert_products<T: PrimeCharacteristicRing + Tabled>(
     rt: &impl Abort,
-    rows: &[([u64; D], [u64; D], [u64; D])],
+    rows: &[(T::Row, T::Row, T::Row)],
 ) {
     for row in rows {
         let (x, y, product) = *row;
-        let answer = value::<F, D, S>(&x) * value::<F, D, S>(&y);
-        assert_eq!(rt; numbers::<F, D, S>(&answer), product);
+        let answer = T::of(x) * T::of(y);
+        assert_eq!(rt; answer.row(), product);
     }
 }
 
 /// Asserts that the second value of each row is the inverse of the first, where there is one.
-fn assert_inverses<F: FrobeniusExtendable<D, S> + PrimeField64, const D: usize, S: ExtensionShape>(
+fn assert_inverses<F: PrimeField64, T: HasFrobenius<F> + Tabled>(
     rt: &impl Abort,
-    rows: &[([u64; D], Option<[u64; D]>)],
+    rows: &[(T::Row, Option<T::Row>)],
 ) {
     for row in rows {
         let (x, inverse) = *row;
-        let answer = match value::<F, D, S>(&x).try_inverse() {
-            Some(y) => Some(numbers::<F, D, S>(&y)),
+        let answer = match T::of(x).try_inverse() {
+            Some(y) => Some(y.row()),
             None => None,
         };
         assert_eq!(rt; answer, inverse);
@@ -74,65 +85,64 @@ fn assert_inverses<F: FrobeniusExtendable<D, S> + PrimeField64, const D: usize, 
 }
 
 /// Asserts that the second value of each row is the image of the first.
-fn assert_images<F: FrobeniusExtendable<D, S> + PrimeField64, const D: usize, S: ExtensionShape>(
+fn assert_images<F: PrimeField64, T: HasFrobenius<F> + Tabled>(
     rt: &impl Abort,
-    rows: &[([u64; D], [u64; D])],
+    rows: &[(T::Row, T::Row)],
 ) {
     for row in rows {
         let (x, image) = *row;
-        assert_eq!(rt; numbers::<F, D, S>(&value::<F, D, S>(&x).frobenius()), image);
+        assert_eq!(rt; T::of(x).frobenius().row(), image);
     }
 }
 
 /// Asserts that the last value of each row is the image of the first after so many times.
-fn assert_repeated<F: FrobeniusExtendable<D, S> + PrimeField64, const D: usize, S: ExtensionShape>(
+fn assert_repeated<F: PrimeField64, T: HasFrobenius<F> + Tabled>(
     rt: &impl Abort,
-    rows: &[([u64; D], usize, [u64; D])],
+    rows: &[(T::Row, usize, T::Row)],
 ) {
     for row in rows {
         let (x, count, image) = *row;
-        let answer = value::<F, D, S>(&x).repeated_frobenius(count);
-        assert_eq!(rt; numbers::<F, D, S>(&answer), image);
+        assert_eq!(rt; T::of(x).repeated_frobenius(count).row(), image);
     }
 }
 
 /// Asserts that each row has a value and its orbit.
-fn assert_orbits<F: FrobeniusExtendable<D, S> + PrimeField64, const D: usize, S: ExtensionShape>(
-    rt: &HostRuntime,
-    rows: &[([u64; D], [[u64; D]; D])],
+fn assert_orbits<F: PrimeField64, T: HasFrobenius<F> + Tabled>(
+    rt: &(impl Abort + AllocGlobal),
+    rows: &[(T::Row, &[T::Row])],
 ) -> Result<(), Fail> {
     for row in rows {
         let (x, orbit) = *row;
-        let answer = value::<F, D, S>(&x).galois_orbit(rt.alloc())?;
-        assert_eq!(rt; answer.len(), D);
-        for i in 0..D {
-            assert_eq!(rt; numbers::<F, D, S>(&answer[i]), orbit[i]);
+        let answer = T::of(x).galois_orbit(rt.alloc())?;
+        assert_eq!(rt; answer.len(), orbit.len());
+        for i in 0..orbit.len() {
+            assert_eq!(rt; answer[i].row(), orbit[i]);
         }
     }
     Ok(())
 }
 
 /// Asserts that each row has a value and its text.
-fn assert_texts<F: FrobeniusExtendable<D, S> + PrimeField64, const D: usize, S: ExtensionShape>(
-    rt: &HostRuntime,
-    rows: &[([u64; D], &str)],
+fn assert_texts<F: PrimeField64, T: HasFrobenius<F> + Tabled>(
+    rt: &(impl Abort + AllocGlobal),
+    rows: &[(T::Row, &str)],
 ) -> Result<(), Fail> {
     for row in rows {
         let (x, text) = *row;
-        let answer = value::<F, D, S>(&x).to_string(rt.alloc())?;
+        let answer = T::of(x).to_string(rt.alloc())?;
         assert_eq!(rt; answer.as_str(), text);
     }
     Ok(())
 }
 
 /// Asserts that each row has a value and the element of the base that it is, if it is one.
-fn assert_base_values<F: FrobeniusExtendable<D, S> + PrimeField64, const D: usize, S: ExtensionShape>(
+fn assert_base_values<F: PrimeField64, T: HasFrobenius<F> + Tabled>(
     rt: &impl Abort,
-    rows: &[([u64; D], Option<u64>)],
+    rows: &[(T::Row, Option<u64>)],
 ) {
     for row in rows {
         let (x, base) = *row;
-        let answer = match ExtensionField::<F>::as_base(&value::<F, D, S>(&x)) {
+        let answer = match T::of(x).as_base() {
             Some(c) => Some(c.as_canonical_u64()),
             None => None,
         };
@@ -141,172 +151,91 @@ fn assert_base_values<F: FrobeniusExtendable<D, S> + PrimeField64, const D: usiz
 }
 
 /// Asserts that each row has values and the words of their bytes.
-fn assert_streams<
-    F: FrobeniusExtendable<D, S> + PrimeField64 + ByteCountFits<D>,
-    const D: usize,
-    S: ExtensionShape,
->(rt: &HostRuntime, rows: &[(&[[u64; D]], &[u64])]) -> Result<(), Fail> {
+fn assert_streams<T: RawDataSerializable + Tabled>(
+    rt: &(impl Abort + AllocGlobal),
+    rows: &[(&[T::Row], &[u64])],
+) -> Result<(), Fail> {
     for row in rows {
         let (items, words) = *row;
-        let values = items.iter().map(|x| value::<F, D, S>(x));
-        let stream: Vec<u64> = ExtField::<F, D, S, F>::into_u64_stream(values).collect(rt.alloc())?;
+        let values = items.iter().map(|x| T::of(*x));
+        let stream: Vec<u64> = T::into_u64_stream(values).collect(rt.alloc())?;
         assert_eq!(rt; stream.as_slice(), words);
     }
     Ok(())
 }
 
+/// Asserts what a table says of a type.
+fn assert_table<F: PrimeField64, T: HasFrobenius<F> + RawDataSerializable + Tabled>(
+    rt: &(impl Abort + AllocGlobal),
+    table: &Table<T::Row>,
+) -> Result<(), Fail> {
+    assert_squares::<T>(rt, table.squares);
+    assert_products::<T>(rt, table.products);
+    assert_inverses::<F, T>(rt, table.inverses);
+    assert_images::<F, T>(rt, table.images);
+    assert_repeated::<F, T>(rt, table.repeated);
+    assert_base_values::<F, T>(rt, table.base_values);
+    assert_orbits::<F, T>(rt, table.orbits)?;
+    assert_streams::<T>(rt, table.streams)?;
+    assert_texts::<F, T>(rt, table.texts)
+}
+
 #[test]
 fn f17x2(rt: HostRuntime) -> Result<(), Fail> {
-    assert_squares::<F17, 2, Binomial<F17>>(&rt, &tables::F17X2_SQUARES);
-    assert_products::<F17, 2, Binomial<F17>>(&rt, &tables::F17X2_PRODUCTS);
-    assert_inverses::<F17, 2, Binomial<F17>>(&rt, &tables::F17X2_INVERSES);
-    assert_images::<F17, 2, Binomial<F17>>(&rt, &tables::F17X2_IMAGES);
-    assert_repeated::<F17, 2, Binomial<F17>>(&rt, &tables::F17X2_REPEATED);
-    assert_base_values::<F17, 2, Binomial<F17>>(&rt, &tables::F17X2_BASE_VALUES);
-    assert_orbits::<F17, 2, Binomial<F17>>(&rt, &tables::F17X2_ORBITS)?;
-    assert_streams::<F17, 2, Binomial<F17>>(&rt, &tables::F17X2_STREAMS)?;
-    assert_texts::<F17, 2, Binomial<F17>>(&rt, &tables::F17X2_TEXTS)
+    assert_table::<F17, F17x2>(&rt, &tables::F17X2)
 }
 
 #[test]
 fn f17x4(rt: HostRuntime) -> Result<(), Fail> {
-    assert_squares::<F17, 4, Binomial<F17>>(&rt, &tables::F17X4_SQUARES);
-    assert_products::<F17, 4, Binomial<F17>>(&rt, &tables::F17X4_PRODUCTS);
-    assert_inverses::<F17, 4, Binomial<F17>>(&rt, &tables::F17X4_INVERSES);
-    assert_images::<F17, 4, Binomial<F17>>(&rt, &tables::F17X4_IMAGES);
-    assert_repeated::<F17, 4, Binomial<F17>>(&rt, &tables::F17X4_REPEATED);
-    assert_base_values::<F17, 4, Binomial<F17>>(&rt, &tables::F17X4_BASE_VALUES);
-    assert_orbits::<F17, 4, Binomial<F17>>(&rt, &tables::F17X4_ORBITS)?;
-    assert_streams::<F17, 4, Binomial<F17>>(&rt, &tables::F17X4_STREAMS)?;
-    assert_texts::<F17, 4, Binomial<F17>>(&rt, &tables::F17X4_TEXTS)
+    assert_table::<F17, F17x4>(&rt, &tables::F17X4)
 }
 
 #[test]
 fn f17x8(rt: HostRuntime) -> Result<(), Fail> {
-    assert_squares::<F17, 8, Binomial<F17>>(&rt, &tables::F17X8_SQUARES);
-    assert_products::<F17, 8, Binomial<F17>>(&rt, &tables::F17X8_PRODUCTS);
-    assert_inverses::<F17, 8, Binomial<F17>>(&rt, &tables::F17X8_INVERSES);
-    assert_images::<F17, 8, Binomial<F17>>(&rt, &tables::F17X8_IMAGES);
-    assert_repeated::<F17, 8, Binomial<F17>>(&rt, &tables::F17X8_REPEATED);
-    assert_base_values::<F17, 8, Binomial<F17>>(&rt, &tables::F17X8_BASE_VALUES);
-    assert_orbits::<F17, 8, Binomial<F17>>(&rt, &tables::F17X8_ORBITS)?;
-    assert_streams::<F17, 8, Binomial<F17>>(&rt, &tables::F17X8_STREAMS)?;
-    assert_texts::<F17, 8, Binomial<F17>>(&rt, &tables::F17X8_TEXTS)
+    assert_table::<F17, F17x8>(&rt, &tables::F17X8)
 }
 
 #[test]
 fn f17bx2(rt: HostRuntime) -> Result<(), Fail> {
-    assert_squares::<F17b, 2, Binomial<F17b>>(&rt, &tables::F17BX2_SQUARES);
-    assert_products::<F17b, 2, Binomial<F17b>>(&rt, &tables::F17BX2_PRODUCTS);
-    assert_inverses::<F17b, 2, Binomial<F17b>>(&rt, &tables::F17BX2_INVERSES);
-    assert_images::<F17b, 2, Binomial<F17b>>(&rt, &tables::F17BX2_IMAGES);
-    assert_repeated::<F17b, 2, Binomial<F17b>>(&rt, &tables::F17BX2_REPEATED);
-    assert_base_values::<F17b, 2, Binomial<F17b>>(&rt, &tables::F17BX2_BASE_VALUES);
-    assert_orbits::<F17b, 2, Binomial<F17b>>(&rt, &tables::F17BX2_ORBITS)?;
-    assert_streams::<F17b, 2, Binomial<F17b>>(&rt, &tables::F17BX2_STREAMS)?;
-    assert_texts::<F17b, 2, Binomial<F17b>>(&rt, &tables::F17BX2_TEXTS)
+    assert_table::<F17b, F17bx2>(&rt, &tables::F17BX2)
 }
 
 #[test]
 fn z15x2(rt: HostRuntime) -> Result<(), Fail> {
-    assert_squares::<Z15, 2, Binomial<Z15>>(&rt, &tables::Z15X2_SQUARES);
-    assert_products::<Z15, 2, Binomial<Z15>>(&rt, &tables::Z15X2_PRODUCTS);
-    assert_inverses::<Z15, 2, Binomial<Z15>>(&rt, &tables::Z15X2_INVERSES);
-    assert_images::<Z15, 2, Binomial<Z15>>(&rt, &tables::Z15X2_IMAGES);
-    assert_repeated::<Z15, 2, Binomial<Z15>>(&rt, &tables::Z15X2_REPEATED);
-    assert_base_values::<Z15, 2, Binomial<Z15>>(&rt, &tables::Z15X2_BASE_VALUES);
-    assert_orbits::<Z15, 2, Binomial<Z15>>(&rt, &tables::Z15X2_ORBITS)?;
-    assert_streams::<Z15, 2, Binomial<Z15>>(&rt, &tables::Z15X2_STREAMS)?;
-    assert_texts::<Z15, 2, Binomial<Z15>>(&rt, &tables::Z15X2_TEXTS)
+    assert_table::<Z15, Z15x2>(&rt, &tables::Z15X2)
 }
 
 #[test]
 fn f31x3(rt: HostRuntime) -> Result<(), Fail> {
-    assert_squares::<F31, 3, Binomial<F31>>(&rt, &tables::F31X3_SQUARES);
-    assert_products::<F31, 3, Binomial<F31>>(&rt, &tables::F31X3_PRODUCTS);
-    assert_inverses::<F31, 3, Binomial<F31>>(&rt, &tables::F31X3_INVERSES);
-    assert_images::<F31, 3, Binomial<F31>>(&rt, &tables::F31X3_IMAGES);
-    assert_repeated::<F31, 3, Binomial<F31>>(&rt, &tables::F31X3_REPEATED);
-    assert_base_values::<F31, 3, Binomial<F31>>(&rt, &tables::F31X3_BASE_VALUES);
-    assert_orbits::<F31, 3, Binomial<F31>>(&rt, &tables::F31X3_ORBITS)?;
-    assert_streams::<F31, 3, Binomial<F31>>(&rt, &tables::F31X3_STREAMS)?;
-    assert_texts::<F31, 3, Binomial<F31>>(&rt, &tables::F31X3_TEXTS)
+    assert_table::<F31, F31x3>(&rt, &tables::F31X3)
 }
 
 #[test]
 fn f31x5(rt: HostRuntime) -> Result<(), Fail> {
-    assert_squares::<F31, 5, Binomial<F31>>(&rt, &tables::F31X5_SQUARES);
-    assert_products::<F31, 5, Binomial<F31>>(&rt, &tables::F31X5_PRODUCTS);
-    assert_inverses::<F31, 5, Binomial<F31>>(&rt, &tables::F31X5_INVERSES);
-    assert_images::<F31, 5, Binomial<F31>>(&rt, &tables::F31X5_IMAGES);
-    assert_repeated::<F31, 5, Binomial<F31>>(&rt, &tables::F31X5_REPEATED);
-    assert_base_values::<F31, 5, Binomial<F31>>(&rt, &tables::F31X5_BASE_VALUES);
-    assert_orbits::<F31, 5, Binomial<F31>>(&rt, &tables::F31X5_ORBITS)?;
-    assert_streams::<F31, 5, Binomial<F31>>(&rt, &tables::F31X5_STREAMS)?;
-    assert_texts::<F31, 5, Binomial<F31>>(&rt, &tables::F31X5_TEXTS)
+    assert_table::<F31, F31x5>(&rt, &tables::F31X5)
 }
 
 #[test]
 fn f31x6(rt: HostRuntime) -> Result<(), Fail> {
-    assert_squares::<F31, 6, Binomial<F31>>(&rt, &tables::F31X6_SQUARES);
-    assert_products::<F31, 6, Binomial<F31>>(&rt, &tables::F31X6_PRODUCTS);
-    assert_inverses::<F31, 6, Binomial<F31>>(&rt, &tables::F31X6_INVERSES);
-    assert_images::<F31, 6, Binomial<F31>>(&rt, &tables::F31X6_IMAGES);
-    assert_repeated::<F31, 6, Binomial<F31>>(&rt, &tables::F31X6_REPEATED);
-    assert_base_values::<F31, 6, Binomial<F31>>(&rt, &tables::F31X6_BASE_VALUES);
-    assert_orbits::<F31, 6, Binomial<F31>>(&rt, &tables::F31X6_ORBITS)?;
-    assert_streams::<F31, 6, Binomial<F31>>(&rt, &tables::F31X6_STREAMS)?;
-    assert_texts::<F31, 6, Binomial<F31>>(&rt, &tables::F31X6_TEXTS)
+    assert_table::<F31, F31x6>(&rt, &tables::F31X6)
 }
 
 #[test]
 fn bbx4(rt: HostRuntime) -> Result<(), Fail> {
-    assert_squares::<BabyBear, 4, Binomial<BabyBear>>(&rt, &tables::BBX4_SQUARES);
-    assert_products::<BabyBear, 4, Binomial<BabyBear>>(&rt, &tables::BBX4_PRODUCTS);
-    assert_inverses::<BabyBear, 4, Binomial<BabyBear>>(&rt, &tables::BBX4_INVERSES);
-    assert_images::<BabyBear, 4, Binomial<BabyBear>>(&rt, &tables::BBX4_IMAGES);
-    assert_repeated::<BabyBear, 4, Binomial<BabyBear>>(&rt, &tables::BBX4_REPEATED);
-    assert_base_values::<BabyBear, 4, Binomial<BabyBear>>(&rt, &tables::BBX4_BASE_VALUES);
-    assert_orbits::<BabyBear, 4, Binomial<BabyBear>>(&rt, &tables::BBX4_ORBITS)?;
-    assert_streams::<BabyBear, 4, Binomial<BabyBear>>(&rt, &tables::BBX4_STREAMS)?;
-    assert_texts::<BabyBear, 4, Binomial<BabyBear>>(&rt, &tables::BBX4_TEXTS)
+    assert_table::<BabyBear, BabyBearx4>(&rt, &tables::BBX4)
 }
 
 #[test]
 fn f31t3(rt: HostRuntime) -> Result<(), Fail> {
-    assert_squares::<F31, 3, CubicTrinomial>(&rt, &tables::F31T3_SQUARES);
-    assert_products::<F31, 3, CubicTrinomial>(&rt, &tables::F31T3_PRODUCTS);
-    assert_inverses::<F31, 3, CubicTrinomial>(&rt, &tables::F31T3_INVERSES);
-    assert_images::<F31, 3, CubicTrinomial>(&rt, &tables::F31T3_IMAGES);
-    assert_repeated::<F31, 3, CubicTrinomial>(&rt, &tables::F31T3_REPEATED);
-    assert_base_values::<F31, 3, CubicTrinomial>(&rt, &tables::F31T3_BASE_VALUES);
-    assert_orbits::<F31, 3, CubicTrinomial>(&rt, &tables::F31T3_ORBITS)?;
-    assert_streams::<F31, 3, CubicTrinomial>(&rt, &tables::F31T3_STREAMS)?;
-    assert_texts::<F31, 3, CubicTrinomial>(&rt, &tables::F31T3_TEXTS)
+    assert_table::<F31, F31t3>(&rt, &tables::F31T3)
 }
 
 #[test]
 fn f17t5(rt: HostRuntime) -> Result<(), Fail> {
-    assert_squares::<F17, 5, QuinticTrinomial>(&rt, &tables::F17T5_SQUARES);
-    assert_products::<F17, 5, QuinticTrinomial>(&rt, &tables::F17T5_PRODUCTS);
-    assert_inverses::<F17, 5, QuinticTrinomial>(&rt, &tables::F17T5_INVERSES);
-    assert_images::<F17, 5, QuinticTrinomial>(&rt, &tables::F17T5_IMAGES);
-    assert_repeated::<F17, 5, QuinticTrinomial>(&rt, &tables::F17T5_REPEATED);
-    assert_base_values::<F17, 5, QuinticTrinomial>(&rt, &tables::F17T5_BASE_VALUES);
-    assert_orbits::<F17, 5, QuinticTrinomial>(&rt, &tables::F17T5_ORBITS)?;
-    assert_streams::<F17, 5, QuinticTrinomial>(&rt, &tables::F17T5_STREAMS)?;
-    assert_texts::<F17, 5, QuinticTrinomial>(&rt, &tables::F17T5_TEXTS)
+    assert_table::<F17, F17t5>(&rt, &tables::F17T5)
 }
 
 #[test]
 fn f2t5(rt: HostRuntime) -> Result<(), Fail> {
-    assert_squares::<F2, 5, QuinticTrinomial>(&rt, &tables::F2T5_SQUARES);
-    assert_products::<F2, 5, QuinticTrinomial>(&rt, &tables::F2T5_PRODUCTS);
-    assert_inverses::<F2, 5, QuinticTrinomial>(&rt, &tables::F2T5_INVERSES);
-    assert_images::<F2, 5, QuinticTrinomial>(&rt, &tables::F2T5_IMAGES);
-    assert_repeated::<F2, 5, QuinticTrinomial>(&rt, &tables::F2T5_REPEATED);
-    assert_base_values::<F2, 5, QuinticTrinomial>(&rt, &tables::F2T5_BASE_VALUES);
-    assert_orbits::<F2, 5, QuinticTrinomial>(&rt, &tables::F2T5_ORBITS)?;
-    assert_streams::<F2, 5, QuinticTrinomial>(&rt, &tables::F2T5_STREAMS)?;
-    assert_texts::<F2, 5, QuinticTrinomial>(&rt, &tables::F2T5_TEXTS)
+    assert_table::<F2, F2t5>(&rt, &tables::F2T5)
 }
