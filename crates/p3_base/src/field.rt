@@ -4,6 +4,7 @@ ghost use Rattle.p3_theory.specs.Multiples.{of_nat};
 ghost use Rattle.p3_theory.specs.PairedLists.{zip_with};
 ghost use Rattle.p3_theory.specs.BitLength.{IsBitLength};
 ghost use Rattle.p3_theory.specs.Residues.{AreResidues};
+ghost use Rattle.p3_theory.specs.ValueLists.{ValueList};
 
 use crate::integers::{Quotient, QuotientMap};
 use crate::ring::PrimeCharacteristicRing;
@@ -91,6 +92,9 @@ pub trait Field: PrimeCharacteristicRing + Eq + Display + Div<Output = Self> + D
     /// How many values there are, and `None` where that is `2^128` or more, or not given.
     fn order() -> Option<u128>
         ensures { result ≡ size };
+
+    /// Where the order is given, a list of so many items has every value just once.
+    ghost values: { (n : ℕ) → size ≡ Some n → ValueList Self n };
 
     ghost zero_is_not_one: { Self.ops.zero ≢ Self.ops.one };
 

@@ -10,6 +10,7 @@ pub mod dup;
 pub mod extension_field;
 pub mod field;
 pub mod integers;
+pub mod laws;
 pub mod linear_combination;
 pub mod packed_traits;
 pub mod parallel_streams;

@@ -484,6 +484,7 @@ impl Packable for Goldilocks {}
 
 impl Field for Goldilocks {
     ghost use Rattle.std.specs.Prelude.{refl};
+    ghost use Rattle.p3_theory.specs.ValueLists.{values_where_given, values-residues};
     ghost use Rattle.p3_bench_prime.specs.GoldilocksElements.{canon, of, is};
     ghost use Rattle.p3_bench_prime.specs.Inverses.{zero_is_not_one, same_where_equal};
 
@@ -509,6 +510,8 @@ impl Field for Goldilocks {
     fn order() -> Option<u128> {
         Some(P as u128)
     }
+
+    ghost values = { values_where_given (values-residues is) };
 
     ghost zero_is_not_one = { zero_is_not_one is };
 

@@ -6,6 +6,8 @@ pub use Rattle.p3_theory.specs.Frobenius
 pub use Rattle.p3_theory.specs.FrobeniusTable
 pub use Rattle.p3_theory.specs.Residues
 pub use Rattle.p3_theory.specs.Text
+pub use Rattle.p3_theory.specs.ValueLists
+pub use Rattle.p3_theory.specs.ZeroDivisors
 pub use Rattle.p3_ext.specs.Values
 pub use Rattle.p3_ext.specs.Conjugates
 pub use Rattle.p3_runs.specs.Runs

@@ -1,6 +1,8 @@
 //! The front of the library: every public name at its place, over the crates that hold them.
 #![tactic(auto)]
 
+pub mod laws;
+
 pub use p3_base::basis::{AlgebraIdentity, BasedVectorSpace};
 pub use p3_base::columnwise::{
     batched_columnwise_dot_product, generic_batched_columnwise_dot_product,

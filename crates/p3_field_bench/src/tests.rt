@@ -2,6 +2,7 @@
 
 mod extensions;
 mod growths;
+mod laws;
 
 use crate::refusing::Refusing;
 use crate::{MemSink, MemSource, engine, engine_in};

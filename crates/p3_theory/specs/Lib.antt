@@ -76,3 +76,6 @@ pub mod QuadraticNorm
 pub mod CubicInverse
 pub mod InversesByHalves
 pub mod Interleaving
+pub mod ValueLists
+pub mod ZeroDivisors
+pub mod Fermat

@@ -138,7 +138,7 @@ impl<F: FrobeniusExtendable<D, S>, const D: usize, S: ExtensionShape> Field
     ghost use Rattle.p3_theory.specs.Polynomial.{tabulate};
     ghost use Rattle.p3_theory.specs.Coefficients.{length-tabulate};
     ghost use Rattle.p3_ext.specs.Values.{value_of, constants_apart, decides_equality};
-    ghost use Rattle.p3_ext.specs.Orders.{extension_size};
+    ghost use Rattle.p3_ext.specs.Orders.{extension_size, extension_values};
 
     ghost text = { λ x. polynomial_text (λ c. F.eq c F.ops.zero) (λ c. F.eq c F.ops.one) F.text x.value };
 
@@ -171,6 +171,8 @@ impl<F: FrobeniusExtendable<D, S>, const D: usize, S: ExtensionShape> Field
         }
         Some(order)
     }
+
+    ghost values = { extension_values F.size D F.values };
 
     ghost zero_is_not_one = { constants_apart F.ops D F.at_least_two F.zero_is_not_one };
 
