@@ -356,7 +356,12 @@ impl QuinticConstants for Plain<M17> {
 
     #[inline]
     fn frobenius_coeffs(i: usize, k: usize) -> u32 {
-        [[1, 3, 0, 13, 14], [8, 5, 9, 2, 14], [7, 11, 14, 7, 4], [10, 13, 7, 11, 14]][i][k]
+        [
+            [1, 3, 0, 13, 14],
+            [8, 5, 9, 2, 14],
+            [7, 11, 14, 7, 4],
+            [10, 13, 7, 11, 14],
+        ][i][k]
     }
 
     #[inline]
@@ -385,7 +390,12 @@ impl QuinticConstants for Plain<M2> {
 
     #[inline]
     fn frobenius_coeffs(i: usize, k: usize) -> u32 {
-        [[0, 0, 1, 0, 0], [0, 0, 0, 0, 1], [0, 1, 0, 1, 0], [1, 0, 1, 1, 0]][i][k]
+        [
+            [0, 0, 1, 0, 0],
+            [0, 0, 0, 0, 1],
+            [0, 1, 0, 1, 0],
+            [1, 0, 1, 1, 0],
+        ][i][k]
     }
 
     #[inline]

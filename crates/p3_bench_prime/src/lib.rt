@@ -11,6 +11,6 @@ pub mod goldilocks;
 mod inverse;
 pub mod koala_bear;
 pub mod small;
-pub mod trinomial_constants;
 #[cfg(test)]
 mod tests;
+pub mod trinomial_constants;

@@ -25,9 +25,7 @@ pub mod quintic_extension;
 mod streams;
 mod vectors;
 
-pub use binomial_extension::{
-    binomial_mul, binomial_square, octic_mul, quartic_mul, quintic_mul,
-};
+pub use binomial_extension::{binomial_mul, binomial_square, octic_mul, quartic_mul, quintic_mul};
 pub use cubic_extension::{cubic_square, trinomial_cubic_mul};
 pub use ext_field::ExtField;
 pub use has_frobenius::HasFrobenius;

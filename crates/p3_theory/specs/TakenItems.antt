@@ -32,7 +32,7 @@ module _ {S A : Type 0} (steps : S → Option A → S → Type 0) where
 
     module _ (full : n ≤ k) where
       whole : (length w.0 ≡ n) × Yields steps s w.0 t
-      whole = elim w.3 [ | inl q ↦ q | inr q ↦ absurd (omega (arith, full, w.1, q.0)) ]
+      whole = elim w.3 [ inl q ↦ q | inr q ↦ absurd (omega (arith, full, w.1, q.0)) ]
 
       -- as many as there are places, and then none
       pub just_enough : {u : S} → length old ≡ n → steps t None u → new ≡ all

@@ -56,10 +56,20 @@ fn squares_where_something_was(rt: HostRuntime) {
 #[test]
 fn products_of_fixed_degrees(rt: HostRuntime) {
     let mut res = mod_17([1, 1, 1, 1]);
-    quartic_mul(&mod_17([0, 0, 0, 1]), &mod_17([0, 1, 0, 0]), &mut res, F17::new(3));
+    quartic_mul(
+        &mod_17([0, 0, 0, 1]),
+        &mod_17([0, 1, 0, 0]),
+        &mut res,
+        F17::new(3),
+    );
     assert_eq!(rt; res, mod_17([3, 0, 0, 0]));
     let mut res = mod_31([1, 1, 1, 1, 1]);
-    quintic_mul(&mod_31([0, 0, 0, 0, 1]), &mod_31([0, 0, 1, 0, 0]), &mut res, F31::new(3));
+    quintic_mul(
+        &mod_31([0, 0, 0, 0, 1]),
+        &mod_31([0, 0, 1, 0, 0]),
+        &mut res,
+        F31::new(3),
+    );
     assert_eq!(rt; res, mod_31([0, 3, 0, 0, 0]));
     let mut res = mod_17([1, 1, 1, 1, 1, 1, 1, 1]);
     let high = mod_17([0, 0, 0, 0, 0, 0, 0, 1]);
@@ -81,7 +91,10 @@ fn vectors(rt: HostRuntime) {
 fn frobenius_maps(rt: HostRuntime) {
     let ones = F17x4::new(mod_17([1, 1, 1, 1]));
     assert_eq!(rt; ones.frobenius(), F17x4::new(mod_17([1, 13, 16, 4])));
-    assert_eq!(rt; ones.repeated_frobenius(2), F17x4::new(mod_17([1, 16, 1, 16])));
+    assert_eq!(rt;
+        ones.repeated_frobenius(2),
+        F17x4::new(mod_17([1, 16, 1, 16]))
+    );
 }
 
 #[test]
@@ -109,7 +122,10 @@ fn values_without_inverse(rt: HostRuntime) {
     assert_eq!(rt; reducible(2, 1).pseudo_inv(), F17bx2::zero());
     assert_eq!(rt; reducible(0, 0).pseudo_inv(), F17bx2::zero());
     let unit = Z15x2::new([Z15::new(1), Z15::new(2)]);
-    assert_eq!(rt; unit.try_inverse(), Some(Z15x2::new([Z15::new(2), Z15::new(11)])));
+    assert_eq!(rt;
+        unit.try_inverse(),
+        Some(Z15x2::new([Z15::new(2), Z15::new(11)]))
+    );
     let none = Z15x2::new([Z15::new(3), Z15::new(3)]);
     assert_eq!(rt; none.try_inverse(), None);
 }
@@ -124,7 +140,10 @@ fn basis_calls(rt: HostRuntime) {
     let element: Option<F17x4> = BasedVectorSpace::<F17>::ith_basis_element(1);
     assert_eq!(rt; element, Some(x));
     assert_eq!(rt; ExtensionField::<F17>::as_base(&x), None);
-    assert_eq!(rt; ExtensionField::<F17>::as_base(&F17x4::new(mod_17([5, 0, 0, 0]))), Some(F17::new(5)));
+    assert_eq!(rt;
+        ExtensionField::<F17>::as_base(&F17x4::new(mod_17([5, 0, 0, 0]))),
+        Some(F17::new(5))
+    );
 }
 
 #[test]
@@ -133,7 +152,10 @@ fn flat_lists(rt: HostRuntime) -> Result<(), Fail> {
     let second = F17x4::new(mod_17([5, 6, 7, 8]));
     let values = Vec::from_slice(rt.alloc(), &[first, second])?;
     let flat: Vec<F17> = F17x4::flatten_to_base(rt.alloc(), values)?;
-    assert_eq!(rt; flat.as_slice(), mod_17([1, 2, 3, 4, 5, 6, 7, 8]).as_slice());
+    assert_eq!(rt;
+        flat.as_slice(),
+        mod_17([1, 2, 3, 4, 5, 6, 7, 8]).as_slice()
+    );
     let back: Vec<F17x4> = F17x4::reconstitute_from_base(rt.alloc(), flat)?;
     assert_eq!(rt; back.len(), 2);
     assert_eq!(rt; back[0], first);

@@ -29,8 +29,7 @@ impl<F: Copy, const D: usize, S: Copy, A: Copy> From<[A; D]> for ExtField<F, D, 
     }
 }
 
-impl<F: Copy, const D: usize, S: Copy, A: Copy + Add<Output = A>> Add<A>
-    for ExtField<F, D, S, A> {
+impl<F: Copy, const D: usize, S: Copy, A: Copy + Add<Output = A>> Add<A> for ExtField<F, D, S, A> {
     type Output = Self;
 
     ghost can_add = { λ x c. (0 < D) × ((d : A) → A.can_add (get_or x.value 0 d) c) };
@@ -45,8 +44,7 @@ impl<F: Copy, const D: usize, S: Copy, A: Copy + Add<Output = A>> Add<A>
     }
 }
 
-impl<F: Copy, const D: usize, S: Copy, A: Copy + Sub<Output = A>> Sub<A>
-    for ExtField<F, D, S, A> {
+impl<F: Copy, const D: usize, S: Copy, A: Copy + Sub<Output = A>> Sub<A> for ExtField<F, D, S, A> {
     type Output = Self;
 
     ghost can_sub = { λ x c. (0 < D) × ((d : A) → A.can_sub (get_or x.value 0 d) c) };
@@ -61,8 +59,7 @@ impl<F: Copy, const D: usize, S: Copy, A: Copy + Sub<Output = A>> Sub<A>
     }
 }
 
-impl<F: Copy, const D: usize, S: Copy, A: Copy + Mul<Output = A>> Mul<A>
-    for ExtField<F, D, S, A> {
+impl<F: Copy, const D: usize, S: Copy, A: Copy + Mul<Output = A>> Mul<A> for ExtField<F, D, S, A> {
     type Output = Self;
 
     ghost can_mul = { λ x c. (d : A) (k : ℕ) → k < D → A.can_mul (get_or x.value k d) c };

@@ -10,12 +10,8 @@ use p3_base::ring::PrimeCharacteristicRing;
 use std::alloc::{AllocError, Allocator};
 
 /// The basis is 1, X, .., X^(D-1).
-impl<
-    F: Copy,
-    const D: usize,
-    S: ExtensionShape,
-    A: ExtensionAlgebra<F, D, S>,
-> BasedVectorSpace<A> for ExtField<F, D, S, A> {
+impl<F: Copy, const D: usize, S: ExtensionShape, A: ExtensionAlgebra<F, D, S>> BasedVectorSpace<A>
+    for ExtField<F, D, S, A> {
     ghost use Rattle.p3_ext.specs.Values.{same_value, value_of};
     ghost use Rattle.p3_ext.specs.Bases.{some_place, with_coefficients};
 

@@ -616,9 +616,5 @@ pub static VALUES: [(&[u8], &str, u8); 19] = [
         "line 11: fault 5\n",
         1,
     ),
-    (
-        b"field f17t5\nput 0 0 0 0 0\n",
-        "line 2: fault 2\n",
-        1,
-    ),
+    (b"field f17t5\nput 0 0 0 0 0\n", "line 2: fault 2\n", 1),
 ];
