@@ -12,6 +12,7 @@ pub mod field;
 pub mod integers;
 pub mod laws;
 pub mod linear_combination;
+pub mod monomials;
 pub mod packed_traits;
 pub mod parallel_streams;
 pub mod powers;

@@ -9,8 +9,8 @@ use crate::fp::Fp;
 use crate::small::{F2, F17, F17b, F31, M2, M15, M17, M17b, M31, Z15};
 use crate::trinomial_constants::{CubicConstants, QuinticConstants};
 use p3_field::extension::{
-    BinomialExtensionField, ByteCountFits, CubicTrinomialExtensionField,
-    QuinticTrinomialExtensionField,
+    BinomialExtensionField, ByteCountFits, Complex, ComplexExtendable,
+    CubicTrinomialExtensionField, QuinticTrinomialExtensionField,
 };
 
 /// The extension of `F17` by `X^2 = 3`.
@@ -406,6 +406,25 @@ impl QuinticConstants for Plain<M2> {
     ghost table = { record { width = refl; rows = refl; root = refl; order = refl; apart = refl } };
 
     ghost coeffs_of_image = { refl };
+}
+
+/// The extension of `F31` by `X^2 = -1`.
+pub type F31c = Complex<F31>;
+
+impl ComplexExtendable for F31 {
+    ghost use Rattle.std.specs.Prelude.{get_or};
+    ghost use Rattle.p3_bench_prime.specs.Elements.{of, is};
+    ghost use Rattle.p3_bench_prime.specs.Halves.{two_has_inverse};
+
+    ghost complex_generator = { λ i. of ⟦<Plain<M31> as Form>⟧ (get_or (3 ∷ 2 ∷ []) i 0) };
+
+    #[inline]
+    fn complex_generator(i: usize) -> Self {
+        let coefficient = [3, 2][i];
+        Self::new(coefficient)
+    }
+
+    ghost two_has_an_inverse = { two_has_inverse (is ⟦<Plain<M31> as Form>⟧) refl };
 }
 
 impl<W: Form> ByteCountFits<2> for Fp<W> {

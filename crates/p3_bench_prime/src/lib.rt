@@ -10,6 +10,7 @@ pub mod fp;
 pub mod goldilocks;
 mod inverse;
 pub mod koala_bear;
+pub mod monomials;
 pub mod small;
 #[cfg(test)]
 mod tests;

@@ -1,3 +1,4 @@
+mod complex_values;
 mod extension_constants;
 mod extension_rows;
 mod extension_tables;

@@ -11,3 +11,4 @@ pub mod Orders
 pub mod ValueBytes
 pub mod ValueOrder
 pub mod ConjugateChains
+pub mod ComplexValues

@@ -13,6 +13,8 @@ pub mod basis;
 pub mod binomial_extension;
 mod binomial_inverses;
 mod binomial_products;
+pub mod complex_binomial;
+pub mod complex_extension;
 pub mod cubic_extension;
 mod defaults;
 pub mod display;
@@ -26,6 +28,8 @@ mod streams;
 mod vectors;
 
 pub use binomial_extension::{binomial_mul, binomial_square, octic_mul, quartic_mul, quintic_mul};
+pub use complex_binomial::HasComplexBinomialExtension;
+pub use complex_extension::{Complex, ComplexExtendable};
 pub use cubic_extension::{cubic_square, trinomial_cubic_mul};
 pub use ext_field::ExtField;
 pub use has_frobenius::HasFrobenius;

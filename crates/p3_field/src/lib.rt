@@ -15,6 +15,7 @@ pub use p3_base::integers as integers;
 pub use p3_base::linear_combination::{
     chunked_linear_combination, chunked_mixed_dot_product, dispatch_chunked_mixed_dot_product,
 };
+pub use p3_base::monomials::{InjectiveMonomial, PermutationMonomial};
 pub use p3_base::packed_traits::Packable;
 pub use p3_base::parallel_streams::{
     into_parallel_byte_streams, into_parallel_u32_streams, into_parallel_u64_streams,
@@ -25,7 +26,7 @@ pub use p3_base::sampling::UniformSamplingField;
 pub use p3_base::sponge::SpongePaddingValue;
 pub use p3_base::streams::{ByteStream, RawDataSerializable, U32Stream, U64Stream};
 pub use p3_base::sums::sum_array;
-pub use p3_ext::extension as extension;
+pub use p3_ext::{extension as extension, subfield as subfield};
 pub use p3_runs::steps as steps;
 pub use p3_tools::exponentiation as exponentiation;
 pub use p3_tools::helpers::{

@@ -79,3 +79,6 @@ pub mod Interleaving
 pub mod ValueLists
 pub mod ZeroDivisors
 pub mod Fermat
+pub mod ComplexExtensions
+pub mod Monomials
+pub mod Subfields

@@ -1,0 +1,141 @@
+//! Extensions by `Y^D = W` over an extension by `X^2 = -1`.
+ghost use Rattle.std.specs.Prelude.{◌≡◌, ◌≤◌, ◌<◌, ℕ, List};
+ghost use Rattle.p3_theory.specs.Powers.{power};
+ghost use Rattle.p3_theory.specs.Polynomial.{binomial, quotient_mul};
+ghost use Rattle.p3_ext.specs.ComplexValues.{complex_ops, ArePowersApart};
+
+use super::binomial_extension::{binomial_product, binomial_square};
+use super::complex_extension::{Complex, ComplexExtendable};
+use super::{Binomial, BinomiallyExtendable, ExtensionAlgebra, ExtensionProduct};
+
+/// A field whose extension by `X^2 = -1` has an extension of degree D by `Y^D = W`. Upstream's
+/// `HasComplexBinomialExtension`.
+pub trait HasComplexBinomialExtension<const D: usize>: ComplexExtendable {
+    ghost use Rattle.p3_ext.specs.declared.extension.ext_field.ExtField.{ExtField};
+    ghost use Rattle.p3_ext.specs.declared.extension.Binomial.{Binomial};
+
+    ghost w: { ExtField Self 2 (Binomial Self) Self };
+
+    ghost dth_root: { ExtField Self 2 (Binomial Self) Self };
+
+    /// The coefficients of the chosen element.
+    ghost ext_generator: { ℕ → ExtField Self 2 (Binomial Self) Self };
+
+    /// The bytes of the name of the extension as an algebra.
+    ghost complex_binomial_algebra_id: { List ℕ };
+
+    /// The name of the extension as an algebra, which tells it from others over the same base.
+    fn complex_binomial_algebra_id() -> &'static str
+        ensures { result.now ≡ complex_binomial_algebra_id };
+
+    /// The W of `Y^D = W`.
+    fn w() -> Complex<Self>
+        ensures { result ≡ w };
+
+    /// A root of unity of order D: its D-th power is one, and its powers 1 to D - 1, each less
+    /// one, have inverses.
+    fn dth_root() -> Complex<Self>
+        ensures { result ≡ dth_root };
+
+    /// The coefficient at `Y^i` of a chosen element whose order has the full power of two.
+    fn ext_generator(i: usize) -> Complex<Self>
+        requires { i < D }
+        ensures { result ≡ ext_generator i };
+
+    /// The value times W.
+    #[inline]
+    fn mul_by_w(z: Complex<Self>) -> Complex<Self>
+        ensures { result ≡ (complex_ops Self.ops).mul w z }
+    {
+        let w = <Self as HasComplexBinomialExtension<D>>::w();
+        w * z
+    }
+
+    /// The degree is two or more.
+    ghost at_least_two: { 2 ≤ D };
+
+    ghost root_power: { power (complex_ops Self.ops) dth_root D ≡ (complex_ops Self.ops).one };
+
+    ghost apart: { ArePowersApart (complex_ops Self.ops) D dth_root };
+}
+
+impl<F: HasComplexBinomialExtension<D>, const D: usize> ExtensionProduct<
+    Complex<F>,
+    D,
+    Binomial<Complex<F>>,
+> for Complex<F> {
+    ghost ext_product_gives = { λ a b r. r ≡ quotient_mul (complex_ops F.ops) D (binomial (complex_ops F.ops) D F.HasComplexBinomialExtension.w) a b };
+
+    #[inline]
+    fn ext_product(a: &[Complex<F>], b: &[Complex<F>], res: &mut [Complex<F>]) {
+        let w = <F as HasComplexBinomialExtension<D>>::w();
+        binomial_product::<Complex<F>, Complex<F>, D>(a, b, res, w);
+    }
+}
+
+impl<F: HasComplexBinomialExtension<D>, const D: usize> ExtensionAlgebra<
+    Complex<F>,
+    D,
+    Binomial<Complex<F>>,
+> for Complex<F> {
+    ghost use Rattle.std.proofs.Common.{arith};
+    ghost use Rattle.p3_theory.specs.BinomialFrobenius.{binomial_is_monic};
+
+    ghost modulus = { binomial (complex_ops F.ops) D F.HasComplexBinomialExtension.w };
+
+    #[inline]
+    fn ext_mul(a: &[Complex<F>], b: &[Complex<F>], res: &mut [Complex<F>]) {
+        let w = <F as HasComplexBinomialExtension<D>>::w();
+        binomial_product::<Complex<F>, Complex<F>, D>(a, b, res, w);
+    }
+
+    #[inline]
+    fn ext_square(a: &[Complex<F>], res: &mut [Complex<F>]) {
+        let w = <F as HasComplexBinomialExtension<D>>::w();
+        binomial_square::<Complex<F>, Complex<F>, D>(a, res, w);
+    }
+
+    ghost at_least_two = { F.HasComplexBinomialExtension.at_least_two };
+
+    ghost monic = { binomial_is_monic (complex_ops F.ops) D (omega (arith, F.HasComplexBinomialExtension.at_least_two)) F.HasComplexBinomialExtension.w };
+
+    ghost ext_products = { λ a b r h. h };
+}
+
+impl<F: HasComplexBinomialExtension<D>, const D: usize> BinomiallyExtendable<D> for Complex<F> {
+    ghost use Rattle.std.specs.Prelude.{refl};
+
+    ghost w = { F.HasComplexBinomialExtension.w };
+
+    ghost dth_root = { F.HasComplexBinomialExtension.dth_root };
+
+    ghost ext_generator = { F.HasComplexBinomialExtension.ext_generator };
+
+    ghost binomial_algebra_id = { F.complex_binomial_algebra_id };
+
+    #[inline]
+    fn binomial_algebra_id() -> &'static str {
+        F::complex_binomial_algebra_id()
+    }
+
+    #[inline]
+    fn w() -> Complex<F> {
+        <F as HasComplexBinomialExtension<D>>::w()
+    }
+
+    #[inline]
+    fn dth_root() -> Complex<F> {
+        <F as HasComplexBinomialExtension<D>>::dth_root()
+    }
+
+    #[inline]
+    fn ext_generator(i: usize) -> Complex<F> {
+        <F as HasComplexBinomialExtension<D>>::ext_generator(i)
+    }
+
+    ghost by_w = { refl };
+
+    ghost root_power = { F.HasComplexBinomialExtension.root_power };
+
+    ghost apart = { F.HasComplexBinomialExtension.apart };
+}

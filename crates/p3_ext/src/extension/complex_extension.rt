@@ -1,0 +1,191 @@
+//! Extensions by a root of minus one, and extensions over them.
+ghost use Rattle.std.specs.Prelude.{◌≡◌, ◌<◌, [], ◌∷◌, ℕ};
+ghost use Rattle.p3_theory.specs.Ring.{Ops, Invertible};
+ghost use Rattle.p3_theory.specs.Multiples.{two};
+ghost use Rattle.p3_theory.specs.ComplexExtensions.{real_part, imaginary_part, conjugated, complex_norm, rotated};
+
+use super::binomial_extension::{binomial_product, binomial_square};
+use super::{
+    Binomial, BinomialExtensionField, BinomiallyExtendable, ExtensionAlgebra, ExtensionProduct,
+};
+use p3_base::field::Field;
+use p3_base::ring::{Algebra, PrimeCharacteristicRing};
+
+/// The extension of F by `X^2 = -1`. Upstream's `Complex`.
+pub type Complex<F> = BinomialExtensionField<F, 2>;
+
+/// A field with an extension by `X^2 = -1`. Upstream's `ComplexExtendable`.
+pub trait ComplexExtendable: Field {
+    /// The coefficients of the chosen element.
+    ghost complex_generator: { ℕ → Self };
+
+    /// The coefficient at `X^i` of a chosen element of the extension, whose order has the full power
+    /// of two. Upstream's `COMPLEX_GENERATOR`.
+    fn complex_generator(i: usize) -> Self
+        requires { i < 2 }
+        ensures { result ≡ complex_generator i };
+
+    /// Two has an inverse, so minus one is apart from one.
+    ghost two_has_an_inverse: { Invertible Self.ops (two Self.ops) };
+}
+
+impl<F: ComplexExtendable> ExtensionProduct<F, 2, Binomial<F>> for F {
+    ghost use Rattle.p3_theory.specs.Polynomial.{quotient_mul, binomial};
+
+    ghost ext_product_gives = { λ a b r. r ≡ quotient_mul F.ops 2 (binomial F.ops 2 (F.ops.neg F.ops.one)) a b };
+
+    #[inline]
+    fn ext_product(a: &[F], b: &[F], res: &mut [F]) {
+        binomial_product::<F, F, 2>(a, b, res, F::neg_one());
+    }
+}
+
+impl<F: ComplexExtendable> ExtensionAlgebra<F, 2, Binomial<F>> for F {
+    ghost use Rattle.std.proofs.Common.{lit≤};
+    ghost use Rattle.p3_theory.specs.Polynomial.{binomial};
+    ghost use Rattle.p3_theory.specs.BinomialFrobenius.{binomial_is_monic};
+
+    ghost modulus = { binomial F.ops 2 (F.ops.neg F.ops.one) };
+
+    #[inline]
+    fn ext_mul(a: &[F], b: &[F], res: &mut [F]) {
+        binomial_product::<F, F, 2>(a, b, res, F::neg_one());
+    }
+
+    #[inline]
+    fn ext_square(a: &[F], res: &mut [F]) {
+        binomial_square::<F, F, 2>(a, res, F::neg_one());
+    }
+
+    ghost at_least_two = { lit≤ tt };
+
+    ghost monic = { binomial_is_monic F.ops 2 (lit≤ tt) (F.ops.neg F.ops.one) };
+
+    ghost ext_products = { λ a b r h. h };
+}
+
+impl<F: ComplexExtendable> BinomiallyExtendable<2> for F {
+    ghost use Rattle.std.specs.Prelude.{codes, refl};
+    ghost use Rattle.p3_theory.specs.Ring.{ring_of};
+    ghost use Rattle.p3_theory.specs.ComplexExtensions.{minus_one_square, minus_one_apart};
+
+    ghost w = { F.ops.neg F.ops.one };
+
+    ghost dth_root = { F.ops.neg F.ops.one };
+
+    ghost ext_generator = { F.ComplexExtendable.complex_generator };
+
+    ghost binomial_algebra_id = { codes "p3-power-basis-v1:X^2+1" };
+
+    #[inline]
+    fn binomial_algebra_id() -> &'static str {
+        "p3-power-basis-v1:X^2+1"
+    }
+
+    #[inline]
+    fn w() -> F {
+        F::neg_one()
+    }
+
+    #[inline]
+    fn dth_root() -> F {
+        F::neg_one()
+    }
+
+    #[inline]
+    fn ext_generator(i: usize) -> F {
+        F::complex_generator(i)
+    }
+
+    ghost by_w = { refl };
+
+    ghost root_power = { minus_one_square (ring_of F.ring) };
+
+    ghost apart = { minus_one_apart (ring_of F.ring) F.two_has_an_inverse };
+}
+
+/// Values of degree two as complex ones. Products are not asked for, so W may be any.
+impl<F: Copy, A: PrimeCharacteristicRing> BinomialExtensionField<F, 2, A> {
+    /// The value with this coefficient at `X^0`, and this one at `X^1`.
+    #[inline]
+    pub fn new_complex(real: A, imag: A) -> Self
+        ensures { result.value ≡ real ∷ imag ∷ [] }
+    {
+        Self::new([real, imag])
+    }
+
+    /// The value with this coefficient at `X^0` alone.
+    #[inline]
+    pub fn new_real(real: A) -> Self
+        ensures { result.value ≡ real ∷ A.ops.zero ∷ [] }
+    {
+        Self::new_complex(real, A::zero())
+    }
+
+    /// The value with this coefficient at `X^1` alone.
+    #[inline]
+    pub fn new_imag(imag: A) -> Self
+        ensures { result.value ≡ A.ops.zero ∷ imag ∷ [] }
+    {
+        Self::new_complex(A::zero(), imag)
+    }
+
+    /// The coefficient at `X^0`.
+    #[inline]
+    pub fn real(&self) -> A
+        ensures { result ≡ real_part A.ops self.now.value }
+    {
+        self.value[0]
+    }
+
+    /// The coefficient at `X^1`.
+    #[inline]
+    pub fn imag(&self) -> A
+        ensures { result ≡ imaginary_part A.ops self.now.value }
+    {
+        self.value[1]
+    }
+
+    /// The value with the coefficient at `X^1` negated.
+    #[inline]
+    pub fn conjugate(&self) -> Self
+        ensures { result.value ≡ conjugated A.ops self.now.value }
+    {
+        let real = self.real();
+        let imag = -self.imag();
+        Self::new_complex(real, imag)
+    }
+
+    /// The sum of the squares of both coefficients.
+    #[inline]
+    pub fn norm(&self) -> A
+        ensures { result ≡ complex_norm A.ops self.now.value }
+    {
+        self.real().square() + self.imag().square()
+    }
+
+    /// Both coefficients, from the one at `X^0` upward.
+    #[inline]
+    pub fn to_array(&self) -> [A; 2]
+        ensures { result ≡ self.now.value }
+    {
+        self.value
+    }
+
+    /// The argument, over an algebra, times the value, where the square of X is minus one.
+    #[inline]
+    pub fn rotate<G: Copy, E: Algebra<A>>(
+        &self,
+        rhs: &BinomialExtensionField<G, 2, E>,
+    ) -> BinomialExtensionField<G, 2, E>
+        ensures { result.value ≡ rotated A.ops E.ops E.embed self.now.value rhs.now.value }
+    {
+        let real = self.real();
+        let imag = self.imag();
+        let outer = rhs.real() * real;
+        let inner = rhs.imag() * imag;
+        let left = rhs.imag() * real;
+        let right = rhs.real() * imag;
+        BinomialExtensionField::<G, 2, E>::new_complex(outer - inner, left + right)
+    }
+}
