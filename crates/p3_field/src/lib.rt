@@ -26,7 +26,8 @@ pub use p3_base::sampling::UniformSamplingField;
 pub use p3_base::sponge::SpongePaddingValue;
 pub use p3_base::streams::{ByteStream, RawDataSerializable, U32Stream, U64Stream};
 pub use p3_base::sums::sum_array;
-pub use p3_ext::{extension as extension, subfield as subfield};
+pub use p3_ext::extension as extension;
+pub use p3_ext::subfield::HasSubfield;
 pub use p3_runs::steps as steps;
 pub use p3_tools::exponentiation as exponentiation;
 pub use p3_tools::helpers::{
