@@ -25,7 +25,7 @@ trait Tabled: Copy {
 
     fn squared(&self) -> Self;
 
-    fn times(&self, other: &Self) -> Self;
+    fn times(self, other: Self) -> Self;
 
     fn inverse(&self) -> Option<Self>;
 
@@ -35,7 +35,7 @@ trait Tabled: Copy {
 
     fn base_value(&self) -> Option<u64>;
 
-    fn orbit(&self, alloc: Global) -> Result<Vec<Self>, AllocError>;
+    fn orbit(self, alloc: Global) -> Result<Vec<Self>, AllocError>;
 
     fn text(&self, alloc: Global) -> Result<String, AllocError>;
 }
@@ -64,8 +64,8 @@ impl<W: BinomialConstants<D>, const D: usize> Tabled for BinomialExtensionField<
         self.square()
     }
 
-    fn times(&self, other: &Self) -> Self {
-        *self * *other
+    fn times(self, other: Self) -> Self {
+        self * other
     }
 
     fn inverse(&self) -> Option<Self> {
@@ -87,8 +87,8 @@ impl<W: BinomialConstants<D>, const D: usize> Tabled for BinomialExtensionField<
         }
     }
 
-    fn orbit(&self, alloc: Global) -> Result<Vec<Self>, AllocError> {
-        (*self).galois_orbit(alloc)
+    fn orbit(self, alloc: Global) -> Result<Vec<Self>, AllocError> {
+        self.galois_orbit(alloc)
     }
 
     fn text(&self, alloc: Global) -> Result<String, AllocError> {
@@ -108,7 +108,7 @@ fn assert_squares<T: Tabled>(rt: &impl Abort, rows: &[(T::Row, T::Row)]) {
 fn assert_products<T: Tabled>(rt: &impl Abort, rows: &[(T::Row, T::Row, T::Row)]) {
     for row in rows {
         let (x, y, product) = *row;
-        assert_eq!(rt; T::of(x).times(&T::of(y)).row(), product);
+        assert_eq!(rt; T::of(x).times(T::of(y)).row(), product);
     }
 }
 
