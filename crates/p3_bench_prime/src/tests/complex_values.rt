@@ -17,23 +17,13 @@ fn powers_of<F: PermutationMonomial<N>, const N: u64>(x: F, y: F) -> (F, F) {
     (x.injective_exp_n(), y.injective_exp_root_n())
 }
 
-/// Whether every value lies in the subfield.
-fn all_below<S: Field, F: HasSubfield<S>>(values: &[F]) -> bool {
-    F::all_in_subfield(values)
-}
-
-/// The element of the subfield that a value is.
-fn below<S: Field, F: HasSubfield<S>>(value: F) -> Option<S> {
-    value.as_subfield()
-}
-
 #[test]
 fn complex_values(rt: HostRuntime) {
     let z = complex(3, 2);
     assert_eq!(rt; z.square(), complex(5, 12));
     assert_eq!(rt; z.conjugate(), complex(3, 29));
     assert_eq!(rt; z.norm(), F31::new(13));
-    assert_eq!(rt; z.inverse(), complex(5, 7));
+    assert_eq!(rt; z.try_inverse(), Some(complex(5, 7)));
     assert_eq!(rt; z.rotate(&complex(1, 5)), complex(24, 17));
     assert_eq!(rt; z.to_array(), [F31::new(3), F31::new(2)]);
     assert_eq!(rt; z.real(), F31::new(3));
@@ -65,11 +55,11 @@ fn values_in_a_subfield(rt: HostRuntime) {
     let zero = F17::zero();
     let five = F17x4::new([F17::new(5), zero, zero, zero]);
     let x = F17x4::new([zero, F17::one(), zero, zero]);
-    assert_eq!(rt; below::<F17, F17x4>(five), Some(F17::new(5)));
-    assert_eq!(rt; below::<F17, F17x4>(x), None);
-    assert!(rt; all_below::<F17, F17x4>(&[]));
-    assert!(rt; all_below::<F17, F17x4>(&[five]));
-    assert!(rt; !all_below::<F17, F17x4>(&[five, x]));
+    assert_eq!(rt;
+        <F17x4 as HasSubfield<F17>>::as_subfield(&five),
+        Some(F17::new(5))
+    );
+    assert_eq!(rt; <F17x4 as HasSubfield<F17>>::as_subfield(&x), None);
 }
 
 #[test]
