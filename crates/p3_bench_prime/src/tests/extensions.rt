@@ -3,9 +3,15 @@
 use super::extension_tables as tables;
 use super::extension_tables::Table;
 use crate::binomial_constants::BinomialConstants;
-use crate::extensions::{BabyBearx4, F17bx2, F17x2, F17x4, F17x8, F31x3, F31x5, F31x6, Z15x2};
+use crate::extensions::{
+    BabyBearx4, F2t5, F17bx2, F17t5, F17x2, F17x4, F17x8, F31t3, F31x3, F31x5, F31x6, Z15x2,
+};
 use crate::fp::Fp;
-use p3_field::extension::{BinomialExtensionField, HasFrobenius};
+use crate::trinomial_constants::{CubicConstants, QuinticConstants};
+use p3_field::extension::{
+    BinomialExtensionField, CubicTrinomialExtensionField, HasFrobenius,
+    QuinticTrinomialExtensionField,
+};
 use p3_field::{ExtensionField, Field, PrimeCharacteristicRing, PrimeField64};
 use std::alloc::{AllocError, Global};
 use std::fmt::Debug;
@@ -54,6 +60,118 @@ impl<W: BinomialConstants<D>, const D: usize> Tabled for BinomialExtensionField<
     fn row(&self) -> [u64; D] {
         let mut row = [0; D];
         for i in 0..D {
+            let c = self.value[i];
+            row[i] = c.as_canonical_u64();
+        }
+        row
+    }
+
+    fn squared(&self) -> Self {
+        self.square()
+    }
+
+    fn times(self, other: Self) -> Self {
+        self * other
+    }
+
+    fn inverse(&self) -> Option<Self> {
+        self.try_inverse()
+    }
+
+    fn image(&self) -> Self {
+        self.frobenius()
+    }
+
+    fn image_after(&self, count: usize) -> Self {
+        self.repeated_frobenius(count)
+    }
+
+    fn base_value(&self) -> Option<u64> {
+        match ExtensionField::<Fp<W>>::as_base(self) {
+            Some(c) => Some(c.as_canonical_u64()),
+            None => None,
+        }
+    }
+
+    fn orbit(self, alloc: Global) -> Result<Vec<Self>, AllocError> {
+        self.galois_orbit(alloc)
+    }
+
+    fn text(&self, alloc: Global) -> Result<String, AllocError> {
+        self.to_string(alloc)
+    }
+}
+
+impl<W: CubicConstants> Tabled for CubicTrinomialExtensionField<Fp<W>> {
+    type Row = [u64; 3];
+
+    fn of(row: [u64; 3]) -> Self {
+        let mut coefficients = [Fp::<W>::zero(); 3];
+        for i in 0..3 {
+            coefficients[i] = Fp::<W>::from_u64(row[i]);
+        }
+        CubicTrinomialExtensionField::<Fp<W>>::new(coefficients)
+    }
+
+    fn row(&self) -> [u64; 3] {
+        let mut row = [0; 3];
+        for i in 0..3 {
+            let c = self.value[i];
+            row[i] = c.as_canonical_u64();
+        }
+        row
+    }
+
+    fn squared(&self) -> Self {
+        self.square()
+    }
+
+    fn times(self, other: Self) -> Self {
+        self * other
+    }
+
+    fn inverse(&self) -> Option<Self> {
+        self.try_inverse()
+    }
+
+    fn image(&self) -> Self {
+        self.frobenius()
+    }
+
+    fn image_after(&self, count: usize) -> Self {
+        self.repeated_frobenius(count)
+    }
+
+    fn base_value(&self) -> Option<u64> {
+        match ExtensionField::<Fp<W>>::as_base(self) {
+            Some(c) => Some(c.as_canonical_u64()),
+            None => None,
+        }
+    }
+
+    fn orbit(self, alloc: Global) -> Result<Vec<Self>, AllocError> {
+        self.galois_orbit(alloc)
+    }
+
+    fn text(&self, alloc: Global) -> Result<String, AllocError> {
+        self.to_string(alloc)
+    }
+}
+
+impl<W: QuinticConstants> Tabled for QuinticTrinomialExtensionField<Fp<W>> {
+    type Row = [u64; 5];
+
+    fn of(row: [u64; 5]) -> Self {
+        let mut coefficients = [Fp::<W>::zero(); 5];
+        for i in 0..5 {
+            coefficients[i] = Fp::<W>::from_u64(row[i]);
+        }
+        QuinticTrinomialExtensionField::<Fp<W>>::new(coefficients)
+    }
+
+    fn row(&self) -> [u64; 5] {
+        let mut row = [0; 5];
+        for i in 0..5 {
             let c = self.value[i];
             row[i] = c.as_canonical_u64();
         }
@@ -234,4 +352,19 @@ fn f31x6(rt: HostRuntime) -> Result<(), Fail> {
 #[test]
 fn bbx4(rt: HostRuntime) -> Result<(), Fail> {
     assert_table::<BabyBearx4>(&rt, &tables::BBX4)
+}
+
+#[test]
+fn f31t3(rt: HostRuntime) -> Result<(), Fail> {
+    assert_table::<F31t3>(&rt, &tables::F31T3)
+}
+
+#[test]
+fn f17t5(rt: HostRuntime) -> Result<(), Fail> {
+    assert_table::<F17t5>(&rt, &tables::F17T5)
+}
+
+#[test]
+fn f2t5(rt: HostRuntime) -> Result<(), Fail> {
+    assert_table::<F2t5>(&rt, &tables::F2T5)
 }
