@@ -12,7 +12,7 @@ use p3_field::extension::{
     BinomialExtensionField, CubicTrinomialExtensionField, HasFrobenius,
     QuinticTrinomialExtensionField,
 };
-use p3_field::{ExtensionField, Field, PrimeCharacteristicRing, PrimeField64};
+use p3_field::{ExtensionField, Field, PrimeCharacteristicRing, PrimeField64, RawDataSerializable};
 use std::alloc::{AllocError, Global};
 use std::fmt::Debug;
 use std::process::Abort;
@@ -295,6 +295,20 @@ fn assert_base_values<T: Tabled>(rt: &impl Abort, rows: &[(T::Row, Option<u64>)]
     }
 }
 
+/// Asserts that each row has values and the words of their bytes.
+fn assert_streams<T: RawDataSerializable + Tabled>(
+    rt: &(impl Abort + AllocGlobal),
+    rows: &[(&[T::Row], &[u64])],
+) -> Result<(), Fail> {
+    for row in rows {
+        let (items, words) = *row;
+        let values = items.iter().map(|x| T::of(*x));
+        let stream: Vec<u64> = T::into_u64_stream(values).collect(rt.alloc())?;
+        assert_eq!(rt; stream.as_slice(), words);
+    }
+    Ok(())
+}
+
 /// Asserts what a table says of a type.
 fn assert_table<T: Tabled>(
     rt: &(impl Abort + AllocGlobal),
@@ -311,60 +325,72 @@ fn assert_table<T: Tabled>(
 
 #[test]
 fn f17x2(rt: HostRuntime) -> Result<(), Fail> {
+    assert_streams::<F17x2>(&rt, tables::F17X2.streams)?;
     assert_table::<F17x2>(&rt, &tables::F17X2)
 }
 
 #[test]
 fn f17x4(rt: HostRuntime) -> Result<(), Fail> {
+    assert_streams::<F17x4>(&rt, tables::F17X4.streams)?;
     assert_table::<F17x4>(&rt, &tables::F17X4)
 }
 
 #[test]
 fn f17x8(rt: HostRuntime) -> Result<(), Fail> {
+    assert_streams::<F17x8>(&rt, tables::F17X8.streams)?;
     assert_table::<F17x8>(&rt, &tables::F17X8)
 }
 
 #[test]
 fn f17bx2(rt: HostRuntime) -> Result<(), Fail> {
+    assert_streams::<F17bx2>(&rt, tables::F17BX2.streams)?;
     assert_table::<F17bx2>(&rt, &tables::F17BX2)
 }
 
 #[test]
 fn z15x2(rt: HostRuntime) -> Result<(), Fail> {
+    assert_streams::<Z15x2>(&rt, tables::Z15X2.streams)?;
     assert_table::<Z15x2>(&rt, &tables::Z15X2)
 }
 
 #[test]
 fn f31x3(rt: HostRuntime) -> Result<(), Fail> {
+    assert_streams::<F31x3>(&rt, tables::F31X3.streams)?;
     assert_table::<F31x3>(&rt, &tables::F31X3)
 }
 
 #[test]
 fn f31x5(rt: HostRuntime) -> Result<(), Fail> {
+    assert_streams::<F31x5>(&rt, tables::F31X5.streams)?;
     assert_table::<F31x5>(&rt, &tables::F31X5)
 }
 
 #[test]
 fn f31x6(rt: HostRuntime) -> Result<(), Fail> {
+    assert_streams::<F31x6>(&rt, tables::F31X6.streams)?;
     assert_table::<F31x6>(&rt, &tables::F31X6)
 }
 
 #[test]
 fn bbx4(rt: HostRuntime) -> Result<(), Fail> {
+    assert_streams::<BabyBearx4>(&rt, tables::BBX4.streams)?;
     assert_table::<BabyBearx4>(&rt, &tables::BBX4)
 }
 
 #[test]
 fn f31t3(rt: HostRuntime) -> Result<(), Fail> {
+    assert_streams::<F31t3>(&rt, tables::F31T3.streams)?;
     assert_table::<F31t3>(&rt, &tables::F31T3)
 }
 
 #[test]
 fn f17t5(rt: HostRuntime) -> Result<(), Fail> {
+    assert_streams::<F17t5>(&rt, tables::F17T5.streams)?;
     assert_table::<F17t5>(&rt, &tables::F17T5)
 }
 
 #[test]
 fn f2t5(rt: HostRuntime) -> Result<(), Fail> {
+    assert_streams::<F2t5>(&rt, tables::F2T5.streams)?;
     assert_table::<F2t5>(&rt, &tables::F2T5)
 }
