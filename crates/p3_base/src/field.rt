@@ -1,10 +1,11 @@
-ghost use Rattle.std.specs.Prelude.{◌≡◌, ◌≢◌, ◌↔◌, ℕ, IsTrue, IsSome, IfSome, MatchOption, Option, Some, Decides, List, length};
+ghost use Rattle.std.specs.Prelude.{◌≡◌, ◌≢◌, ◌↔◌, ◌≤◌, ℕ, IsTrue, IsSome, IfSome, MatchOption, Option, Some, Decides, List, length};
 ghost use Rattle.p3_theory.specs.Ring.{Ops, Invertible, IsInverse};
 ghost use Rattle.p3_theory.specs.Multiples.{of_nat};
 ghost use Rattle.p3_theory.specs.PairedLists.{zip_with};
 ghost use Rattle.p3_theory.specs.BitLength.{IsBitLength};
 ghost use Rattle.p3_theory.specs.Residues.{AreResidues};
 ghost use Rattle.p3_theory.specs.ValueLists.{ValueList};
+ghost use Rattle.p3_theory.specs.TwoAdic.{AreTwoAdicGenerators, DividesOrder};
 
 use crate::integers::{Quotient, QuotientMap};
 use crate::ring::PrimeCharacteristicRing;
@@ -201,4 +202,28 @@ pub trait PrimeField32: PrimeField64 {
 
     /// Values with one number are one value.
     ghost same_unique_u32: { (x y : Self) → unique_u32 x ≡ unique_u32 y → x ≡ y };
+}
+
+/// A field with generators of its subgroups whose orders are powers of two, up to the two-adicity.
+/// Upstream's `TwoAdicField`.
+pub trait TwoAdicField: Field {
+    /// The root of unity of order `2^bits` that `two_adic_generator` answers.
+    ghost two_adic: { ℕ → Self };
+
+    /// The greatest number of bits that a two-adic generator is given for.
+    const TWO_ADICITY: usize;
+
+    ghost TWO_ADICITY: { ℕ };
+
+    /// A root of unity of order `2^bits`.
+    fn two_adic_generator(bits: usize) -> Self
+        requires { bits ≤ TWO_ADICITY }
+        ensures { result ≡ two_adic bits };
+
+    /// The generator for no bits is one, each one's square is the one before it, and the one for
+    /// one bit is minus one.
+    ghost generators: { AreTwoAdicGenerators Self.ops TWO_ADICITY two_adic };
+
+    /// Two to the two-adicity divides the order less one, where the order is given.
+    ghost divides_order: { DividesOrder TWO_ADICITY Self.size };
 }

@@ -1,4 +1,3 @@
 pub mod Sums
 pub mod Euclid
 pub mod ArrayItems
-pub mod ZeroedProducts

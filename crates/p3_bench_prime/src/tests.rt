@@ -7,6 +7,7 @@ mod extensions;
 mod ring_values;
 mod stream_values;
 mod tool_values;
+mod trinomial_tables;
 mod vector_tables;
 mod vectors;
 

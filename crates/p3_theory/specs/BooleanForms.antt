@@ -1,5 +1,5 @@
 -- The Boolean operations as polynomials, which agree with them on zero and one.
-use Rattle.std.proofs.Common.{◌≡◌, List, [], ◌∷◌}
+use Rattle.std.proofs.Common.{◌≡◌, [], ◌∷◌}
 use Rattle.p3_theory.specs.Ring.{Ops, RingLaws, subtract}
 use Rattle.p3_theory.specs.Multiples.{two}
 use Rattle.p3_theory.specs.Reify.{by_laws, reads, yes}

@@ -1,10 +1,10 @@
 -- Pairs of coefficients as complex values, and minus one as a root of unity of order two.
-use Rattle.std.proofs.Common.{◌≡◌, ◌≤◌, ◌<◌, ℕ, zero, suc, List, [], ◌∷◌, get_or, refl, ap, sym, ◌∙◌, arith}
+use Rattle.std.proofs.Common.{◌≡◌, ◌≤◌, ◌<◌, ℕ, zero, suc, List, [], ◌∷◌, get_or, refl, ap, ◌∙◌, arith}
 use Rattle.p3_theory.specs.Ring.{Ops, Ring, Invertible, subtract}
 use Rattle.p3_theory.specs.Polynomial.{at, quotient_mul, binomial}
 use Rattle.p3_theory.specs.Powers.{power}
 use Rattle.p3_theory.specs.Multiples.{two}
-use Rattle.p3_theory.specs.Solver.{Expr, V, free}
+use Rattle.p3_theory.specs.Solver.{V, free}
 use Rattle.p3_theory.specs.Formula.{by_ring}
 
 module _ {A : Type 0} (O : Ops A) where

@@ -1,9 +1,9 @@
 -- Sums as loops make them, and the product modulo X^D - w by two of them.
-use Rattle.std.proofs.Common.{◌≡◌, ◌<◌, ◌≤◌, ◌+◌, ◌-◌, ℕ, zero, suc, List, length, refl, sym, ap, ◌∙◌, ap₂}
+use Rattle.std.proofs.Common.{◌≡◌, ◌<◌, ◌≤◌, ◌+◌, ◌-◌, ℕ, zero, suc, refl, sym, ap, ◌∙◌, ap₂}
 use mathlib.Core.Path.{fun_ext}
 use native.Mathlib.Omega.{arith}
 use Rattle.p3_theory.specs.Ring.{Ring}
-use Rattle.p3_theory.specs.Polynomial.{convolve, at}
+use Rattle.p3_theory.specs.Polynomial.{convolve}
 use Rattle.p3_theory.specs.Powers.{sum_of}
 use Rattle.p3_theory.specs.Sequences as B
 use Rattle.p3_theory.specs.Sequences.{tail}

@@ -1,5 +1,5 @@
 -- The norm modulo X^3 = w, and which values have an inverse.
-use Rattle.std.proofs.Common.{◌≡◌, List, [], ◌∷◌, refl, sym, ap, ap₂, ◌∙◌, get_or}
+use Rattle.std.proofs.Common.{◌≡◌, List, [], ◌∷◌, refl, ap, ◌∙◌, get_or}
 use Rattle.p3_theory.specs.Ring.{Ops, Ring, subtract}
 use Rattle.p3_theory.specs.Polynomial.{quotient_mul, binomial, embed}
 use Rattle.p3_theory.specs.Solver.{Expr, V, free}

@@ -2,7 +2,7 @@
 use Rattle.std.proofs.Common.{◌≡◌, List, [], ◌∷◌, refl, ap₂, ◌∙◌}
 use Rattle.p3_theory.specs.Ring.{Ops, Ring, subtract}
 use Rattle.p3_theory.specs.Polynomial.{quotient_mul, binomial}
-use Rattle.p3_theory.specs.Solver.{Expr, V, free}
+use Rattle.p3_theory.specs.Solver.{V, free}
 use Rattle.p3_theory.specs.Formula.{by_ring}
 use Rattle.p3_theory.specs.Reify.{by_laws, reads, yes}
 

@@ -3,7 +3,7 @@ use Rattle.std.proofs.Common.{◌≡◌, ◌+◌, ℕ, zero, suc, List, [], ◌�
 use Rattle.p3_theory.specs.Ring.{Ops, Ring}
 use Rattle.p3_theory.specs.Places.{to-tabulate}
 use Rattle.p3_theory.specs.Polynomial.{tabulate, at, quotient_mul, quotient_add, quotient_neg, binomial, embed, IsMonic}
-use Rattle.p3_theory.specs.Solver.{Expr, V, free}
+use Rattle.p3_theory.specs.Solver.{V, free}
 use Rattle.p3_theory.specs.Formula.{by_ring}
 use Rattle.p3_theory.specs.BinomialFrobenius.{binomial_monic}
 use Rattle.p3_theory.specs.QuotientRing.{Ext, extension, Ext-path, length-mul, length-neg}

@@ -1,8 +1,7 @@
 -- From the laws of a Frobenius map: a value has an inverse exactly where its norm has one. Modulo X^D - w the image c * X has these laws.
-use Rattle.std.proofs.Common.{◌≡◌, ◌≤◌, ◌<◌, ◌↔◌, ℕ, zero, suc, List, [], ◌∷◌, length, refl, sym, ap, ◌∙◌, ap₂}
-use mathlib.Core.Path.{fun_ext}
-use Rattle.p3_theory.specs.Ring.{Ops, Ring, Invertible}
-use Rattle.p3_theory.specs.Polynomial.{tabulate, at, IsMonic, quotient_ops, quotient_add, quotient_mul, embed, binomial}
+use Rattle.std.proofs.Common.{◌≡◌, ◌≤◌, ◌<◌, ◌↔◌, ℕ, zero, suc, List, refl, sym, ap, ◌∙◌, ap₂}
+use Rattle.p3_theory.specs.Ring.{Ring, Invertible}
+use Rattle.p3_theory.specs.Polynomial.{at, IsMonic, quotient_add, quotient_mul, embed, binomial}
 use Rattle.p3_theory.specs.Powers.{power, scale_powers}
 use Rattle.p3_theory.specs.Frobenius.{iterate, IsFrobenius, orbit_product}
 use Rattle.p3_theory.specs.Sequences as Basics

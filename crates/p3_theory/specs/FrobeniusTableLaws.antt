@@ -1,5 +1,5 @@
 -- The equations of a concrete table give all laws of a Frobenius map, over any ring and modulo any monic polynomial.
-use Rattle.std.proofs.Common.{◌≡◌, ◌≤◌, ◌<◌, ℕ, zero, suc, List, [], ◌∷◌, length, get_or, refl, sym, ap, ◌∙◌, ap₂, subst, inl, inr, le_of_suc-le-suc}
+use Rattle.std.proofs.Common.{◌≡◌, ◌<◌, ℕ, zero, suc, List, [], ◌∷◌, length, get_or, refl, sym, ap, ◌∙◌, ap₂, inl, inr}
 use mathlib.Core.Path.{fun_ext}
 use native.Mathlib.Omega.{arith}
 use Rattle.std.proofs.lemmas.Bool.{cases_lt}

@@ -1,7 +1,7 @@
 -- A table proved on residues has the laws of a Frobenius map over every ring that they map to.
-use Rattle.std.proofs.Common.{◌≡◌, ℕ, zero, suc, List, map, length, sym, ap, ◌∙◌}
+use Rattle.std.proofs.Common.{ℕ, suc, List, map, ap, ◌∙◌}
 use Rattle.p3_theory.specs.Ring.{Ops, Ring, Hom}
-use Rattle.p3_theory.specs.Polynomial.{at, IsMonic}
+use Rattle.p3_theory.specs.Polynomial.{IsMonic}
 use Rattle.p3_theory.specs.FrobeniusTable.{TableProof, IsFrobeniusTable}
 use Rattle.p3_theory.specs.FrobeniusTableLaws.{table_laws}
 use Rattle.p3_theory.specs.Homomorphism as W

@@ -1,5 +1,5 @@
 -- The definitions go along with a map that keeps the operations; so do the equations of a table.
-use Rattle.std.proofs.Common.{◌≡◌, ℕ, zero, suc, pred, ◌+◌, List, [], ◌∷◌, length, map, get_or, refl, sym, ap, ◌∙◌, ap₂}
+use Rattle.std.proofs.Common.{◌≡◌, ℕ, zero, suc, pred, ◌+◌, List, [], ◌∷◌, length, map, refl, sym, ap, ◌∙◌, ap₂}
 use mathlib.Core.Path.{fun_ext}
 use Rattle.p3_theory.specs.Multiples.{of_nat}
 use Rattle.p3_theory.specs.Ring.{Ops, Hom}

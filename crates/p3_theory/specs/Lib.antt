@@ -66,6 +66,7 @@ pub mod ListItems
 pub mod OrbitLists
 pub mod OrbitProducts
 pub mod PlaceProducts
+pub mod ZeroedProducts
 pub mod QuadraticTower
 pub mod ScaledPowers
 pub mod ParallelStreams
@@ -82,3 +83,4 @@ pub mod Fermat
 pub mod ComplexExtensions
 pub mod Monomials
 pub mod Subfields
+pub mod TwoAdic

@@ -1,7 +1,7 @@
 -- Sums and products modulo m.
-use Rattle.std.specs.Prelude.{◌≡◌, ◌<◌, ◌≤◌, ◌+◌, ◌-◌, ◌*◌, ◌/◌, ◌%◌, ℕ, refl}
+use Rattle.std.specs.Prelude.{◌≡◌, ◌<◌, ◌≤◌, ◌+◌, ◌-◌, ◌*◌, ◌/◌, ◌%◌, ℕ}
 use Rattle.std.proofs.Common.{ap, arith, ◌∙◌, sym}
-use Rattle.std.proofs.Math.Nat.{add-mul-mod_self_left, mod-eq_of_lt, mod-add-div, mul-mod_right, mul-add, mul_assoc, mul_comm}
+use Rattle.std.proofs.Math.Nat.{add-mul-mod_self_left, mod-eq_of_lt, mod-add-div, mul-add, mul_assoc}
 use Rattle.std.proofs.lemmas.Nat.{mul-mod_first, mul-mod_second}
 
 pub add-mod_first : (a b m : ℕ) → (a % m + b) % m ≡ (a + b) % m

@@ -1,5 +1,5 @@
 -- Whole numbers as elements of a ring: one taken so many times.
-use Rattle.std.specs.Prelude.{◌≡◌, ℕ, zero, suc, ◌+◌, ◌*◌, ◌%◌, ◌/◌, ◌-◌, ◌<◌, ◌≤◌, ℤ, pos, negsuc, refl}
+use Rattle.std.specs.Prelude.{◌≡◌, ℕ, zero, suc, ◌+◌, ◌*◌, ◌%◌, ◌/◌, ◌-◌, ◌<◌, ℤ, pos, negsuc}
 use Rattle.std.proofs.Common.{ap, ap₂, sym, ◌∙◌, arith}
 use Rattle.std.proofs.Math.Nat.{mod-add-div, mod-lt}
 use Rattle.p3_theory.specs.Ring.{Ops, Ring, RingLaws, ring_of}

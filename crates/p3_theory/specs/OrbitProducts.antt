@@ -1,5 +1,5 @@
 -- The product over an orbit, built by taking the map of a product at each step.
-use Rattle.std.proofs.Common.{◌≡◌, ◌<◌, ◌≤◌, ◌+◌, ◌-◌, ℕ, zero, suc, refl, sym, ap, ap₂, ◌∙◌, arith}
+use Rattle.std.proofs.Common.{◌≡◌, ◌≤◌, ◌+◌, ◌-◌, ℕ, zero, suc, sym, ap, ap₂, ◌∙◌, arith}
 use Rattle.p3_theory.specs.Ring.{Ops, RingLaws}
 use Rattle.p3_theory.specs.Iteration.{orbit}
 

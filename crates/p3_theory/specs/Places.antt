@@ -1,7 +1,7 @@
 -- Lists of a given length, place by place.
-use Rattle.std.specs.Prelude.{◌≡◌, ◌<◌, ◌≤◌, ◌+◌, ◌∷◌, ℕ, List, [], length, replicate, refl, get_or}
+use Rattle.std.specs.Prelude.{◌≡◌, ◌<◌, ◌+◌, ◌∷◌, ℕ, List, [], length, replicate, refl, get_or}
 use Rattle.std.proofs.Common.{ap, arith, ◌∙◌, sym, zero, suc, subst}
-use Rattle.std.proofs.Math.ListN.{set, length-set}
+use Rattle.std.proofs.Math.ListN.{set}
 use Rattle.std.proofs.lemmas.List.{get_or-set_same, get_or-set_other, ext_get_or, get_or_default}
 use borrow.Author.Count.{below_more}
 use Rattle.p3_theory.specs.Ring.{Ops}

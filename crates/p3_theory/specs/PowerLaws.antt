@@ -1,5 +1,5 @@
 -- What the laws of a ring give of powers.
-use Rattle.std.proofs.Common.{◌≡◌, ℕ, ◌+◌, ◌*◌, ◌/◌, ◌%◌, ◌≢◌, zero, suc, refl, sym, ap, ap₂, ◌∙◌, arith}
+use Rattle.std.proofs.Common.{◌≡◌, ℕ, ◌+◌, ◌/◌, ◌%◌, ◌≢◌, zero, suc, refl, sym, ap, ◌∙◌, arith}
 use Rattle.p3_theory.specs.Ring.{Ops, RingLaws}
 use Rattle.p3_theory.specs.Powers.{power}
 

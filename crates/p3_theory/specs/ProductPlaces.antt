@@ -1,5 +1,5 @@
 -- The product modulo X^D - w, place by place, as a loop writes it.
-use Rattle.std.specs.Prelude.{◌≡◌, ◌<◌, ◌≤◌, ◌+◌, ◌-◌, ◌∷◌, ◌≢◌, ℕ, List, [], length, refl, get_or, replicate}
+use Rattle.std.specs.Prelude.{◌≡◌, ◌<◌, ◌≤◌, ◌+◌, ◌-◌, ◌≢◌, ℕ, List, length, refl, get_or, replicate}
 use Rattle.std.proofs.Common.{ap, ap₂, arith, ◌∙◌, sym, zero, suc}
 use mathlib.Core.Path.{fun_ext}
 use Rattle.std.proofs.Math.ListN.{set, length-set}

@@ -1,7 +1,7 @@
 -- The product modulo X^2 = w in closed form.
-use Rattle.std.proofs.Common.{◌≡◌, ◌≤◌, ℕ, zero, suc, List, [], ◌∷◌, length, get_or, refl, sym, ap, ap₂, ◌∙◌, arith}
+use Rattle.std.proofs.Common.{◌≡◌, List, [], ◌∷◌, length, get_or, refl, sym, ap, ap₂, ◌∙◌, arith}
 use Rattle.std.proofs.Math.ListN.{set}
-use Rattle.p3_theory.specs.Ring.{Ops, Ring}
+use Rattle.p3_theory.specs.Ring.{Ring}
 use Rattle.p3_theory.specs.Polynomial.{quotient_mul, binomial}
 use Rattle.p3_theory.specs.Solver.{Expr, V, free}
 use Rattle.p3_theory.specs.Formula.{by_ring}

@@ -1,5 +1,5 @@
 -- Pairs p + q * X with X * X = y over any ring: their norm, and which of them have an inverse.
-use Rattle.std.proofs.Common.{◌≡◌, [], ◌∷◌, sym, ap₂, ◌∙◌}
+use Rattle.std.proofs.Common.{◌≡◌, [], ◌∷◌, ap₂, ◌∙◌}
 use Rattle.p3_theory.specs.Ring.{Ops, Ring, subtract}
 use Rattle.p3_theory.specs.Reify.{by_laws, reads, yes}
 

@@ -1,5 +1,5 @@
 -- Rings as operations and laws, and maps that keep the operations.
-use Rattle.std.specs.Prelude.{◌≡◌, ◌≢◌, ℕ, zero, suc}
+use Rattle.std.specs.Prelude.{◌≡◌}
 
 -- the operations of a ring with one
 pub record Ops (A : Type 0) : Type 0 where

@@ -1,5 +1,5 @@
 -- Roots of unity among the residues, told by computation on numbers.
-use Rattle.std.specs.Prelude.{◌≡◌, ◌≤◌, ◌<◌, ◌==◌, ◌&&◌, Bool, true, false, ℕ, zero, suc, List, [], ◌∷◌, refl}
+use Rattle.std.specs.Prelude.{◌≡◌, ◌≤◌, ◌<◌, ◌==◌, ◌&&◌, Bool, true, ℕ, suc, List, [], ◌∷◌}
 use Rattle.std.proofs.Common.{ap, ap₂, arith, ◌∙◌, sym, eq-or-lt_of_le, inl, inr}
 use Rattle.std.proofs.lemmas.Bool.{eqb-true}
 use Rattle.p3_theory.specs.Ring.{Ops, Hom, Invertible, subtract}

@@ -1,5 +1,5 @@
 -- Coefficients times the powers of c, taken many times.
-use Rattle.std.proofs.Common.{◌≡◌, ◌<◌, ℕ, zero, suc, List, length, refl, sym, ap, ap₂, ◌∙◌}
+use Rattle.std.proofs.Common.{◌≡◌, ◌<◌, ℕ, zero, suc, List, length, refl, sym, ap, ◌∙◌}
 use Rattle.p3_theory.specs.Ring.{Ring}
 use Rattle.p3_theory.specs.Polynomial.{at}
 use Rattle.p3_theory.specs.Powers.{power, scale_powers}

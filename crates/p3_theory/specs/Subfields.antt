@@ -1,6 +1,6 @@
 -- Which values are embedded scalars.
 use Rattle.std.specs.Prelude.{◌↔◌, ◌≢◌, Option, Some, None, IsSome, IfSome, MatchOption}
-use Rattle.std.proofs.Common.{◌≡◌, ◌<◌, ◌≤◌, ℕ, zero, suc, List, [], ◌∷◌, length, refl, sym, ap, subst, arith, ◌∙◌}
+use Rattle.std.proofs.Common.{◌≡◌, ◌<◌, ◌≤◌, ℕ, zero, suc, List, [], ◌∷◌, length, sym, ap, subst, arith, ◌∙◌}
 use Rattle.std.proofs.Math.Bool.{false≢true}
 use Rattle.std.proofs.Math.Decide.{dec_le}
 use Rattle.std.proofs.lemmas.List.{get_or_past}

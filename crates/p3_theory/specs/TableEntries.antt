@@ -1,6 +1,6 @@
 -- Frobenius tables of residues: from numbers to the values of a type that stores them in any form.
-use Rattle.std.proofs.Common.{◌≡◌, ◌<◌, ◌+◌, ◌-◌, ℕ, zero, suc, pred, List, [], ◌∷◌, map, get_or, sym, ap, subst, ◌∙◌}
-use Rattle.p3_theory.specs.Ring.{Ops, Ring, Hom, ring_of}
+use Rattle.std.proofs.Common.{◌≡◌, ◌<◌, ℕ, suc, pred, List, [], ◌∷◌, map, get_or, sym, ap, subst, ◌∙◌}
+use Rattle.p3_theory.specs.Ring.{Ops, Hom, ring_of}
 use Rattle.p3_theory.specs.Polynomial.{IsMonic, at, tabulate, quotient_ops}
 use Rattle.p3_theory.specs.Powers.{power}
 use Rattle.p3_theory.specs.Places.{get-tabulate}

@@ -1,5 +1,5 @@
 -- The text of a polynomial, written term by term.
-use Rattle.std.proofs.Common.{◌≡◌, ◌∙◌, ℕ, ◌+◌, ◌<◌, ◌≤◌, List, [], ◌∷◌, ◌++◌, length, drop, get_or, sym, ap, ap₂, append_assoc, append-nil, Bool, true, false, cond}
+use Rattle.std.proofs.Common.{◌≡◌, ◌∙◌, ℕ, ◌+◌, ◌<◌, ◌≤◌, List, [], ◌∷◌, ◌++◌, length, drop, get_or, sym, ap, append_assoc, append-nil, Bool, true, false, cond}
 use Rattle.std.proofs.lemmas.List.{drop_more, drop_all}
 use Rattle.p3_theory.specs.Text.{terms_text, next_text}
 

@@ -1,7 +1,7 @@
 //! The calls of extensions against the values of `extension_tables`.
 
-use super::extension_tables as tables;
 use super::extension_tables::Table;
+use super::{extension_tables as tables, trinomial_tables};
 use crate::binomial_constants::BinomialConstants;
 use crate::extensions::{
     BabyBearx4, F2t5, F17bx2, F17t5, F17x2, F17x4, F17x8, F31t3, F31x3, F31x5, F31x6, Z15x2,
@@ -379,18 +379,18 @@ fn bbx4(rt: HostRuntime) -> Result<(), Fail> {
 
 #[test]
 fn f31t3(rt: HostRuntime) -> Result<(), Fail> {
-    assert_streams::<F31t3>(&rt, tables::F31T3.streams)?;
-    assert_table::<F31t3>(&rt, &tables::F31T3)
+    assert_streams::<F31t3>(&rt, trinomial_tables::F31T3.streams)?;
+    assert_table::<F31t3>(&rt, &trinomial_tables::F31T3)
 }
 
 #[test]
 fn f17t5(rt: HostRuntime) -> Result<(), Fail> {
-    assert_streams::<F17t5>(&rt, tables::F17T5.streams)?;
-    assert_table::<F17t5>(&rt, &tables::F17T5)
+    assert_streams::<F17t5>(&rt, trinomial_tables::F17T5.streams)?;
+    assert_table::<F17t5>(&rt, &trinomial_tables::F17T5)
 }
 
 #[test]
 fn f2t5(rt: HostRuntime) -> Result<(), Fail> {
-    assert_streams::<F2t5>(&rt, tables::F2T5.streams)?;
-    assert_table::<F2t5>(&rt, &tables::F2T5)
+    assert_streams::<F2t5>(&rt, trinomial_tables::F2T5.streams)?;
+    assert_table::<F2t5>(&rt, &trinomial_tables::F2T5)
 }

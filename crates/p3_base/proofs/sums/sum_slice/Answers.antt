@@ -1,4 +1,4 @@
-use Rattle.std.proofs.Common.{◌≡◌, ◌+◌, ◌-◌, arith, sym, ◌∙◌, ap, take, drop}
+use Rattle.std.proofs.Common.{arith, sym, ◌∙◌, ap, drop}
 use Rattle.p3_theory.specs.Operators.{sum_list}
 use Rattle.p3_theory.specs.DotProduct.{sum-chunk, sum-step}
 use Rattle.p3_base.proofs.sums.sum_slice.Goals as goal

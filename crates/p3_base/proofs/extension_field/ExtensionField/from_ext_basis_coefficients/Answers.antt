@@ -1,4 +1,4 @@
-use Rattle.std.proofs.Common.{rules, ◌≡◌, ◌<◌, ◌≤◌, length, arith, ap, ◌∙◌}
+use Rattle.std.proofs.Common.{rules, ◌≡◌, ◌<◌, ◌≤◌, length, ap, ◌∙◌}
 use Rattle.p3_theory.specs.Coordinates.{basis_element}
 use Rattle.p3_theory.specs.BasisSums.{basis-step, basis-end}
 use Rattle.p3_base.proofs.extension_field.ExtensionField.from_ext_basis_coefficients.Goals as goal

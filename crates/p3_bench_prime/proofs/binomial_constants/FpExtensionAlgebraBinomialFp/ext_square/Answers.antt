@@ -3,7 +3,7 @@ use Rattle.p3_theory.specs.Ring.{ring_of}
 use Rattle.p3_theory.specs.Polynomial.{quotient_mul, binomial}
 use Rattle.p3_theory.specs.Residues.{residue_laws}
 use Rattle.p3_bench_prime.specs.Elements.{of, ops, is}
-use Rattle.p3_bench_prime.proofs.ZeroedProducts.{product_is_there}
+use Rattle.p3_theory.specs.ZeroedProducts.{product_is_there}
 use Rattle.p3_bench_prime.proofs.binomial_constants.FpExtensionAlgebraBinomialFp.ext_square.Goals as goal
 
 pub returns : goal.returns

@@ -4,7 +4,7 @@ use Rattle.p3_theory.specs.Polynomial.{quotient_mul, binomial}
 use Rattle.p3_theory.specs.BinomialFrobenius.{binomial_is_monic}
 use Rattle.p3_ext.specs.ComplexValues.{complex_ops}
 use Rattle.p3_ext.specs.Values.{ext_laws}
-use Rattle.p3_ext.proofs.ZeroedProducts.{product_is_there}
+use Rattle.p3_theory.specs.ZeroedProducts.{product_is_there}
 use Rattle.p3_ext.proofs.extension.complex_binomial.ComplexExtensionAlgebraBinomialComplex.ext_square.Goals as goal
 
 pub returns : goal.returns
