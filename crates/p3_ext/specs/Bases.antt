@@ -1,7 +1,7 @@
 -- The base inside an extension.
 use Rattle.std.specs.Prelude.{◌≡◌, ◌≤◌, ◌<◌, ℕ, List, length, refl}
 use Rattle.std.proofs.Common.{ap, arith, ◌∙◌, sym, zero, suc}
-use Rattle.p3_theory.specs.Ring.{Ops, Ring, Hom}
+use Rattle.p3_theory.specs.Ring.{Ring, Hom}
 use Rattle.p3_theory.specs.Polynomial.{IsMonic, embed}
 use Rattle.p3_theory.specs.Multiples.{of_nat}
 use Rattle.p3_theory.specs.Homomorphism.{map-of_nat}

@@ -1,6 +1,6 @@
 -- The Frobenius map modulo X^D - w: X becomes c * X, for a root of unity c of order D.
-use Rattle.std.specs.Prelude.{◌≡◌, ◌<◌, ◌≤◌, ℕ, List, length, refl}
-use Rattle.std.proofs.Common.{ap, arith, ◌∙◌, sym, zero, suc, subst}
+use Rattle.std.specs.Prelude.{◌≡◌, ◌<◌, ◌≤◌, ℕ, List, length}
+use Rattle.std.proofs.Common.{arith, ◌∙◌, sym, zero, suc, subst}
 use Rattle.p3_theory.specs.Ring.{Ops, Ring, Invertible}
 use Rattle.p3_theory.specs.Polynomial as P
 use Rattle.p3_theory.specs.Powers.{power, scale_powers}

@@ -1,5 +1,5 @@
 -- The operations of an extension by X^2 = -1.
-use Rattle.std.specs.Prelude.{◌≡◌, ◌≤◌, ◌<◌, ℕ}
+use Rattle.std.specs.Prelude.{◌≤◌, ◌<◌, ℕ}
 use Rattle.p3_theory.specs.Ring.{Ops, Invertible, subtract}
 use Rattle.p3_theory.specs.Powers.{power}
 use Rattle.p3_theory.specs.Polynomial.{binomial}

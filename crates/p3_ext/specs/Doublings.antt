@@ -1,8 +1,8 @@
 -- Halves and products with powers of two, coefficient by coefficient.
-use Rattle.std.specs.Prelude.{◌≡◌, ◌<◌, ◌≤◌, ◌+◌, ℕ, List, [], ◌∷◌, length, get_or, refl}
+use Rattle.std.specs.Prelude.{◌≡◌, ◌<◌, ◌≤◌, ℕ, List, [], ◌∷◌, get_or, refl}
 use Rattle.std.proofs.Common.{ap, arith, ◌∙◌, sym, subst}
 use Rattle.p3_theory.specs.Ring.{Ops, Ring, RingLaws, Invertible}
-use Rattle.p3_theory.specs.Polynomial.{IsMonic, at, tabulate, quotient_add}
+use Rattle.p3_theory.specs.Polynomial.{IsMonic, at}
 use Rattle.p3_theory.specs.Powers.{power}
 use Rattle.p3_theory.specs.PowerProducts.{twice}
 use Rattle.p3_theory.specs.Multiples.{two}

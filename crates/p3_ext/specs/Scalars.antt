@@ -1,5 +1,5 @@
 -- What operators between values and coefficients give.
-use Rattle.std.specs.Prelude.{◌≡◌, ◌<◌, ◌≤◌, ℕ, List, length, get_or}
+use Rattle.std.specs.Prelude.{◌≡◌, ◌<◌, ◌≤◌, ℕ, List, get_or}
 use Rattle.std.proofs.Common.{arith, ◌∙◌}
 use Rattle.p3_theory.specs.Ring.{Ring, subtract}
 use Rattle.p3_theory.specs.Polynomial.{IsMonic, at}

@@ -1,5 +1,5 @@
 -- Values of an extension: lists of D coefficients, their operations and laws.
-use Rattle.std.specs.Prelude.{◌≡◌, ◌≢◌, ◌<◌, ◌≤◌, ◌∷◌, ℕ, List, [], length, refl, get_or, Bool, Decides}
+use Rattle.std.specs.Prelude.{◌≡◌, ◌≢◌, ◌<◌, ◌≤◌, ℕ, List, length, refl, get_or, Bool, Decides}
 use Rattle.std.proofs.Common.{ap, arith, ◌∙◌, sym, zero, suc, subst}
 use Rattle.std.proofs.lemmas.Slice.Eq.{slice_eq-Decides}
 use Rattle.std.proofs.lemmas.Cmp.{lists_equiv}

@@ -1,4 +1,4 @@
-use Rattle.std.proofs.Common.{◌∙◌, arith}
+use Rattle.std.proofs.Common.{arith}
 use Rattle.p3_theory.specs.ProductPlaces.{all_zero}
 use Rattle.p3_ext.proofs.extension.binomial_extension.clear.Goals as goal
 

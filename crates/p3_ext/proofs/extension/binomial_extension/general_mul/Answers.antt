@@ -1,4 +1,4 @@
-use Rattle.std.proofs.Common.{ap₂, ◌∙◌, get_or, arith}
+use Rattle.std.proofs.Common.{ap₂, ◌∙◌, arith}
 use Rattle.std.proofs.lemmas.List.{get_or_default}
 use Rattle.p3_theory.specs.Ring.{ring_of}
 use Rattle.p3_theory.specs.ProductPlaces.{product_by_places, product_place, place_more}

@@ -1,4 +1,4 @@
-use Rattle.std.proofs.Common.{◌≡◌, ◌-◌, arith, ap, ap₂, ◌∙◌}
+use Rattle.std.proofs.Common.{◌≡◌, ◌-◌, arith}
 use Rattle.p3_theory.specs.Ring.{ring_of}
 use Rattle.p3_theory.specs.PlaceProducts.{last_place}
 use Rattle.p3_ext.proofs.extension.binomial_products.compute_coefficient.Goals as goal

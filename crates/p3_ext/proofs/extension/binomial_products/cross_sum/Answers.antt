@@ -1,4 +1,3 @@
-use Rattle.std.proofs.Common.{List, [], ◌∷◌, refl}
 use Rattle.p3_theory.specs.Ring.{ring_of}
 use Rattle.p3_theory.specs.CubicProduct.{cross_sum}
 use Rattle.p3_ext.proofs.extension.binomial_products.cross_sum.Goals as goal

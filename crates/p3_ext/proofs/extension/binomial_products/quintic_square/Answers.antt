@@ -1,4 +1,4 @@
-use Rattle.std.proofs.Common.{◌≡◌, ◌∙◌, [], ◌∷◌, ap, sym}
+use Rattle.std.proofs.Common.{◌∙◌, [], ◌∷◌, ap, sym}
 use Rattle.p3_theory.specs.Ring.{ring_of}
 use Rattle.p3_theory.specs.Polynomial.{quotient_mul, binomial}
 use Rattle.p3_theory.specs.DotProduct.{dot}

@@ -1,7 +1,6 @@
-use Rattle.std.proofs.Common.{◌≡◌, ◌∙◌, [], ◌∷◌, ap, ap₂, sym}
+use Rattle.std.proofs.Common.{◌∙◌, [], ◌∷◌, ap₂, sym}
 use Rattle.p3_theory.specs.Ring.{ring_of, subtract}
 use Rattle.p3_theory.specs.Polynomial.{quotient_mul}
-use Rattle.p3_theory.specs.DotProduct.{dot}
 use Rattle.p3_theory.specs.ListItems.{items_are}
 use Rattle.p3_theory.specs.Trinomials.{quintic_trinomial, quintic_product}
 use Rattle.p3_ext.proofs.extension.quintic_extension.trinomial_quintic_mul.Goals as goal

@@ -1,4 +1,4 @@
-use Rattle.std.proofs.Common.{◌≡◌, ◌∙◌, sym, get_or}
+use Rattle.std.proofs.Common.{◌∙◌, sym, get_or}
 use borrow.Author.Count.{below_more}
 use Rattle.p3_theory.specs.Places.{read_at}
 use Rattle.p3_theory.specs.Subfields.{IsEmbedded}

@@ -1,4 +1,4 @@
-use Rattle.std.proofs.Common.{◌≡◌, List, subst, sym}
+use Rattle.std.proofs.Common.{List, subst, sym}
 use Rattle.std.specs.Array.{IsFromFnResult}
 use Rattle.p3_ext.proofs.extension.basis.ExtFieldBasedVectorSpace.from_basis_coefficients_fn.Goals as goal
 

@@ -1,4 +1,4 @@
-use Rattle.std.proofs.Common.{◌≡◌, ◌<◌, length, refl, sym, ap, ◌∙◌, arith}
+use Rattle.std.proofs.Common.{◌<◌, length, refl, sym, ap, ◌∙◌, arith}
 use Rattle.p3_theory.specs.Polynomial.{at}
 use Rattle.p3_theory.specs.Places.{read_at}
 use Rattle.p3_theory.specs.BasisSums.{IsScalar, scalar-embedded}

@@ -1,5 +1,5 @@
-use Rattle.std.proofs.Common.{◌≡◌, ◌∙◌, List, [], ◌∷◌, ap, ap₂, sym}
-use Rattle.p3_theory.specs.Ring.{ring_of, subtract}
+use Rattle.std.proofs.Common.{◌∙◌, [], ◌∷◌, ap, ap₂, sym}
+use Rattle.p3_theory.specs.Ring.{ring_of}
 use Rattle.p3_theory.specs.Polynomial.{at, quotient_mul}
 use Rattle.p3_theory.specs.ListItems.{items_are}
 use Rattle.p3_theory.specs.Trinomials.{cubic_trinomial, cubic_constant}
