@@ -1,6 +1,7 @@
 ghost use Rattle.std.specs.Prelude.{◌≡◌};
 ghost use Rattle.p3_theory.specs.Powers.{power};
-ghost use Rattle.p3_theory.specs.Monomials.{HasNoZeroDivisors, IsInjectivePower};
+ghost use Rattle.p3_theory.specs.Monomials.{IsInjectivePower};
+ghost use Rattle.p3_theory.specs.ZeroDivisors.{HasNoZeroDivisors};
 
 use crate::const_power::exp_const_u64;
 use crate::ring::PrimeCharacteristicRing;

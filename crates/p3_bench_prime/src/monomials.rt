@@ -1,50 +1,99 @@
-//! Powers that permute the values of `Fp`: from the exponent that undoes each to all laws.
-ghost use Rattle.std.specs.Prelude.{◌≡◌, ℕ, true, refl};
-ghost use Rattle.p3_theory.specs.Monomials.{are_inverse_powers};
+//! Powers that permute the values of prime fields: from the exponent that undoes each to all laws.
+ghost use Rattle.std.specs.Prelude.{◌≡◌, ℕ, refl};
+ghost use Rattle.p3_theory.specs.Powers.{power};
+ghost use Rattle.p3_theory.specs.Monomials.{AreInverseExponents};
 
+use crate::baby_bear::BabyBearModulus;
 use crate::form::{Form, Plain};
 use crate::fp::Fp;
+use crate::goldilocks::Goldilocks;
+use crate::koala_bear::KoalaBearModulus;
 use crate::small::{M17, M31};
+use p3_field::exponentiation::{exp_1420470955, exp_1725656503, exp_10540996611094048183};
 use p3_field::{InjectiveMonomial, PermutationMonomial, PrimeCharacteristicRing};
 
-/// The exponent that undoes power N, as a number, for the marker of a form. It stands for what
-/// upstream writes in each impl of `PermutationMonomial`.
+/// The power that undoes power N, for the marker of a form. It stands for what upstream writes in
+/// each impl of `PermutationMonomial`.
 pub trait MonomialConstants<const N: u64>: Form {
     ghost ROOT_EXPONENT: { ℕ };
 
-    /// The exponent of the power that undoes power N.
-    const ROOT_EXPONENT: u64;
+    /// The power that undoes power N.
+    fn root_power<R: PrimeCharacteristicRing>(val: R) -> R
+        ensures { result ≡ power R.ops val ROOT_EXPONENT };
 
-    /// Each power undoes the other at every residue.
-    ghost inverse_powers: { are_inverse_powers Self.ORDER N ROOT_EXPONENT ≡ true };
+    /// The product of both exponents is one more than a multiple of the order less one.
+    ghost inverse_exponents: { AreInverseExponents Self.ORDER N ROOT_EXPONENT };
 }
 
 impl<W: MonomialConstants<N>, const N: u64> InjectiveMonomial<N> for Fp<W> {
-    ghost use Rattle.p3_theory.specs.Monomials.{injective_power};
+    ghost use Rattle.p3_theory.specs.Monomials.{residue_injective_power};
     ghost use Rattle.p3_bench_prime.specs.Elements.{is};
 
-    ghost injective = { λ _. injective_power (is W.Form) N W.ROOT_EXPONENT W.inverse_powers };
+    ghost injective = { λ domain. residue_injective_power (is W.Form) domain N W.ROOT_EXPONENT W.inverse_exponents };
 }
 
 impl<W: MonomialConstants<N>, const N: u64> PermutationMonomial<N> for Fp<W> {
     #[inline]
     fn injective_exp_root_n(&self) -> Self {
-        self.exp_u64(W::ROOT_EXPONENT)
+        W::root_power(*self)
     }
 }
 
 impl MonomialConstants<3> for Plain<M17> {
     ghost ROOT_EXPONENT = { 11 };
 
-    const ROOT_EXPONENT: u64 = 11;
+    #[inline]
+    fn root_power<R: PrimeCharacteristicRing>(val: R) -> R {
+        val.exp_u64(11)
+    }
 
-    ghost inverse_powers = { refl };
+    ghost inverse_exponents = { (2, refl) };
 }
 
 impl MonomialConstants<7> for Plain<M31> {
     ghost ROOT_EXPONENT = { 13 };
 
-    const ROOT_EXPONENT: u64 = 13;
+    #[inline]
+    fn root_power<R: PrimeCharacteristicRing>(val: R) -> R {
+        val.exp_u64(13)
+    }
 
-    ghost inverse_powers = { refl };
+    ghost inverse_exponents = { (3, refl) };
+}
+
+impl MonomialConstants<7> for Plain<BabyBearModulus> {
+    ghost ROOT_EXPONENT = { 1725656503 };
+
+    #[inline]
+    fn root_power<R: PrimeCharacteristicRing>(val: R) -> R {
+        exp_1725656503(val)
+    }
+
+    ghost inverse_exponents = { (6, refl) };
+}
+
+impl MonomialConstants<3> for Plain<KoalaBearModulus> {
+    ghost ROOT_EXPONENT = { 1420470955 };
+
+    #[inline]
+    fn root_power<R: PrimeCharacteristicRing>(val: R) -> R {
+        exp_1420470955(val)
+    }
+
+    ghost inverse_exponents = { (2, refl) };
+}
+
+impl InjectiveMonomial<7> for Goldilocks {
+    ghost use Rattle.std.specs.Prelude.{refl};
+    ghost use Rattle.p3_theory.specs.Monomials.{residue_injective_power};
+    ghost use Rattle.p3_bench_prime.specs.GoldilocksElements.{is};
+
+    ghost injective = { λ domain. residue_injective_power is domain 7 10540996611094048183 (4, refl) };
+}
+
+impl PermutationMonomial<7> for Goldilocks {
+    #[inline]
+    fn injective_exp_root_n(&self) -> Self {
+        exp_10540996611094048183(*self)
+    }
 }

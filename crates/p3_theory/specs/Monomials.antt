@@ -1,53 +1,51 @@
 -- Powers that keep distinct values distinct, and the powers that undo them.
-use Rattle.std.specs.Prelude.{◌≡◌, ◌≢◌, ◌<◌, ◌==◌, ◌&&◌, Bool, true, ℕ, zero, suc}
-use Rattle.std.proofs.Common.{ap, arith, ◌∙◌, sym, eq-or-lt_of_le, inl, inr}
-use Rattle.std.proofs.lemmas.Bool.{eqb-true}
-use Rattle.p3_theory.specs.Ring.{Ops, Hom}
+use Rattle.std.specs.Prelude.{◌≡◌, ◌≢◌, ◌⊎◌, ◌-◌, ◌*◌, ℕ, suc}
+use Rattle.std.proofs.Common.{ap, arith, ◌∙◌, sym, inl, inr}
+use Rattle.std.proofs.lemmas.Bool.{cases_eq}
+use Rattle.p3_theory.specs.Ring.{Ops, RingLaws, ring_of}
 use Rattle.p3_theory.specs.Powers.{power}
-use Rattle.p3_theory.specs.Homomorphism.{map-power}
-use Rattle.p3_theory.specs.SolverSound.{and_true}
-use Rattle.p3_theory.specs.Residues.{residues, IsResidues, residue_ops, of_keeps, canon-below}
+use Rattle.p3_theory.specs.PowerChains.{power-power}
+use Rattle.p3_theory.specs.PowerProducts.{power_of_one}
+use Rattle.p3_theory.specs.Sequences.{mul-zero}
+use Rattle.p3_theory.specs.Residues.{IsResidues, residue_ops, residue_laws, same_canon}
+use Rattle.p3_theory.specs.ValueLists.{ValueList, values-residues}
+use Rattle.p3_theory.specs.ZeroDivisors.{HasNoZeroDivisors}
+use Rattle.p3_theory.specs.Fermat.{fermat}
 
-module _ {A : Type 0} (O : Ops A) where
-  -- a product is zero only where a factor is
-  abbrev pub HasNoZeroDivisors : Type 0
-  HasNoZeroDivisors = (x y : A) → O.mul x y ≡ O.zero → x ≢ O.zero → y ≡ O.zero
+-- values with one power n are one value
+abbrev pub IsInjectivePower : {A : Type 0} → Ops A → ℕ → Type 0
+IsInjectivePower {A} O n = (x y : A) → power O x n ≡ power O y n → x ≡ y
 
-  -- values with one power n are one value
-  abbrev pub IsInjectivePower : ℕ → Type 0
-  IsInjectivePower n = (x y : A) → power O x n ≡ power O y n → x ≡ y
+-- the product of a and b is one more than a multiple of n - 1
+abbrev pub AreInverseExponents : ℕ → ℕ → ℕ → Type 0
+AreInverseExponents n a b = (k : ℕ) × (a * b ≡ suc ((n - 1) * k))
 
--- for each number below k, power b of its power a modulo n is the number
-abbrev pub undoes_below : ℕ → ℕ → ℕ → ℕ → Bool
-undoes_below n a b zero = true
-undoes_below n a b (suc k) = power (residues n) (power (residues n) k a) b == k && undoes_below n a b k
+pub inverse_exponents_swap : (n a b : ℕ) → AreInverseExponents n a b → AreInverseExponents n b a
+inverse_exponents_swap n a b e = (e.0, omega (arith, e.1))
 
--- power b undoes power a modulo n, and power a undoes power b
-abbrev pub are_inverse_powers : ℕ → ℕ → ℕ → Bool
-are_inverse_powers n a b = undoes_below n a b n && undoes_below n b a n
+-- among n values without zero divisors, of which each is zero or not, such powers undo each other
+module _ {A : Type 0} {O : Ops A} (l : RingLaws O) {n : ℕ} (values : ValueList A n) (tell : (x : A) → (x ≡ O.zero) ⊎ (x ≢ O.zero)) (domain : HasNoZeroDivisors O) where
+  pub power_undone : (a b : ℕ) → AreInverseExponents n a b → (x : A) → power O (power O x a) b ≡ x
+  power_undone a b e x =
+      power-power l x a b ∙ ap (power O x) e.1 ∙ elim (tell x) [
+        | inl zero ↦ ap (λ z. O.mul z (power O x ((n - 1) * e.0))) zero ∙ l.mul_comm O.zero _ ∙ mul-zero (ring_of l) _ ∙ sym zero
+        | inr other ↦
+          ap (O.mul x) (sym (power-power l x (n - 1) e.0) ∙ ap (λ z. power O z e.0) (fermat l domain values x other) ∙ power_of_one l e.0) ∙ l.mul_one x
+      ]
 
-undone_below : (n a b k : ℕ) → undoes_below n a b k ≡ true → (r : ℕ) → r < k → power (residues n) (power (residues n) r a) b ≡ r
-undone_below n a b zero t r lt = absurd (omega (arith, lt))
-undone_below n a b (suc k) t r lt = elim (eq-or-lt_of_le (omega (arith, lt))) [
-  | inl e ↦ ap (λ i. power (residues n) (power (residues n) i a) b) e ∙ eqb-true _ k (and_true _ _ t).0 ∙ sym e
-  | inr l ↦ undone_below n a b k (and_true _ _ t).1 r l
-]
+  pub injective_power : (a b : ℕ) → AreInverseExponents n a b → IsInjectivePower O a
+  injective_power a b e x y same = sym (power_undone a b e x) ∙ ap (λ z. power O z b) same ∙ power_undone a b e y
 
-module _ {A : Type 0} {n : ℕ} {canon : A → ℕ} {of : ℕ → A} (is : IsResidues n canon of) (a b : ℕ) (t : are_inverse_powers n a b ≡ true) where
+-- the same of residues, in whatever form they are stored
+module _ {A : Type 0} {n : ℕ} {canon : A → ℕ} {of : ℕ → A} (is : IsResidues n canon of) where
   abbrev O : Ops A
   O = residue_ops n canon of
 
-  abbrev h : Hom (residues n) O of
-  h = of_keeps is
+  tell : (x : A) → (x ≡ O.zero) ⊎ (x ≢ O.zero)
+  tell x = elim (cases_eq (canon x) (canon O.zero)) [ inl p ↦ inl (same_canon is x O.zero p) | inr p ↦ inr (λ q. p (ap canon q)) ]
 
-  undone : (a b : ℕ) → undoes_below n a b n ≡ true → (x : A) → power O (power O x a) b ≡ x
-  undone a b u x =
-      ap (λ z. power O (power O z a) b) (sym (is.of_canon x)) ∙ ap (λ z. power O z b) (sym (map-power h (canon x) a))
-      ∙ sym (map-power h (power (residues n) (canon x) a) b)
-      ∙ ap of (undone_below n a b n u (canon x) (canon-below is x)) ∙ is.of_canon x
+  pub residue_power_undone : HasNoZeroDivisors O → (a b : ℕ) → AreInverseExponents n a b → (x : A) → power O (power O x a) b ≡ x
+  residue_power_undone = power_undone (residue_laws is) (values-residues is) tell
 
-  pub power_of_root : (x : A) → power O (power O x b) a ≡ x
-  power_of_root = undone b a (and_true _ _ t).1
-
-  pub injective_power : IsInjectivePower O a
-  injective_power x y e = sym (undone a b (and_true _ _ t).0 x) ∙ ap (λ z. power O z b) e ∙ undone a b (and_true _ _ t).0 y
+  pub residue_injective_power : HasNoZeroDivisors O → (a b : ℕ) → AreInverseExponents n a b → IsInjectivePower O a
+  residue_injective_power = injective_power (residue_laws is) (values-residues is) tell

@@ -1,6 +1,9 @@
 //! Complex values, subfields, and powers that permute a field.
 
+use crate::baby_bear::BabyBear;
 use crate::extensions::{F17x2, F17x4, F31c};
+use crate::goldilocks::Goldilocks;
+use crate::koala_bear::KoalaBear;
 use crate::small::{F17, F31};
 use p3_field::extension::{BinomiallyExtendable, HasFrobenius};
 use p3_field::{
@@ -60,6 +63,9 @@ fn values_in_a_subfield(rt: HostRuntime) {
         Some(F17::new(5))
     );
     assert_eq!(rt; <F17x4 as HasSubfield<F17>>::as_subfield(&x), None);
+    assert!(rt; <F17x4 as HasSubfield<F17>>::all_in_subfield(&[]));
+    assert!(rt; <F17x4 as HasSubfield<F17>>::all_in_subfield(&[five, five]));
+    assert!(rt; !<F17x4 as HasSubfield<F17>>::all_in_subfield(&[five, x]));
 }
 
 #[test]
@@ -71,5 +77,17 @@ fn powers_that_permute(rt: HostRuntime) {
     assert_eq!(rt;
         powers_of::<F31, 7>(F31::new(3), F31::new(17)),
         (F31::new(17), F31::new(3))
+    );
+    assert_eq!(rt;
+        powers_of::<BabyBear, 7>(BabyBear::new(3), BabyBear::new(2187)),
+        (BabyBear::new(2187), BabyBear::new(3))
+    );
+    assert_eq!(rt;
+        powers_of::<KoalaBear, 3>(KoalaBear::new(5), KoalaBear::new(125)),
+        (KoalaBear::new(125), KoalaBear::new(5))
+    );
+    assert_eq!(rt;
+        powers_of::<Goldilocks, 7>(Goldilocks::new(3), Goldilocks::new(2187)),
+        (Goldilocks::new(2187), Goldilocks::new(3))
     );
 }
