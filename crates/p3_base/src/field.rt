@@ -5,10 +5,12 @@ ghost use Rattle.p3_theory.specs.PairedLists.{zip_with};
 ghost use Rattle.p3_theory.specs.BitLength.{IsBitLength};
 ghost use Rattle.p3_theory.specs.Residues.{AreResidues};
 ghost use Rattle.p3_theory.specs.ValueLists.{ValueList};
+ghost use Rattle.p3_theory.specs.SquareRoots.{IsSquareRoot, CountedByGenerator};
 ghost use Rattle.p3_theory.specs.TwoAdic.{AreTwoAdicGenerators, DividesOrder};
 
 use crate::integers::{Quotient, QuotientMap};
 use crate::ring::PrimeCharacteristicRing;
+use crate::sqrt::tonelli_shanks;
 use std::fmt::Display;
 use std::ops::{Div, DivAssign};
 
@@ -125,6 +127,17 @@ pub trait Field: PrimeCharacteristicRing + Eq + Display + Div<Output = Self> + D
             Some(order) => bit_length(order),
             None => unreachable!(),
         }
+    }
+
+    /// A square root of the value, in a field whose order is given, or `None`, as `tonelli_shanks`
+    /// answers it. Upstream's `try_sqrt`.
+    #[inline]
+    final fn try_sqrt(&self) -> Option<Self>
+        requires { IsSome size }
+        ensures root { IfSome result (λ r. IsSquareRoot Self.ops self.now r) }
+        ensures counted { (turns : ℕ) × CountedByGenerator Self.ops size generator self.now result turns }
+    {
+        tonelli_shanks(*self)
     }
 }
 

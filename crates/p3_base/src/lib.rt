@@ -19,5 +19,6 @@ pub mod powers;
 pub mod ring;
 pub mod sampling;
 pub mod sponge;
+pub mod sqrt;
 pub mod streams;
 pub mod sums;

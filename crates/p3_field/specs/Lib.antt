@@ -5,7 +5,9 @@ pub use Rattle.p3_theory.specs.Polynomial
 pub use Rattle.p3_theory.specs.Frobenius
 pub use Rattle.p3_theory.specs.FrobeniusTable
 pub use Rattle.p3_theory.specs.Residues
+pub use Rattle.p3_theory.specs.SquareRoots
 pub use Rattle.p3_theory.specs.Text
+pub use Rattle.p3_theory.specs.TwoAdic
 pub use Rattle.p3_theory.specs.ValueLists
 pub use Rattle.p3_theory.specs.ZeroDivisors
 pub use Rattle.p3_ext.specs.Values

@@ -10,7 +10,7 @@ pub use p3_base::columnwise::{
 pub use p3_base::const_power::exp_const_u64;
 pub use p3_base::dup::Dup;
 pub use p3_base::extension_field::ExtensionField;
-pub use p3_base::field::{Field, PrimeField, PrimeField32, PrimeField64};
+pub use p3_base::field::{Field, PrimeField, PrimeField32, PrimeField64, TwoAdicField};
 pub use p3_base::integers as integers;
 pub use p3_base::linear_combination::{
     chunked_linear_combination, chunked_mixed_dot_product, dispatch_chunked_mixed_dot_product,
@@ -24,6 +24,10 @@ pub use p3_base::powers::{BoundedPowers, Powers};
 pub use p3_base::ring::{Algebra, PrimeCharacteristicRing};
 pub use p3_base::sampling::UniformSamplingField;
 pub use p3_base::sponge::SpongePaddingValue;
+pub use p3_base::sqrt::{
+    Turns, tonelli_shanks, tonelli_shanks_counted, tonelli_shanks_two_adic,
+    tonelli_shanks_two_adic_counted,
+};
 pub use p3_base::streams::{ByteStream, RawDataSerializable, U32Stream, U64Stream};
 pub use p3_base::sums::sum_array;
 pub use p3_ext::extension as extension;

@@ -84,3 +84,7 @@ pub mod ComplexExtensions
 pub mod Monomials
 pub mod Subfields
 pub mod TwoAdic
+pub mod SquareRoots
+pub mod PowersOfTwo
+pub mod RootRounds
+pub mod CountedRoots
