@@ -1,6 +1,10 @@
-ghost use Rattle.std.specs.Prelude.{◌≡◌, ◌↔◌, IsTrue, length};
+//! Runs of steps over registers.
+pub mod field_steps;
+
+ghost use Rattle.std.specs.Prelude.{◌≡◌, ◌↔◌, ℕ, All, IsTrue, length};
 ghost use Rattle.p3_runs.specs.Runs.{StepFits, Fit, after_step, run};
 
+pub use field_steps::{FieldStep, StepFault, StepRefused, run_field_steps};
 use p3_base::ring::PrimeCharacteristicRing;
 
 /// One step over registers: register `d` becomes the named operation on registers `a` and `b` as
@@ -25,27 +29,38 @@ pub enum Step {
     Mul2Exp { d: usize, a: usize, e: u64 },
 }
 
-/// Whether every register that the step names is below `n`.
-#[inline]
-fn step_fits(step: &Step, n: usize) -> bool
-    ensures { IsTrue result ↔ StepFits n step.now }
-{
-    match *step {
-        Step::Add { d, a, b } | Step::Sub { d, a, b } | Step::Mul { d, a, b } => {
-            d < n && a < n && b < n
+/// What names registers: a step over a ring, or one over a field. This project's own.
+pub trait Registers {
+    /// The registers that a step names are below a number.
+    ghost Fits: { ℕ → Self → Type 0 };
+
+    /// Whether every register that the step names is below `n`.
+    fn fits(&self, n: usize) -> bool
+        ensures { IsTrue result ↔ Fits n self.now };
+}
+
+impl Registers for Step {
+    ghost Fits = { StepFits };
+
+    #[inline]
+    fn fits(&self, n: usize) -> bool {
+        match *self {
+            Step::Add { d, a, b } | Step::Sub { d, a, b } | Step::Mul { d, a, b } => {
+                d < n && a < n && b < n
+            }
+            Step::Neg { d, a } | Step::Square { d, a } | Step::Double { d, a } => d < n && a < n,
+            Step::Exp { d, a, e: _ } | Step::Mul2Exp { d, a, e: _ } => d < n && a < n,
         }
-        Step::Neg { d, a } | Step::Square { d, a } | Step::Double { d, a } => d < n && a < n,
-        Step::Exp { d, a, e: _ } | Step::Mul2Exp { d, a, e: _ } => d < n && a < n,
     }
 }
 
 /// Whether every register that the steps name is below `n`; true for no steps. It is the test of
-/// what `run_steps` requires.
+/// what the runs require.
 #[inline]
-pub fn steps_fit(steps: &[Step], n: usize) -> bool
-    ensures { IsTrue result ↔ Fit n steps.now }
+pub fn steps_fit<S: Registers>(steps: &[S], n: usize) -> bool
+    ensures { IsTrue result ↔ All (S.Fits n) steps.now }
 {
-    steps.iter().all(|step| step_fits(step, n))
+    steps.iter().all(|step| step.fits(n))
 }
 
 /// Carries out one step.
