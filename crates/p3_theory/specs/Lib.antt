@@ -84,3 +84,6 @@ pub mod ComplexExtensions
 pub mod Monomials
 pub mod Subfields
 pub mod TwoAdic
+pub mod BinaryPowers
+pub mod ResidueGenerators
+pub mod Cosets
