@@ -9,7 +9,7 @@ use p3_field::integers::integer::Integer;
 use p3_field::integers::{Quotient, QuotientMap};
 use p3_field::{
     Field, Packable, PrimeCharacteristicRing, PrimeField, PrimeField64, RawDataSerializable,
-    halve_u64,
+    TwoAdicField, halve_u64,
 };
 use std::alloc::AllocError;
 use std::array::IntoIter;
@@ -568,4 +568,27 @@ impl PrimeField64 for Goldilocks {
     ghost order_u64 = { refl };
 
     ghost same_unique_u64 = { same_canon is };
+}
+
+/// The two-adic generators: the power `2^32 - 1` of the generator, and its repeated squares.
+impl TwoAdicField for Goldilocks {
+    ghost use Rattle.std.specs.Prelude.{refl};
+    ghost use Rattle.p3_theory.specs.TwoAdic.{repeated_squares};
+    ghost use Rattle.p3_theory.specs.ResidueGenerators.{top_generator, residue_generators, divides_residue_order};
+    ghost use Rattle.p3_bench_prime.specs.GoldilocksElements.{of, ops, is};
+
+    ghost two_adic = { repeated_squares ops 32 (of (top_generator P 32 7)) };
+
+    const TWO_ADICITY: usize = 32;
+
+    ghost TWO_ADICITY = { 32 };
+
+    #[inline]
+    fn two_adic_generator(bits: usize) -> Self {
+        Self::new(1753635133440165772).exp_power_of_2(32 - bits)
+    }
+
+    ghost generators = { residue_generators is 32 (top_generator P 32 7) refl };
+
+    ghost divides_order = { divides_residue_order P 32 (top_generator P 32 7) refl };
 }

@@ -15,3 +15,4 @@ pub mod small;
 #[cfg(test)]
 mod tests;
 pub mod trinomial_constants;
+pub mod two_adic;

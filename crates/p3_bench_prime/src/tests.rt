@@ -8,6 +8,7 @@ mod ring_values;
 mod stream_values;
 mod tool_values;
 mod trinomial_tables;
+mod two_adic_values;
 mod vector_tables;
 mod vectors;
 

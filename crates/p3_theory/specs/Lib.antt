@@ -88,3 +88,6 @@ pub mod SquareRoots
 pub mod PowersOfTwo
 pub mod RootRounds
 pub mod CountedRoots
+pub mod BinaryPowers
+pub mod ResidueGenerators
+pub mod Cosets

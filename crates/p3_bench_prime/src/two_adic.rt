@@ -1,0 +1,135 @@
+//! Two-adic generators of the prime fields: from the top generator as a number to all laws.
+ghost use Rattle.std.specs.Prelude.{◌≡◌, ℕ, true, refl};
+ghost use Rattle.p3_theory.specs.ResidueGenerators.{is_two_adic_generator, top_generator};
+
+use crate::baby_bear::BabyBearModulus;
+use crate::form::{Form, Plain};
+use crate::fp::Fp;
+use crate::koala_bear::KoalaBearModulus;
+use crate::small::{M2, M15, M17, M17b, M31};
+use p3_field::{PrimeCharacteristicRing, TwoAdicField};
+
+/// The two-adicity and the top generator, as numbers, for the marker of a form. It stands for what
+/// upstream writes in each impl of `TwoAdicField`.
+pub trait TwoAdicConstants: Form {
+    ghost TWO_ADICITY: { ℕ };
+
+    ghost TOP_GENERATOR: { ℕ };
+
+    /// The greatest number of bits that a two-adic generator is given for.
+    const TWO_ADICITY: usize;
+
+    /// The two-adic generator for that many bits.
+    const TOP_GENERATOR: u32;
+
+    /// The top generator, squared once less than the two-adicity says, is minus one, and two to
+    /// the two-adicity divides the order less one.
+    ghost generates: { is_two_adic_generator Self.ORDER TWO_ADICITY TOP_GENERATOR ≡ true };
+}
+
+impl<W: TwoAdicConstants> TwoAdicField for Fp<W> {
+    ghost use Rattle.p3_theory.specs.TwoAdic.{repeated_squares};
+    ghost use Rattle.p3_theory.specs.ResidueGenerators.{residue_generators, divides_residue_order};
+    ghost use Rattle.p3_bench_prime.specs.Elements.{of, ops, is};
+
+    ghost two_adic = { repeated_squares (ops W.Form) W.TWO_ADICITY (of W.Form W.TOP_GENERATOR) };
+
+    const TWO_ADICITY: usize = W::TWO_ADICITY;
+
+    ghost TWO_ADICITY = { W.TWO_ADICITY };
+
+    #[inline]
+    fn two_adic_generator(bits: usize) -> Self {
+        Self::new(W::TOP_GENERATOR).exp_power_of_2(W::TWO_ADICITY - bits)
+    }
+
+    ghost generators = { residue_generators (is W.Form) W.TWO_ADICITY W.TOP_GENERATOR W.generates };
+
+    ghost divides_order = { divides_residue_order W.ORDER W.TWO_ADICITY W.TOP_GENERATOR W.generates };
+}
+
+impl TwoAdicConstants for Plain<M2> {
+    ghost TWO_ADICITY = { 0 };
+
+    ghost TOP_GENERATOR = { top_generator 2 0 1 };
+
+    const TWO_ADICITY: usize = 0;
+
+    const TOP_GENERATOR: u32 = 1;
+
+    ghost generates = { refl };
+}
+
+impl TwoAdicConstants for Plain<M17> {
+    ghost TWO_ADICITY = { 4 };
+
+    ghost TOP_GENERATOR = { top_generator 17 4 3 };
+
+    const TWO_ADICITY: usize = 4;
+
+    const TOP_GENERATOR: u32 = 3;
+
+    ghost generates = { refl };
+}
+
+impl TwoAdicConstants for Plain<M17b> {
+    ghost TWO_ADICITY = { 4 };
+
+    ghost TOP_GENERATOR = { top_generator 17 4 3 };
+
+    const TWO_ADICITY: usize = 4;
+
+    const TOP_GENERATOR: u32 = 3;
+
+    ghost generates = { refl };
+}
+
+impl TwoAdicConstants for Plain<M31> {
+    ghost TWO_ADICITY = { 1 };
+
+    ghost TOP_GENERATOR = { top_generator 31 1 3 };
+
+    const TWO_ADICITY: usize = 1;
+
+    const TOP_GENERATOR: u32 = 30;
+
+    ghost generates = { refl };
+}
+
+/// The top generator is minus one: the residues modulo 15 are no field, and the power 7 of their
+/// `generator` is another root.
+impl TwoAdicConstants for Plain<M15> {
+    ghost TWO_ADICITY = { 1 };
+
+    ghost TOP_GENERATOR = { 14 };
+
+    const TWO_ADICITY: usize = 1;
+
+    const TOP_GENERATOR: u32 = 14;
+
+    ghost generates = { refl };
+}
+
+impl TwoAdicConstants for Plain<BabyBearModulus> {
+    ghost TWO_ADICITY = { 27 };
+
+    ghost TOP_GENERATOR = { top_generator 2013265921 27 31 };
+
+    const TWO_ADICITY: usize = 27;
+
+    const TOP_GENERATOR: u32 = 440564289;
+
+    ghost generates = { refl };
+}
+
+impl TwoAdicConstants for Plain<KoalaBearModulus> {
+    ghost TWO_ADICITY = { 24 };
+
+    ghost TOP_GENERATOR = { top_generator 2130706433 24 3 };
+
+    const TWO_ADICITY: usize = 24;
+
+    const TOP_GENERATOR: u32 = 1791270792;
+
+    ghost generates = { refl };
+}
