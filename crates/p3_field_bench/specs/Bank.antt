@@ -1,7 +1,7 @@
 -- The state that the registers of a bank stand for.
 use Rattle.std.specs.Prelude.{List, [], ◌∷◌, ℕ, map, Option, Some, None}
 use Rattle.p3_field_bench.specs.declared.bank.Bank.{Bank}
-use Rattle.p3_field_bench.specs.declared.bank.Bank.TheVariants.{Empty, F2, F17, F17b, F31, Z15, BabyBear, KoalaBear, Goldilocks, F17x2, F17x4, F17x8, F17bx2, Z15x2, F31x3, F31x5, F31x6, BabyBearx4, F31t3, F17t5, F2t5}
+use Rattle.p3_field_bench.specs.declared.bank.Bank.TheVariants.{Empty, F2, F17, F17b, F31, Z15, BabyBear, KoalaBear, Goldilocks, F17x2, F17x4, F17x8, F17bx2, Z15x2, F31x3, F31x5, F31x6, F31c, BabyBearx4, F31t3, F17t5, F2t5}
 use Rattle.p3_field_bench.specs.declared.registers.Registers.{Registers}
 use Rattle.p3_field_bench.specs.Effects.{State, at_field, no_field, Outcome, Continues, Faults}
 use Rattle.p3_field_bench.specs.Coefficients.{one_coefficient, all_coefficients}
@@ -39,6 +39,7 @@ state_of (Z15x2 regs) = state_at (PolynomialsModulo 15 2 (13 ∷ 0 ∷ 1 ∷ [])
 state_of (F31x3 regs) = state_at (PolynomialsModulo 31 3 (28 ∷ 0 ∷ 0 ∷ 1 ∷ [])) (all_coefficients canon) regs
 state_of (F31x5 regs) = state_at (PolynomialsModulo 31 5 (28 ∷ 0 ∷ 0 ∷ 0 ∷ 0 ∷ 1 ∷ [])) (all_coefficients canon) regs
 state_of (F31x6 regs) = state_at (PolynomialsModulo 31 6 (28 ∷ 0 ∷ 0 ∷ 0 ∷ 0 ∷ 0 ∷ 1 ∷ [])) (all_coefficients canon) regs
+state_of (F31c regs) = state_at (PolynomialsModulo 31 2 (1 ∷ 0 ∷ 1 ∷ [])) (all_coefficients canon) regs
 state_of (BabyBearx4 regs) = state_at (PolynomialsModulo 2013265921 4 (2013265890 ∷ 0 ∷ 0 ∷ 0 ∷ 1 ∷ [])) (all_coefficients canon) regs
 state_of (F31t3 regs) = state_at (PolynomialsModulo 31 3 (30 ∷ 30 ∷ 0 ∷ 1 ∷ [])) (all_coefficients canon) regs
 state_of (F17t5 regs) = state_at (PolynomialsModulo 17 5 (16 ∷ 0 ∷ 1 ∷ 0 ∷ 0 ∷ 1 ∷ [])) (all_coefficients canon) regs

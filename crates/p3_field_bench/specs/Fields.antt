@@ -63,6 +63,7 @@ field_named name = lookup (
     ∷ (codes "f31x3", PolynomialsModulo 31 3 (28 ∷ 0 ∷ 0 ∷ 1 ∷ []))
     ∷ (codes "f31x5", PolynomialsModulo 31 5 (28 ∷ 0 ∷ 0 ∷ 0 ∷ 0 ∷ 1 ∷ []))
     ∷ (codes "f31x6", PolynomialsModulo 31 6 (28 ∷ 0 ∷ 0 ∷ 0 ∷ 0 ∷ 0 ∷ 1 ∷ []))
+    ∷ (codes "f31c", PolynomialsModulo 31 2 (1 ∷ 0 ∷ 1 ∷ []))
     ∷ (codes "bbx4", PolynomialsModulo 2013265921 4 (2013265890 ∷ 0 ∷ 0 ∷ 0 ∷ 1 ∷ []))
     ∷ (codes "f31t3", PolynomialsModulo 31 3 (30 ∷ 30 ∷ 0 ∷ 1 ∷ []))
     ∷ (codes "f17t5", PolynomialsModulo 17 5 (16 ∷ 0 ∷ 1 ∷ 0 ∷ 0 ∷ 1 ∷ []))

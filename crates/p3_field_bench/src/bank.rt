@@ -3,7 +3,7 @@
 use crate::registers::Registers;
 use p3_bench_prime::baby_bear::BabyBear;
 use p3_bench_prime::extensions::{
-    BabyBearx4, F2t5, F17bx2, F17t5, F17x2, F17x4, F17x8, F31t3, F31x3, F31x5, F31x6, Z15x2,
+    BabyBearx4, F2t5, F17bx2, F17t5, F17x2, F17x4, F17x8, F31c, F31t3, F31x3, F31x5, F31x6, Z15x2,
 };
 use p3_bench_prime::goldilocks::Goldilocks;
 use p3_bench_prime::koala_bear::KoalaBear;
@@ -30,6 +30,7 @@ pub enum Bank {
     F31x3(Registers<F31x3>),
     F31x5(Registers<F31x5>),
     F31x6(Registers<F31x6>),
+    F31c(Registers<F31c>),
     BabyBearx4(Registers<BabyBearx4>),
     F31t3(Registers<F31t3>),
     F17t5(Registers<F17t5>),

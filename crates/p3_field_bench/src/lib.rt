@@ -5,6 +5,7 @@
 mod act;
 mod bank;
 mod commands;
+mod complex_names;
 mod faults;
 mod field;
 pub mod laws;

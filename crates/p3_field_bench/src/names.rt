@@ -8,13 +8,38 @@ ghost use Rattle.p3_field_bench.specs.Display.{canonical_text};
 ghost use Rattle.p3_field_bench.specs.Representation.{InverseOrNone};
 
 use crate::field::Extended;
+use p3_bench_prime::baby_bear::BabyBearModulus;
 use p3_bench_prime::binomial_constants::BinomialConstants;
+use p3_bench_prime::form::Plain;
 use p3_bench_prime::fp::Fp;
+use p3_bench_prime::small::{M15, M17, M17b, M31};
 use p3_field::extension::{Binomial, BinomialExtensionField};
 use p3_field::{Field, PrimeCharacteristicRing};
 use std::alloc::{AllocError, Allocator};
 
-impl<W: BinomialConstants<D>, const D: usize> Extended<D, Binomial<Fp<W>>> for Fp<W> {
+/// A marker whose extension of degree D has a name in the calculator. It is a trait of this crate,
+/// so that an impl for a type beside it, as that of complex values, is seen not to overlap.
+pub trait NamedBinomial<const D: usize>: BinomialConstants<D> {}
+
+impl NamedBinomial<2> for Plain<M17> {}
+
+impl NamedBinomial<4> for Plain<M17> {}
+
+impl NamedBinomial<8> for Plain<M17> {}
+
+impl NamedBinomial<2> for Plain<M17b> {}
+
+impl NamedBinomial<2> for Plain<M15> {}
+
+impl NamedBinomial<3> for Plain<M31> {}
+
+impl NamedBinomial<5> for Plain<M31> {}
+
+impl NamedBinomial<6> for Plain<M31> {}
+
+impl NamedBinomial<4> for Plain<BabyBearModulus> {}
+
+impl<W: NamedBinomial<D>, const D: usize> Extended<D, Binomial<Fp<W>>> for Fp<W> {
     ghost modulus = { binomial (ops W.Form) D (of W.Form W.W) };
 
     fn squared(x: BinomialExtensionField<Fp<W>, D>) -> BinomialExtensionField<Fp<W>, D>

@@ -4,9 +4,10 @@ use super::extension_tables::Table;
 use super::{extension_tables as tables, trinomial_tables};
 use crate::binomial_constants::BinomialConstants;
 use crate::extensions::{
-    BabyBearx4, F2t5, F17bx2, F17t5, F17x2, F17x4, F17x8, F31t3, F31x3, F31x5, F31x6, Z15x2,
+    BabyBearx4, F2t5, F17bx2, F17t5, F17x2, F17x4, F17x8, F31c, F31t3, F31x3, F31x5, F31x6, Z15x2,
 };
 use crate::fp::Fp;
+use crate::small::F31;
 use crate::trinomial_constants::{CubicConstants, QuinticConstants};
 use p3_field::extension::{
     BinomialExtensionField, CubicTrinomialExtensionField, HasFrobenius,
@@ -88,6 +89,56 @@ impl<W: BinomialConstants<D>, const D: usize> Tabled for BinomialExtensionField<
 
     fn base_value(&self) -> Option<u64> {
         match ExtensionField::<Fp<W>>::as_base(self) {
+            Some(c) => Some(c.as_canonical_u64()),
+            None => None,
+        }
+    }
+
+    fn orbit(self, alloc: Global) -> Result<Vec<Self>, AllocError> {
+        self.galois_orbit(alloc)
+    }
+
+    fn text(&self, alloc: Global) -> Result<String, AllocError> {
+        self.to_string(alloc)
+    }
+}
+
+impl Tabled for F31c {
+    type Row = [u64; 2];
+
+    fn of(row: [u64; 2]) -> Self {
+        F31c::new_complex(F31::from_u64(row[0]), F31::from_u64(row[1]))
+    }
+
+    fn row(&self) -> [u64; 2] {
+        [
+            self.real().as_canonical_u64(),
+            self.imag().as_canonical_u64(),
+        ]
+    }
+
+    fn squared(&self) -> Self {
+        self.square()
+    }
+
+    fn times(self, other: Self) -> Self {
+        self * other
+    }
+
+    fn inverse(&self) -> Option<Self> {
+        self.try_inverse()
+    }
+
+    fn image(&self) -> Self {
+        self.frobenius()
+    }
+
+    fn image_after(&self, count: usize) -> Self {
+        self.repeated_frobenius(count)
+    }
+
+    fn base_value(&self) -> Option<u64> {
+        match ExtensionField::<F31>::as_base(self) {
             Some(c) => Some(c.as_canonical_u64()),
             None => None,
         }
@@ -369,6 +420,12 @@ fn f31x5(rt: HostRuntime) -> Result<(), Fail> {
 fn f31x6(rt: HostRuntime) -> Result<(), Fail> {
     assert_streams::<F31x6>(&rt, tables::F31X6.streams)?;
     assert_table::<F31x6>(&rt, &tables::F31X6)
+}
+
+#[test]
+fn f31c(rt: HostRuntime) -> Result<(), Fail> {
+    assert_streams::<F31c>(&rt, tables::F31C.streams)?;
+    assert_table::<F31c>(&rt, &tables::F31C)
 }
 
 #[test]

@@ -293,7 +293,7 @@ pub static FAULTS: [(&[u8], &str, u8); 43] = [
 ];
 
 /// Runs that compute, with the text and the status.
-pub static VALUES: [(&[u8], &str, u8); 19] = [
+pub static VALUES: [(&[u8], &str, u8); 20] = [
     (
         b"field f17x8\nput 0 0 0 0 0 0 0 0 0\nshow 0\nput 0 2 0 0 0 0 0 0 0\nshow 0\n\
         put 0 0 2 0 0 0 0 0 0\nshow 0\nput 0 1 2 0 0 0 0 0 0\nshow 0\nput 0 0 0 2 0 0 0 0 0\n\
@@ -607,6 +607,17 @@ pub static VALUES: [(&[u8], &str, u8); 19] = [
         pow 9 15 2\nshow 12\nshow 7\nshow 8\nshow 0\n",
         "0\n0\n0\n9 + 16 X + 16 X^2 + X^3\n0\n0\n0\n0\n0\n0\n0\n0\n\
         1 + 16 X + 13 X^2 + 16 X^4\n0\n15 X + 5 X^2 + X^3 + X^4\n0\n0\n",
+        0,
+    ),
+    (
+        b" field   f31c  \nput 0 1 001\nput 1 17 1\nput 02 16 09\npow 9 12 31\n  show   14\n\
+        \x20show   01\nshow 0\nneg 4 09\nput 8 21 27\ninv 7 2\nmul 6 13 10\n mul 12  1 6 \n\
+        sq 6 2\nput 13 020 15\ninv 2 7\ninv 4 8\npow 15 10 18446744073709551614\nadd 4 9 2\n\
+        inv 12 8\ndbl 15 3\nadd 8 3 2\nput 5 4 28\nsub 0 5 5\nput 11  0 13 \nshow 4\ninv 06 1\n\
+        \x20inv 8  4\n  sub   0 10 10 \nadd 7 9 2\nsq 12 0\npow  15   8 4\nneg 12 0\n\
+        put 5 30 28\npow 6 7 2\npow 7 10 3090955007\npow 10 11 18446744073709551614\nshow 14\n\
+        \x20 sq   12  12  \nmul 8 03 3\nshow 11\nshow 9\nshow 6\nshow 2\n",
+        "0\n17 + X\n1 + X\n16 + 9 X\n0\n13 X\n0\n20 + 9 X\n16 + 9 X\n",
         0,
     ),
     (

@@ -4,7 +4,7 @@ use super::assert_text;
 use std::test::Fail;
 
 /// A name, the coefficients of a value, and the text of its inverse.
-static INVERSES: [(&str, &str, &str); 12] = [
+static INVERSES: [(&str, &str, &str); 13] = [
     ("f17x2", "1 2", "3 + 11 X\n"),
     ("f17x4", "1 1 0 0", "8 + 9 X + 8 X^2 + 9 X^3\n"),
     (
@@ -21,6 +21,7 @@ static INVERSES: [(&str, &str, &str); 12] = [
         "1 1 0 0 0 0",
         "15 + 16 X + 15 X^2 + 16 X^3 + 15 X^4 + 16 X^5\n",
     ),
+    ("f31c", "15 1", "12 + 24 X\n"),
     ("bbx4", "0 1 0 0", "64944062 X^3\n"),
     ("f31t3", "0 1 0", "30 + X^2\n"),
     ("f17t5", "0 1 0 0 0", "X + X^4\n"),
