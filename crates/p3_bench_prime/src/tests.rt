@@ -5,6 +5,7 @@ mod extension_tables;
 mod extension_values;
 mod extensions;
 mod ring_values;
+mod step_runs;
 mod stream_values;
 mod tool_values;
 mod trinomial_tables;

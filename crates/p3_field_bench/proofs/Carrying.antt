@@ -12,7 +12,7 @@ use Rattle.p3_field_bench.specs.Lines.{lines_of}
 use Rattle.p3_field_bench.specs.Bank.{state_of}
 use Rattle.p3_field_bench.specs.Effects.{State, Continues, Faults, May}
 use Rattle.p3_field_bench.specs.Text.{IsTextFrom, IsText, BeginsText, fault_line}
-use Rattle.p3_field_bench.proofs.Totality.{every_text}
+use Rattle.p3_field_bench.proofs.Totality.{every_text, may_sound, bank_sound}
 use Rattle.p3_field_bench.specs.Standing.{Standing, Carried, Carries, HasNoEnd, ended}
 use Rattle.p3_field_bench.proofs.LineLemmas.{lines_of-line, lines_of-lines, lines_of-rest, begun, HasNoEnd-append, HaveNoEnd-append, flat_map-append}
 
@@ -71,7 +71,7 @@ front_rest-more text out more n = sym (append_assoc (text ++ take n out) (drop n
 pub stopped : (m : Machine) (t : State) (before text out : List ℕ) (n : ℕ) → Standing m before text → May (state_of m.bank) (pending_of m) (Continues t out) → (more : List ℕ) → BeginsText (lines_of ((before ++ 10 ∷ []) ++ more)) (text ++ take n out)
 stopped m t before text out n st may more =
     let line = pending_of m in
-    let rest = every_text (m.number + 1) t (lines_of more) in
+    let rest = every_text (m.number + 1) t (lines_of more) (may_sound (state_of m.bank) line (Continues t out) (bank_sound m.bank) may) in
     let all = st.goes_on (line ∷ lines_of more) (out ++ rest.0) rest.1 (Continues t out, may, (rest.0, rest.2, refl)) in (
       drop n out ++ rest.0,
       rest.1,

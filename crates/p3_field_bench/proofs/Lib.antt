@@ -4,6 +4,7 @@ pub mod Endings
 pub mod InverseLemmas
 pub mod LineLemmas
 pub mod Pieces
+pub mod RootLemmas
 pub mod Totality
 pub mod ValueLemmas
 pub mod WordLemmas

@@ -23,27 +23,27 @@ canon {form = form} x = Elements.canon form x
 -- one line a name
 abbrev pub state_of : Bank → State
 state_of Empty = no_field
-state_of (F2 regs) = state_at (ResiduesModulo 2) (one_coefficient canon) regs
-state_of (F17 regs) = state_at (ResiduesModulo 17) (one_coefficient canon) regs
-state_of (F17b regs) = state_at (ResiduesModulo 17) (one_coefficient canon) regs
-state_of (F31 regs) = state_at (ResiduesModulo 31) (one_coefficient canon) regs
-state_of (Z15 regs) = state_at (ResiduesModulo 15) (one_coefficient canon) regs
-state_of (BabyBear regs) = state_at (ResiduesModulo 2013265921) (one_coefficient canon) regs
-state_of (KoalaBear regs) = state_at (ResiduesModulo 2130706433) (one_coefficient canon) regs
-state_of (Goldilocks regs) = state_at (ResiduesModulo 18446744069414584321) (one_coefficient GoldilocksElements.canon) regs
-state_of (F17x2 regs) = state_at (PolynomialsModulo 17 2 (14 ∷ 0 ∷ 1 ∷ [])) (all_coefficients canon) regs
-state_of (F17x4 regs) = state_at (PolynomialsModulo 17 4 (14 ∷ 0 ∷ 0 ∷ 0 ∷ 1 ∷ [])) (all_coefficients canon) regs
-state_of (F17x8 regs) = state_at (PolynomialsModulo 17 8 (14 ∷ 0 ∷ 0 ∷ 0 ∷ 0 ∷ 0 ∷ 0 ∷ 0 ∷ 1 ∷ [])) (all_coefficients canon) regs
-state_of (F17bx2 regs) = state_at (PolynomialsModulo 17 2 (13 ∷ 0 ∷ 1 ∷ [])) (all_coefficients canon) regs
-state_of (Z15x2 regs) = state_at (PolynomialsModulo 15 2 (13 ∷ 0 ∷ 1 ∷ [])) (all_coefficients canon) regs
-state_of (F31x3 regs) = state_at (PolynomialsModulo 31 3 (28 ∷ 0 ∷ 0 ∷ 1 ∷ [])) (all_coefficients canon) regs
-state_of (F31x5 regs) = state_at (PolynomialsModulo 31 5 (28 ∷ 0 ∷ 0 ∷ 0 ∷ 0 ∷ 1 ∷ [])) (all_coefficients canon) regs
-state_of (F31x6 regs) = state_at (PolynomialsModulo 31 6 (28 ∷ 0 ∷ 0 ∷ 0 ∷ 0 ∷ 0 ∷ 1 ∷ [])) (all_coefficients canon) regs
-state_of (F31c regs) = state_at (PolynomialsModulo 31 2 (1 ∷ 0 ∷ 1 ∷ [])) (all_coefficients canon) regs
-state_of (BabyBearx4 regs) = state_at (PolynomialsModulo 2013265921 4 (2013265890 ∷ 0 ∷ 0 ∷ 0 ∷ 1 ∷ [])) (all_coefficients canon) regs
-state_of (F31t3 regs) = state_at (PolynomialsModulo 31 3 (30 ∷ 30 ∷ 0 ∷ 1 ∷ [])) (all_coefficients canon) regs
-state_of (F17t5 regs) = state_at (PolynomialsModulo 17 5 (16 ∷ 0 ∷ 1 ∷ 0 ∷ 0 ∷ 1 ∷ [])) (all_coefficients canon) regs
-state_of (F2t5 regs) = state_at (PolynomialsModulo 2 5 (1 ∷ 0 ∷ 1 ∷ 0 ∷ 0 ∷ 1 ∷ [])) (all_coefficients canon) regs
+state_of (F2 regs) = state_at (ResiduesModulo 2 1) (one_coefficient canon) regs
+state_of (F17 regs) = state_at (ResiduesModulo 17 3) (one_coefficient canon) regs
+state_of (F17b regs) = state_at (ResiduesModulo 17 3) (one_coefficient canon) regs
+state_of (F31 regs) = state_at (ResiduesModulo 31 3) (one_coefficient canon) regs
+state_of (Z15 regs) = state_at (ResiduesModulo 15 2) (one_coefficient canon) regs
+state_of (BabyBear regs) = state_at (ResiduesModulo 2013265921 31) (one_coefficient canon) regs
+state_of (KoalaBear regs) = state_at (ResiduesModulo 2130706433 3) (one_coefficient canon) regs
+state_of (Goldilocks regs) = state_at (ResiduesModulo 18446744069414584321 7) (one_coefficient GoldilocksElements.canon) regs
+state_of (F17x2 regs) = state_at (PolynomialsModulo 17 2 (14 ∷ 0 ∷ 1 ∷ []) (1 ∷ 2 ∷ [])) (all_coefficients canon) regs
+state_of (F17x4 regs) = state_at (PolynomialsModulo 17 4 (14 ∷ 0 ∷ 0 ∷ 0 ∷ 1 ∷ []) (0 ∷ 1 ∷ 0 ∷ 0 ∷ [])) (all_coefficients canon) regs
+state_of (F17x8 regs) = state_at (PolynomialsModulo 17 8 (14 ∷ 0 ∷ 0 ∷ 0 ∷ 0 ∷ 0 ∷ 0 ∷ 0 ∷ 1 ∷ []) (0 ∷ 1 ∷ 0 ∷ 0 ∷ 0 ∷ 0 ∷ 0 ∷ 0 ∷ [])) (all_coefficients canon) regs
+state_of (F17bx2 regs) = state_at (PolynomialsModulo 17 2 (13 ∷ 0 ∷ 1 ∷ []) (0 ∷ 1 ∷ [])) (all_coefficients canon) regs
+state_of (Z15x2 regs) = state_at (PolynomialsModulo 15 2 (13 ∷ 0 ∷ 1 ∷ []) (0 ∷ 1 ∷ [])) (all_coefficients canon) regs
+state_of (F31x3 regs) = state_at (PolynomialsModulo 31 3 (28 ∷ 0 ∷ 0 ∷ 1 ∷ []) (0 ∷ 1 ∷ 0 ∷ [])) (all_coefficients canon) regs
+state_of (F31x5 regs) = state_at (PolynomialsModulo 31 5 (28 ∷ 0 ∷ 0 ∷ 0 ∷ 0 ∷ 1 ∷ []) (0 ∷ 1 ∷ 0 ∷ 0 ∷ 0 ∷ [])) (all_coefficients canon) regs
+state_of (F31x6 regs) = state_at (PolynomialsModulo 31 6 (28 ∷ 0 ∷ 0 ∷ 0 ∷ 0 ∷ 0 ∷ 1 ∷ []) (1 ∷ 0 ∷ 0 ∷ 1 ∷ 0 ∷ 0 ∷ [])) (all_coefficients canon) regs
+state_of (F31c regs) = state_at (PolynomialsModulo 31 2 (1 ∷ 0 ∷ 1 ∷ []) (3 ∷ 2 ∷ [])) (all_coefficients canon) regs
+state_of (BabyBearx4 regs) = state_at (PolynomialsModulo 2013265921 4 (2013265890 ∷ 0 ∷ 0 ∷ 0 ∷ 1 ∷ []) (0 ∷ 1 ∷ 0 ∷ 0 ∷ [])) (all_coefficients canon) regs
+state_of (F31t3 regs) = state_at (PolynomialsModulo 31 3 (30 ∷ 30 ∷ 0 ∷ 1 ∷ []) (3 ∷ 0 ∷ 0 ∷ [])) (all_coefficients canon) regs
+state_of (F17t5 regs) = state_at (PolynomialsModulo 17 5 (16 ∷ 0 ∷ 1 ∷ 0 ∷ 0 ∷ 1 ∷ []) (3 ∷ 0 ∷ 0 ∷ 0 ∷ 0 ∷ [])) (all_coefficients canon) regs
+state_of (F2t5 regs) = state_at (PolynomialsModulo 2 5 (1 ∷ 0 ∷ 1 ∷ 0 ∷ 0 ∷ 1 ∷ []) (0 ∷ 1 ∷ 0 ∷ 0 ∷ 0 ∷ [])) (all_coefficients canon) regs
 
 abbrev pub opened : Option Bank → Outcome
 opened None = Faults NoField

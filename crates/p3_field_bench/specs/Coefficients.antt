@@ -5,11 +5,15 @@ use Rattle.std.proofs.lemmas.Bool.{cases_eq, ne_eqb}
 use Rattle.std.proofs.lemmas.Fmt.{decimal_digit}
 use Rattle.p3_theory.specs.Ring.{Ops}
 use Rattle.p3_theory.specs.Polynomial.{tabulate, embed}
+use Rattle.p3_theory.specs.Coefficients.{length-tabulate}
 use Rattle.p3_theory.specs.Residues.{AreResidues, residues}
 use Rattle.p3_theory.specs.Homomorphism.{length-map, quotient-map}
 use Rattle.p3_theory.specs.Text.{terms_text, next_text}
 use Rattle.p3_ext.specs.declared.extension.ext_field.ExtField.{ExtField}
 use Rattle.p3_ext.specs.Values.{value_of, same_value, constant, ext_ops}
+use Rattle.p3_bench_prime.specs.declared.fp.Fp.{Fp}
+use Rattle.p3_bench_prime.specs.declared.form.Form.{Ghosts}
+use Rattle.p3_bench_prime.specs.Elements.{of}
 use Rattle.p3_field_bench.specs.Display.{display, canonical_text}
 use Rattle.p3_field_bench.specs.Fields.{ResiduesModulo, PolynomialsModulo, IsValue, AllBelow}
 use Rattle.p3_field_bench.specs.Representation.{Represents}
@@ -21,6 +25,10 @@ one_coefficient canon x = canon x ∷ []
 -- the coefficients of a value of an extension
 abbrev pub all_coefficients : {F : Type 0} {D : ℕ} {S A : Type 0} → (A → ℕ) → ExtField F D S A → List ℕ
 all_coefficients canon x = map canon x.value
+
+-- the value of an extension with the coefficients that these numbers stand for
+abbrev pub value_at : {W : Type 0} (form : Ghosts W) {F : Type 0} (D : ℕ) {S : Type 0} → List ℕ → ExtField F D S (Fp W form)
+value_at form D cs = value_of (tabulate D (λ i. of form (get_or cs i 0))) (length-tabulate D (λ i. of form (get_or cs i 0)))
 
 abbrev first : List ℕ → ℕ
 first cs = get_or cs 0 0
@@ -38,16 +46,16 @@ replicate-embed O (suc D) = ap (λ l. O.zero ∷ l) (past D)
     past (suc D) = ap (λ l. O.zero ∷ l) (past D)
 
 module _ {A : Type 0} (n : ℕ) (O : Ops A) (canon : A → ℕ) (R : AreResidues n O canon) where
-  residue_of : (cs : List ℕ) → IsValue (ResiduesModulo n) cs → (x : A) × (one_coefficient canon x ≡ cs)
-  residue_of [] v = absurd (omega (arith, v.0))
-  residue_of (c ∷ []) v = let e = R.every c v.1.0 in (e.0, ap (λ w. w ∷ []) e.1)
-  residue_of (c ∷ d ∷ cs) v = absurd (omega (arith, v.0))
+  residue_of : (g : ℕ) (cs : List ℕ) → IsValue (ResiduesModulo n g) cs → (x : A) × (one_coefficient canon x ≡ cs)
+  residue_of g [] v = absurd (omega (arith, v.0))
+  residue_of g (c ∷ []) v = let e = R.every c v.1.0 in (e.0, ap (λ w. w ∷ []) e.1)
+  residue_of g (c ∷ d ∷ cs) v = absurd (omega (arith, v.0))
 
-  pub residues_represented : Represents (ResiduesModulo n) O (one_coefficient canon)
-  residues_represented = record {
+  pub residues_represented : (g : ℕ) → Represents (ResiduesModulo n g) O (one_coefficient canon)
+  residues_represented g = record {
     above_one = R.above_one;
     valid = λ x. (refl, (R.below x, tt));
-    every = residue_of;
+    every = residue_of g;
     same = λ x y e. R.same x y (ap first e);
     keeps = record {
       zero = ap (λ w. w ∷ []) R.keeps.zero;
@@ -72,9 +80,9 @@ module _ {A : Type 0} (n : ℕ) (O : Ops A) (canon : A → ℕ) (R : AreResidues
   same_residues (x ∷ xs) [] e = absurd (cc e)
   same_residues (x ∷ xs) (y ∷ ys) e = ap₂ (λ w ws. w ∷ ws) (R.same x y (ap first e)) (same_residues xs ys (ap rest e))
 
-  pub extension_represented : {F S : Type 0} (D : ℕ) (f : List A)
-      → Represents (PolynomialsModulo n D (map canon f)) (ext_ops {F = F} {D = D} {S = S} O f) (all_coefficients canon)
-  extension_represented D f =
+  pub extension_represented : {F S : Type 0} (D : ℕ) (f : List A) (g : List ℕ)
+      → Represents (PolynomialsModulo n D (map canon f) g) (ext_ops {F = F} {D = D} {S = S} O f) (all_coefficients canon)
+  extension_represented D f g =
       let kept = quotient-map O (residues n) canon R.keeps D f in
       record {
         above_one = R.above_one;

@@ -1,20 +1,21 @@
 -- What a line does.
-use Rattle.std.specs.Prelude.{◌≡◌, ℕ, ◌-◌, ◌⊎◌, ◌==◌, nat_lt, if◌then◌else◌, List, [], ◌∷◌, ◌++◌, length, Option, Some, None, Result, Ok, Err, MatchBool, slice_set, get_or, replicate}
+use Rattle.std.specs.Prelude.{◌≡◌, ◌≢◌, ℕ, ◌-◌, ◌⊎◌, ◌==◌, nat_lt, if◌then◌else◌, List, [], ◌∷◌, ◌++◌, length, Option, Some, None, Result, Ok, Err, MatchBool, slice_set, get_or, replicate}
 use Rattle.p3_field_bench.specs.declared.commands.Command.{Command}
 use Rattle.p3_field_bench.specs.declared.commands.Command.TheVariants.{Field, Compute}
 use Rattle.p3_field_bench.specs.declared.commands.Operation.{Operation}
-use Rattle.p3_field_bench.specs.declared.commands.Operation.TheVariants.{Put, Binary, Unary, Pow, Inv, Show}
+use Rattle.p3_field_bench.specs.declared.commands.Operation.TheVariants.{Put, Binary, Unary, Pow, Inv, Sqrt, Show}
 use Rattle.p3_field_bench.specs.declared.commands.BinaryOperation.{BinaryOperation}
 use Rattle.p3_field_bench.specs.declared.commands.BinaryOperation.TheVariants.{Add, Sub, Mul}
 use Rattle.p3_field_bench.specs.declared.commands.UnaryOperation.{UnaryOperation}
 use Rattle.p3_field_bench.specs.declared.commands.UnaryOperation.TheVariants.{Neg, Sq, Dbl}
 use Rattle.p3_field_bench.specs.declared.faults.Fault.{Fault}
-use Rattle.p3_field_bench.specs.declared.faults.Fault.TheVariants.{UnknownCommand, WordCount, BadRegister, BadNumber, NoInverse, NoField, NoMemory, LongLine}
+use Rattle.p3_field_bench.specs.declared.faults.Fault.TheVariants.{UnknownCommand, WordCount, BadRegister, BadNumber, NoInverse, NoRoot, NoField, NoMemory, LongLine}
 use Rattle.p3_theory.specs.Ring.{Ops, subtract}
 use Rattle.p3_theory.specs.Powers.{power}
 use Rattle.p3_field_bench.specs.Display.{display}
 use Rattle.p3_field_bench.specs.Fields.{FieldSpec, order, dimension, ops, IsValue, field_named}
 use Rattle.p3_field_bench.specs.Lines.{words}
+use Rattle.p3_field_bench.specs.Premise.{MeetsPremise}
 use Rattle.p3_field_bench.specs.Words.{command_of, number, register, one_register, two_registers, three_registers, registers_and_number}
 
 -- a field or none, and 16 registers, each with the coefficient list of a value
@@ -86,6 +87,16 @@ abbrev pub Inverts : FieldSpec → List (List ℕ) → ℕ → List ℕ → Outc
 Inverts s regs r x o = ((y : List ℕ) × IsInverse s x y × (o ≡ sets s regs r y))
     ⊎ (((y : List ℕ) → IsInverse s x y → ⊥) × (o ≡ Faults NoInverse))
 
+-- y is a value with y * y = x
+abbrev pub IsRoot : FieldSpec → List ℕ → List ℕ → Type 0
+IsRoot s x y = IsValue s y × ((ops s).mul y y ≡ x)
+
+-- register r becomes a square root of the value x, and the fault stands only where x isn't zero and,
+-- under the premise of a finite field, has no root
+abbrev pub TakesRoot : FieldSpec → List (List ℕ) → ℕ → List ℕ → Outcome → Type 0
+TakesRoot s regs r x o = ((y : List ℕ) × IsRoot s x y × (o ≡ sets s regs r y))
+    ⊎ ((x ≢ (ops s).zero) × (MeetsPremise s → (y : List ℕ) → IsRoot s x y → ⊥) × (o ≡ Faults NoRoot))
+
 -- the value's text and byte 10 are written, or memory for them was refused
 abbrev pub Shows : FieldSpec → List (List ℕ) → ℕ → Outcome → Type 0
 Shows s regs r o = (o ≡ Continues (at_field s regs) (display (register_at regs r) ++ 10 ∷ [])) ⊎ (o ≡ Faults NoMemory)
@@ -98,6 +109,7 @@ Computes (Binary f) s regs args o = At (three_registers args) (λ p o. o ≡ set
 Computes (Unary f) s regs args o = At (two_registers args) (λ p o. o ≡ sets s regs p.0 (unary f (ops s) (register_at regs p.1))) o
 Computes Pow s regs args o = At (registers_and_number args) (λ p o. o ≡ sets s regs p.0 (power (ops s) (register_at regs p.1) p.2)) o
 Computes Inv s regs args o = At (two_registers args) (λ p o. Inverts s regs p.0 (register_at regs p.1) o) o
+Computes Sqrt s regs args o = At (two_registers args) (λ p o. TakesRoot s regs p.0 (register_at regs p.1) o) o
 Computes Show s regs args o = At (one_register args) (Shows s regs) o
 
 -- a field is chosen by its name

@@ -1,7 +1,7 @@
 -- The number of each fault.
 use Rattle.std.specs.Prelude.{ℕ}
 use Rattle.p3_field_bench.specs.declared.faults.Fault.{Fault}
-use Rattle.p3_field_bench.specs.declared.faults.Fault.TheVariants.{UnknownCommand, WordCount, BadRegister, BadNumber, NoInverse, NoField, NoMemory, ReadFault, LongLine}
+use Rattle.p3_field_bench.specs.declared.faults.Fault.TheVariants.{UnknownCommand, WordCount, BadRegister, BadNumber, NoInverse, NoRoot, NoField, NoMemory, ReadFault, LongLine}
 
 abbrev pub fault_code : Fault → ℕ
 fault_code UnknownCommand = 1
@@ -9,6 +9,7 @@ fault_code WordCount = 2
 fault_code BadRegister = 3
 fault_code BadNumber = 4
 fault_code NoInverse = 5
+fault_code NoRoot = 6
 fault_code NoField = 7
 fault_code NoMemory = 8
 fault_code ReadFault = 9

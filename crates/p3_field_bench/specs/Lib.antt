@@ -7,6 +7,7 @@ pub mod Fields
 pub mod Lines
 pub mod Memory
 pub mod Outcomes
+pub mod Premise
 pub mod Representation
 pub mod Standing
 pub mod Streams

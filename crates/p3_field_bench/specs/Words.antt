@@ -3,7 +3,7 @@ use Rattle.std.specs.Prelude.{ℕ, ◌+◌, ◌-◌, ◌*◌, ◌&&◌, nat_lt, 
 use Rattle.std.specs.Str.{bytes_eq}
 use Rattle.p3_field_bench.specs.declared.commands.Command.{Command}
 use Rattle.p3_field_bench.specs.declared.commands.Command.TheVariants.{Field, Compute}
-use Rattle.p3_field_bench.specs.declared.commands.Operation.TheVariants.{Put, Binary, Unary, Pow, Inv, Show}
+use Rattle.p3_field_bench.specs.declared.commands.Operation.TheVariants.{Put, Binary, Unary, Pow, Inv, Sqrt, Show}
 use Rattle.p3_field_bench.specs.declared.commands.BinaryOperation.TheVariants.{Add, Sub, Mul}
 use Rattle.p3_field_bench.specs.declared.commands.UnaryOperation.TheVariants.{Neg, Sq, Dbl}
 use Rattle.p3_field_bench.specs.declared.faults.Fault.{Fault}
@@ -26,6 +26,7 @@ command_of word = lookup (
     ∷ (codes "dbl", Compute (Unary Dbl))
     ∷ (codes "pow", Compute Pow)
     ∷ (codes "inv", Compute Inv)
+    ∷ (codes "sqrt", Compute Sqrt)
     ∷ (codes "show", Compute Show)
     ∷ []) word
 

@@ -1,11 +1,12 @@
-ghost use Rattle.std.specs.Prelude.{◌≡◌, ◌++◌, ◌∷◌, [], ℕ, List, Some, None, length, IfOk, IfSome, IfNone};
+ghost use Rattle.std.specs.Prelude.{◌≡◌, ◌≢◌, ◌++◌, ◌∷◌, [], ℕ, List, Some, None, length, IfOk, IfSome, IfNone};
 ghost use Rattle.p3_theory.specs.Powers.{power};
 ghost use Rattle.p3_field_bench.specs.Bank.{state_at};
 ghost use Rattle.p3_field_bench.specs.Display.{display};
-ghost use Rattle.p3_field_bench.specs.Effects.{Computes, State, numbers_below, IsInverse, binary, unary};
+ghost use Rattle.p3_field_bench.specs.Effects.{Computes, State, numbers_below, IsInverse, IsRoot, binary, unary};
 ghost use Rattle.p3_field_bench.specs.Fields.{order, dimension, ops};
 ghost use Rattle.p3_field_bench.specs.Lines.{words};
 ghost use Rattle.p3_field_bench.specs.Outcomes.{outcome, silent};
+ghost use Rattle.p3_field_bench.specs.Premise.{MeetsPremise};
 
 use crate::commands::{BinaryOperation, Operation, UnaryOperation};
 use crate::faults::Fault;
@@ -87,6 +88,15 @@ fn inverse<F: CalculatorField>(x: F) -> Option<F>
     x.inverse()
 }
 
+/// A square root of a value, where one is answered.
+fn root<F: CalculatorField>(x: F) -> Option<F>
+    ensures some { IfSome result (λ y. IsRoot F.spec (F.coefficients x) (F.coefficients y)) }
+    ensures nonzero { IfNone result (F.coefficients x ≢ (ops F.spec).zero) }
+    ensures none { IfNone result (MeetsPremise F.spec → (y : List ℕ) → IsRoot F.spec (F.coefficients x) y → ⊥) }
+{
+    x.root()
+}
+
 /// The line `put R c0 ..`.
 fn put<F: CalculatorField>(regs: &mut Registers<F>, args: &[u8]) -> Result<(), Fault>
     ensures { let old = state_at F.spec F.coefficients regs.old in let new = state_at F.spec F.coefficients regs.new in
@@ -162,6 +172,19 @@ fn inv<F: CalculatorField>(regs: &mut Registers<F>, args: &[u8]) -> Result<(), F
     Ok(())
 }
 
+/// The line `sqrt R A`.
+fn sqrt<F: CalculatorField>(regs: &mut Registers<F>, args: &[u8]) -> Result<(), Fault>
+    ensures { let old = state_at F.spec F.coefficients regs.old in let new = state_at F.spec F.coefficients regs.new in
+        Computes Operation.Sqrt F.spec old.registers (words args.now) (silent result new) }
+{
+    let (r, a) = two_registers(args)?;
+    let Some(y) = root(regs.get(a)) else {
+        return Err(Fault::NoRoot);
+    };
+    regs.set(r, y);
+    Ok(())
+}
+
 /// The line `show R`: its text.
 fn show<F: CalculatorField, A: Allocator + Copy>(
     alloc: A,
@@ -207,6 +230,7 @@ pub fn act<F: CalculatorField, A: Allocator + Copy>(
         Operation::Unary(f) => without_text(alloc, set_from_one(f, regs, args)),
         Operation::Pow => without_text(alloc, pow(regs, args)),
         Operation::Inv => without_text(alloc, inv(regs, args)),
+        Operation::Sqrt => without_text(alloc, sqrt(regs, args)),
         Operation::Show => show(alloc, regs, args),
     }
 }

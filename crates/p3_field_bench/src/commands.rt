@@ -23,6 +23,8 @@ pub enum Operation {
     Pow,
     /// A register is set to the inverse of a register.
     Inv,
+    /// A register is set to a square root of a register.
+    Sqrt,
     /// A register's value is written.
     Show,
 }
@@ -78,6 +80,7 @@ pub fn parse_command(word: &[u8]) -> Option<Command>
         b"dbl" => unary(UnaryOperation::Dbl),
         b"pow" => Some(Command::Compute(Operation::Pow)),
         b"inv" => Some(Command::Compute(Operation::Inv)),
+        b"sqrt" => Some(Command::Compute(Operation::Sqrt)),
         b"show" => Some(Command::Compute(Operation::Show)),
         _ => None,
     }

@@ -1,12 +1,13 @@
 //! The extension by a root of minus one that has a name in the calculator.
-ghost use Rattle.std.specs.Prelude.{◌≡◌, string_bytes, IfOk};
+ghost use Rattle.std.specs.Prelude.{◌≡◌, ◌^◌, string_bytes, IfOk};
 ghost use Rattle.p3_theory.specs.Polynomial.{binomial};
 ghost use Rattle.p3_theory.specs.Powers.{power};
 ghost use Rattle.p3_ext.specs.Values.{ext_ops};
 ghost use Rattle.p3_bench_prime.specs.Elements.{canon, ops};
 ghost use Rattle.p3_field_bench.specs.Display.{canonical_text};
-ghost use Rattle.p3_field_bench.specs.Representation.{InverseOrNone};
+ghost use Rattle.p3_field_bench.specs.Representation.{InverseOrNone, RootOrNone};
 
+use crate::extension_roots::SearchedRoot;
 use crate::field::Extended;
 use p3_bench_prime::extensions::F31c;
 use p3_bench_prime::form::{Form, Plain};
@@ -17,6 +18,8 @@ use std::alloc::{AllocError, Allocator};
 
 impl Extended<2, Binomial<F31>> for F31 {
     ghost modulus = { let o = ops ⟦<Plain<M31> as Form>⟧ in binomial o 2 (o.neg o.one) };
+
+    ghost generator = { ⟦<F31c as Field>⟧.generator };
 
     fn squared(x: F31c) -> F31c
         ensures { result ≡ ⟦<F31c as PrimeCharacteristicRing>⟧.ops.mul x x }
@@ -40,6 +43,12 @@ impl Extended<2, Binomial<F31>> for F31 {
         ensures { let o = ops ⟦<Plain<M31> as Form>⟧ in InverseOrNone (ext_ops o (binomial o 2 (o.neg o.one))) x result }
     {
         x.try_inverse()
+    }
+
+    fn root(x: F31c) -> Option<F31c>
+        ensures { let o = ops ⟦<Plain<M31> as Form>⟧ in RootOrNone (ext_ops o (binomial o 2 (o.neg o.one))) (31 ^ 2) ⟦<F31c as Field>⟧.generator x result }
+    {
+        x.searched_root()
     }
 
     fn text<A: Allocator + Copy>(x: F31c, alloc: A) -> Result<String<A>, AllocError>

@@ -14,6 +14,8 @@ pub enum Fault {
     BadNumber,
     /// The value has no inverse.
     NoInverse,
+    /// No square root of the value is answered.
+    NoRoot,
     /// No field has this name, or none is chosen yet.
     NoField,
     /// The memory for a text was refused.
@@ -35,6 +37,7 @@ impl Fault {
             Fault::BadRegister => 3,
             Fault::BadNumber => 4,
             Fault::NoInverse => 5,
+            Fault::NoRoot => 6,
             Fault::NoField => 7,
             Fault::NoMemory => 8,
             Fault::ReadFault => 9,

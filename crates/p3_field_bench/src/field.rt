@@ -1,4 +1,4 @@
-ghost use Rattle.std.specs.Prelude.{◌≡◌, ◌<◌, ℕ, List, slice_set, string_bytes, IfOk};
+ghost use Rattle.std.specs.Prelude.{◌≡◌, ◌<◌, ◌^◌, ℕ, List, slice_set, string_bytes, IfOk};
 ghost use Rattle.p3_theory.specs.Ring.{Ops, subtract};
 ghost use Rattle.p3_theory.specs.Powers.{power};
 ghost use Rattle.p3_theory.specs.Operators.{Gives, GivesOne};
@@ -6,8 +6,8 @@ ghost use Rattle.p3_theory.specs.Polynomial.{quotient_mul};
 ghost use Rattle.p3_theory.specs.Residues.{AreResidues};
 ghost use Rattle.p3_ext.specs.Values.{ext_ops};
 ghost use Rattle.p3_field_bench.specs.Display.{display, canonical_text};
-ghost use Rattle.p3_field_bench.specs.Fields.{FieldSpec, order, dimension};
-ghost use Rattle.p3_field_bench.specs.Representation.{Represents, InverseOrNone};
+ghost use Rattle.p3_field_bench.specs.Fields.{FieldSpec, order, dimension, value_count, generator_of};
+ghost use Rattle.p3_field_bench.specs.Representation.{Represents, InverseOrNone, RootOrNone};
 
 use p3_bench_prime::form::Form;
 use p3_bench_prime::fp::Fp;
@@ -28,6 +28,9 @@ pub trait CalculatorField: Copy {
 
     /// The operations of the type.
     ghost ops: { Ops Self };
+
+    /// The element by which square roots are looked for.
+    ghost generator: { Self };
 
     /// The order of the base.
     fn base_order() -> u64
@@ -79,12 +82,20 @@ pub trait CalculatorField: Copy {
     fn inverse(self) -> Option<Self>
         ensures { InverseOrNone ops self result };
 
+    /// A square root. `None` says of a value but zero that it has none, where the premise of a
+    /// finite field holds.
+    fn root(self) -> Option<Self>
+        ensures { RootOrNone ops (value_count spec) generator self result };
+
     /// The text that `Display` writes.
     fn text<A: Allocator + Copy>(self, alloc: A) -> Result<String<A>, AllocError>
         ensures { IfOk result (λ text. string_bytes text ≡ display (coefficients self)) };
 
     /// The operations are those of the field on coefficient lists.
     ghost represents: { Represents spec ops coefficients };
+
+    /// The element is that of the field.
+    ghost generator_is: { coefficients generator ≡ generator_of spec };
 }
 
 /// A base of the calculator's extensions: residues by their canonical values.
@@ -121,8 +132,13 @@ pub trait Base: Copy + Add<Output = Self> + Sub<Output = Self> + Neg<Output = Se
 
 /// A base with an extension of degree D by the shape S that has a name in the calculator.
 pub trait Extended<const D: usize, S>: Base + ExtensionProduct<Self, D, S> {
+    ghost use Rattle.p3_ext.specs.declared.extension.ext_field.ExtField.{ExtField};
+
     /// The polynomial that is zero in the extension.
     ghost modulus: { List Self };
+
+    /// The element by which square roots are looked for.
+    ghost generator: { ExtField Self D S Self };
 
     /// The square.
     fn squared(x: ExtField<Self, D, S, Self>) -> ExtField<Self, D, S, Self>
@@ -139,6 +155,11 @@ pub trait Extended<const D: usize, S>: Base + ExtensionProduct<Self, D, S> {
     /// An inverse, and `None` exactly where there is none.
     fn inverse(x: ExtField<Self, D, S, Self>) -> Option<ExtField<Self, D, S, Self>>
         ensures { InverseOrNone (ext_ops Self.ops modulus) x result };
+
+    /// A square root. `None` says of a value but zero that it has none, where the premise of a
+    /// finite field holds.
+    fn root(x: ExtField<Self, D, S, Self>) -> Option<ExtField<Self, D, S, Self>>
+        ensures { RootOrNone (ext_ops Self.ops modulus) (Self.order ^ D) generator x result };
 
     /// The text that `Display` writes.
     fn text<A: Allocator + Copy>(
@@ -179,15 +200,17 @@ impl<W: Form> Base for Fp<W> {
 }
 
 impl<F: Extended<D, S>, const D: usize, S: Copy> CalculatorField for ExtField<F, D, S, F> {
-    ghost use Rattle.std.specs.Prelude.{map};
+    ghost use Rattle.std.specs.Prelude.{map, refl};
     ghost use Rattle.p3_field_bench.specs.Fields.{PolynomialsModulo};
     ghost use Rattle.p3_field_bench.specs.Coefficients.{all_coefficients, extension_represented};
 
-    ghost spec = { PolynomialsModulo F.order D (map F.canon F.modulus) };
+    ghost spec = { PolynomialsModulo F.order D (map F.canon F.modulus) (map F.canon F.Extended.generator.value) };
 
     ghost coefficients = { all_coefficients F.canon };
 
     ghost ops = { ext_ops F.ops F.modulus };
+
+    ghost generator = { F.Extended.generator };
 
     fn base_order() -> u64 {
         F::order()
@@ -239,9 +262,15 @@ impl<F: Extended<D, S>, const D: usize, S: Copy> CalculatorField for ExtField<F,
         F::inverse(self)
     }
 
+    fn root(self) -> Option<Self> {
+        F::root(self)
+    }
+
     fn text<A: Allocator + Copy>(self, alloc: A) -> Result<String<A>, AllocError> {
         F::text(self, alloc)
     }
 
-    ghost represents = { extension_represented F.order F.ops F.canon F.residues D F.modulus };
+    ghost represents = { extension_represented F.order F.ops F.canon F.residues D F.modulus (map F.canon F.Extended.generator.value) };
+
+    ghost generator_is = { refl };
 }

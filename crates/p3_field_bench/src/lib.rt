@@ -6,6 +6,7 @@ mod act;
 mod bank;
 mod commands;
 mod complex_names;
+mod extension_roots;
 mod faults;
 mod field;
 pub mod laws;

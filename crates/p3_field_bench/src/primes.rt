@@ -6,20 +6,24 @@ use p3_bench_prime::form::Form;
 use p3_bench_prime::fp::Fp;
 use p3_bench_prime::goldilocks::Goldilocks;
 use p3_field::integers::QuotientMap;
-use p3_field::{Field, PrimeCharacteristicRing, PrimeField64};
+use p3_field::{Field, PrimeCharacteristicRing, PrimeField64, tonelli_shanks};
 use std::alloc::{AllocError, Allocator};
 
 impl<W: Form> CalculatorField for Fp<W> {
+    ghost use Rattle.std.specs.Prelude.{[], ◌∷◌};
+    ghost use Rattle.std.proofs.Common.{ap};
     ghost use Rattle.p3_theory.specs.Residues.{are_residues};
-    ghost use Rattle.p3_bench_prime.specs.Elements.{canon, ops, is};
+    ghost use Rattle.p3_bench_prime.specs.Elements.{canon, of, ops, is};
     ghost use Rattle.p3_field_bench.specs.Coefficients.{one_coefficient, residues_represented};
     ghost use Rattle.p3_field_bench.specs.Fields.{ResiduesModulo};
 
-    ghost spec = { ResiduesModulo W.ORDER };
+    ghost spec = { ResiduesModulo W.ORDER W.GENERATOR };
 
     ghost coefficients = { one_coefficient (canon W.Form) };
 
     ghost ops = { ops W.Form };
+
+    ghost generator = { of W.Form W.GENERATOR };
 
     fn base_order() -> u64 {
         W::ORDER as u64
@@ -69,24 +73,33 @@ impl<W: Form> CalculatorField for Fp<W> {
         self.try_inverse()
     }
 
+    fn root(self) -> Option<Self> {
+        tonelli_shanks(self)
+    }
+
     fn text<A: Allocator + Copy>(self, alloc: A) -> Result<String<A>, AllocError> {
         self.to_string(alloc)
     }
 
-    ghost represents = { residues_represented W.ORDER (ops W.Form) (canon W.Form) (are_residues (is W.Form)) };
+    ghost represents = { residues_represented W.ORDER (ops W.Form) (canon W.Form) (are_residues (is W.Form)) W.GENERATOR };
+
+    ghost generator_is = { ap (λ c. c ∷ []) ((is W.Form).canon_of W.GENERATOR) };
 }
 
 impl CalculatorField for Goldilocks {
+    ghost use Rattle.std.specs.Prelude.{refl};
     ghost use Rattle.p3_theory.specs.Residues.{are_residues};
-    ghost use Rattle.p3_bench_prime.specs.GoldilocksElements.{canon, ops, is};
+    ghost use Rattle.p3_bench_prime.specs.GoldilocksElements.{canon, of, ops, is};
     ghost use Rattle.p3_field_bench.specs.Coefficients.{one_coefficient, residues_represented};
     ghost use Rattle.p3_field_bench.specs.Fields.{ResiduesModulo};
 
-    ghost spec = { ResiduesModulo 18446744069414584321 };
+    ghost spec = { ResiduesModulo 18446744069414584321 7 };
 
     ghost coefficients = { one_coefficient canon };
 
     ghost ops = { ops };
+
+    ghost generator = { of 7 };
 
     fn base_order() -> u64 {
         Goldilocks::ORDER_U64
@@ -136,9 +149,15 @@ impl CalculatorField for Goldilocks {
         self.try_inverse()
     }
 
+    fn root(self) -> Option<Self> {
+        tonelli_shanks(self)
+    }
+
     fn text<A: Allocator + Copy>(self, alloc: A) -> Result<String<A>, AllocError> {
         self.to_string(alloc)
     }
 
-    ghost represents = { residues_represented 18446744069414584321 ops canon (are_residues is) };
+    ghost represents = { residues_represented 18446744069414584321 ops canon (are_residues is) 7 };
+
+    ghost generator_is = { refl };
 }

@@ -1,13 +1,14 @@
 //! The extensions by trinomials that have a name in the calculator. Each is written out: the
 //! toolchain takes no impl for every form of the word where the degree is a literal.
-ghost use Rattle.std.specs.Prelude.{◌≡◌, string_bytes, IfOk};
+ghost use Rattle.std.specs.Prelude.{◌≡◌, ◌^◌, string_bytes, IfOk};
 ghost use Rattle.p3_theory.specs.Trinomials.{cubic_trinomial, quintic_trinomial};
 ghost use Rattle.p3_theory.specs.Powers.{power};
 ghost use Rattle.p3_ext.specs.Values.{ext_ops};
 ghost use Rattle.p3_bench_prime.specs.Elements.{canon, ops};
 ghost use Rattle.p3_field_bench.specs.Display.{canonical_text};
-ghost use Rattle.p3_field_bench.specs.Representation.{InverseOrNone};
+ghost use Rattle.p3_field_bench.specs.Representation.{InverseOrNone, RootOrNone};
 
+use crate::extension_roots::SearchedRoot;
 use crate::field::Extended;
 use p3_bench_prime::extensions::{F2t5, F17t5, F31t3};
 use p3_bench_prime::form::{Form, Plain};
@@ -18,6 +19,8 @@ use std::alloc::{AllocError, Allocator};
 
 impl Extended<3, CubicTrinomial> for F31 {
     ghost modulus = { cubic_trinomial (ops ⟦<Plain<M31> as Form>⟧) };
+
+    ghost generator = { ⟦<F31t3 as Field>⟧.generator };
 
     fn squared(x: F31t3) -> F31t3
         ensures { result ≡ ⟦<F31t3 as PrimeCharacteristicRing>⟧.ops.mul x x }
@@ -43,6 +46,12 @@ impl Extended<3, CubicTrinomial> for F31 {
         x.try_inverse()
     }
 
+    fn root(x: F31t3) -> Option<F31t3>
+        ensures { let form = ⟦<Plain<M31> as Form>⟧ in RootOrNone (ext_ops (ops form) (cubic_trinomial (ops form))) (31 ^ 3) ⟦<F31t3 as Field>⟧.generator x result }
+    {
+        x.searched_root()
+    }
+
     fn text<A: Allocator + Copy>(x: F31t3, alloc: A) -> Result<String<A>, AllocError>
         ensures { IfOk result (λ text. string_bytes text ≡ canonical_text (canon ⟦<Plain<M31> as Form>⟧) x.value) }
     {
@@ -54,6 +63,8 @@ impl Extended<3, CubicTrinomial> for F31 {
 
 impl Extended<5, QuinticTrinomial> for F17 {
     ghost modulus = { quintic_trinomial (ops ⟦<Plain<M17> as Form>⟧) };
+
+    ghost generator = { ⟦<F17t5 as Field>⟧.generator };
 
     fn squared(x: F17t5) -> F17t5
         ensures { result ≡ ⟦<F17t5 as PrimeCharacteristicRing>⟧.ops.mul x x }
@@ -79,6 +90,12 @@ impl Extended<5, QuinticTrinomial> for F17 {
         x.try_inverse()
     }
 
+    fn root(x: F17t5) -> Option<F17t5>
+        ensures { let form = ⟦<Plain<M17> as Form>⟧ in RootOrNone (ext_ops (ops form) (quintic_trinomial (ops form))) (17 ^ 5) ⟦<F17t5 as Field>⟧.generator x result }
+    {
+        x.searched_root()
+    }
+
     fn text<A: Allocator + Copy>(x: F17t5, alloc: A) -> Result<String<A>, AllocError>
         ensures { IfOk result (λ text. string_bytes text ≡ canonical_text (canon ⟦<Plain<M17> as Form>⟧) x.value) }
     {
@@ -90,6 +107,8 @@ impl Extended<5, QuinticTrinomial> for F17 {
 
 impl Extended<5, QuinticTrinomial> for F2 {
     ghost modulus = { quintic_trinomial (ops ⟦<Plain<M2> as Form>⟧) };
+
+    ghost generator = { ⟦<F2t5 as Field>⟧.generator };
 
     fn squared(x: F2t5) -> F2t5
         ensures { result ≡ ⟦<F2t5 as PrimeCharacteristicRing>⟧.ops.mul x x }
@@ -113,6 +132,12 @@ impl Extended<5, QuinticTrinomial> for F2 {
         ensures { let form = ⟦<Plain<M2> as Form>⟧ in InverseOrNone (ext_ops (ops form) (quintic_trinomial (ops form))) x result }
     {
         x.try_inverse()
+    }
+
+    fn root(x: F2t5) -> Option<F2t5>
+        ensures { let form = ⟦<Plain<M2> as Form>⟧ in RootOrNone (ext_ops (ops form) (quintic_trinomial (ops form))) (2 ^ 5) ⟦<F2t5 as Field>⟧.generator x result }
+    {
+        x.searched_root()
     }
 
     fn text<A: Allocator + Copy>(x: F2t5, alloc: A) -> Result<String<A>, AllocError>

@@ -4,4 +4,4 @@ use Rattle.p3_field_bench.proofs.Totality.{every_text}
 use Rattle.p3_field_bench.proofs.laws.every_input_has_a_text.Goals as goal
 
 pub returns : goal.returns
-returns c = λ bytes. every_text 1 no_field (lines_of bytes)
+returns c = λ bytes. every_text 1 no_field (lines_of bytes) tt

@@ -1,0 +1,73 @@
+-- A square root of a value, read by its coefficients.
+use Rattle.std.proofs.Common.{◌≡◌, ◌≢◌, ◌<◌, ◌-◌, ◌*◌, ◌^◌, ◌∙◌, ℕ, List, sym, ap, ap₂, subst, arith, inl, inr, Option, Some, None, refl}
+use Rattle.std.specs.Prelude.{IfSome, IfNone, IsSome, if◌then◌else◌}
+use Rattle.std.proofs.Math.Nat.{pow-suc, pow-zero}
+use Rattle.std.proofs.lemmas.Bool.{lt-ltb}
+use Rattle.p3_theory.specs.Ring.{Ops}
+use Rattle.p3_theory.specs.Powers.{power}
+use Rattle.p3_theory.specs.Homomorphism.{map-power}
+use Rattle.p3_theory.specs.PowersOfTwo.{trailing_split}
+use Rattle.p3_theory.specs.SquareRoots.{IsSquareRoot, FiniteFieldPremise, CountedByGenerator}
+use Rattle.p3_ext.specs.Orders.{extension_size}
+use Rattle.p3_field_bench.specs.Effects.{IsRoot}
+use Rattle.p3_field_bench.specs.Fields.{FieldSpec, ops, value_count, generator_of}
+use Rattle.p3_field_bench.specs.Premise.{MeetsPremise}
+use Rattle.p3_field_bench.specs.Representation.{Represents, RootOrNone}
+
+-- what the counted search answers
+pub searched : {A : Type 0} (O : Ops A) (size : Option ℕ) (n : ℕ) → size ≡ Some n → 1 < n → n < 2 ^ 128 → (g x : A) (o : Option A)
+    → IfSome o (IsSquareRoot O x) → (turns : ℕ) × CountedByGenerator O size g x o turns → RootOrNone O n g x o
+searched O size n e more fits g x (Some r) root counted = root
+searched O size n e more fits g x None root counted =
+    let t = trailing_split (n - 1) (omega (arith, more)) (omega (arith, fits)) in
+    (
+      λ zero. absurd (cc (((counted.1 n _ _ e t.1 t.2).of_zero zero).0)),
+      λ s q premise. ((counted.1 n s q e premise.split premise.odd).complete premise refl).0,
+    )
+
+module _ {A : Type 0} (f : FieldSpec) (O : Ops A) (c : A → List ℕ) (R : Represents f O c) where
+  pub root_some : (n : ℕ) (g x : A) (o : Option A) → RootOrNone O n g x o → IfSome o (λ y. IsRoot f (c x) (c y))
+  root_some n g x None h = tt
+  root_some n g x (Some y) h = (R.valid y, sym (R.keeps.mul y y) ∙ ap c h)
+
+  -- the premise over coefficient lists is that over the values
+  premise_of : (g : A) → c g ≡ generator_of f → (p : MeetsPremise f) → FiniteFieldPremise O (value_count f) p.s p.q (power O g p.q)
+  premise_of g same p = record {
+    domain = λ x y z. elim (p.domain (c x) (c y) (R.valid x) (R.valid y) (sym (R.keeps.mul x y) ∙ ap c z ∙ R.keeps.zero)) [
+      | inl e ↦ inl (R.same x O.zero (e ∙ sym R.keeps.zero))
+      | inr e ↦ inr (R.same y O.zero (e ∙ sym R.keeps.zero))
+    ];
+    split = p.split;
+    odd = p.odd;
+    half = λ above.
+        R.same _ _
+        (map-power R.keeps (power O g p.q) (2 ^ (p.s - 1)) ∙ ap (λ v. power (ops f) v (2 ^ (p.s - 1))) (map-power R.keeps g p.q ∙ ap (λ v. power (ops f) v p.q) same)
+        ∙ p.half above ∙ ap (ops f).neg (sym R.keeps.one) ∙ sym (R.keeps.neg O.one));
+  }
+
+  pub root_nonzero : (n : ℕ) (g x : A) (o : Option A) → RootOrNone O n g x o → IfNone o (c x ≢ (ops f).zero)
+  root_nonzero n g x (Some y) h = tt
+  root_nonzero n g x None h = λ e. h.0 (R.same x O.zero (e ∙ sym R.keeps.zero))
+
+  pub root_none : (g x : A) → c g ≡ generator_of f → (o : Option A) → RootOrNone O (value_count f) g x o
+      → IfNone o (MeetsPremise f → (y : List ℕ) → IsRoot f (c x) y → ⊥)
+  root_none g x same (Some y) h = tt
+  root_none g x same None h = λ p l i.
+      let y = R.every l i.0 in
+      h.1 p.s p.q (premise_of g same p) y.0 (R.same _ _ (R.keeps.mul y.0 y.0 ∙ ap₂ (ops f).mul y.1 y.1 ∙ i.1))
+
+first_power : (n : ℕ) → n ^ 1 ≡ n
+first_power n = pow-suc n 0 ∙ ap (λ k. k * n) (pow-zero n) ∙ omega arith
+
+-- what the search over residues answers
+pub residues_searched : {A : Type 0} (O : Ops A) (n : ℕ) → 1 < n → n < 2 ^ 128 → (g x : A) (o : Option A)
+    → IfSome o (IsSquareRoot O x) → (turns : ℕ) × CountedByGenerator O (Some n) g x o turns → RootOrNone O (n ^ 1) g x o
+residues_searched O n above fits g x o root counted =
+    subst (λ (m : ℕ). RootOrNone O m g x o) (sym (first_power n)) (searched O (Some n) n refl above fits g x o root counted)
+
+-- the order of an extension is given where it is below 2^128
+pub extension_order : (n D : ℕ) → n ^ D < 2 ^ 128 → extension_size (Some n) D ≡ Some (n ^ D)
+extension_order n D fits = ap (λ b. if b then Some (n ^ D) else None) (lt-ltb (n ^ D) (2 ^ 128) fits)
+
+pub extension_order_given : (n D : ℕ) → n ^ D < 2 ^ 128 → IsSome (extension_size (Some n) D)
+extension_order_given n D fits = subst (λ (o : Option ℕ). IsSome o) (sym (extension_order n D fits)) refl

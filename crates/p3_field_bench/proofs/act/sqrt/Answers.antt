@@ -1,0 +1,19 @@
+use Rattle.std.proofs.Common.{ℕ, List, Ok, ◌≢◌, inr, refl, subst, sym}
+use Rattle.p3_field_bench.specs.declared.faults.Fault.TheVariants.{NoRoot}
+use Rattle.p3_field_bench.specs.Bank.{state_at}
+use Rattle.p3_field_bench.specs.Effects.{At, Faults, TakesRoot, IsRoot, register_at}
+use Rattle.p3_field_bench.specs.Fields.{ops}
+use Rattle.p3_field_bench.specs.Premise.{MeetsPremise}
+use Rattle.p3_field_bench.proofs.act.sqrt.Goals as goal
+
+pub returns-in_default : goal.returns-in_default
+returns-in_default g c =
+    let F = g.F.CalculatorField in
+    let old = state_at F.spec F.coefficients c.args.regs.now in
+    let spec = F.spec in
+    subst (λ read. At read (λ p o. TakesRoot spec old.registers p.0 (register_at old.registers p.1) o) (Faults NoRoot)) c.in_ok-r.ensures.value
+    (inr (
+      subst (λ (x : List ℕ). x ≢ (ops spec).zero) c.get.ensures c.in_default.ensures.nonzero,
+      subst (λ (x : List ℕ). MeetsPremise spec → (y : List ℕ) → IsRoot spec x y → ⊥) c.get.ensures c.in_default.ensures.none,
+      refl,
+    ))
