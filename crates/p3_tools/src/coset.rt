@@ -127,8 +127,8 @@ impl<F: TwoAdicField> TwoAdicMultiplicativeCoset<F> {
         })
     }
 
-    /// The coset of the items to the power `2^log_scale_factor`, whose shift is the shift to that
-    /// power, and `None` where the factor is past the log size.
+    /// The coset whose shift is the shift to the power `2^log_scale_factor`, and whose log size is
+    /// less by the factor's, and `None` where that is past the log size.
     #[inline]
     #[must_use]
     pub fn exp_power_of_2(&self, log_scale_factor: usize) -> Option<Self>
@@ -136,15 +136,13 @@ impl<F: TwoAdicField> TwoAdicMultiplicativeCoset<F> {
         ensures shift { IfSome result (λ c. c.shift ≡ power F.ops self.now.shift (2 ^ log_scale_factor)) }
         ensures log_size { IfSome result (λ c. c.log_size ≡ self.now.log_size - log_scale_factor) }
     {
-        if log_scale_factor > self.log_size {
-            return None;
-        }
+        let shrunk = self.shrink_coset(log_scale_factor)?;
         let shift = self.shift.exp_power_of_2(log_scale_factor);
         let shift_inverse = self.shift_inverse.exp_power_of_2(log_scale_factor);
         Some(Self {
             shift,
             shift_inverse,
-            log_size: self.log_size - log_scale_factor,
+            log_size: shrunk.log_size,
         })
     }
 

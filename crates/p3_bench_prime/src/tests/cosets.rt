@@ -10,6 +10,7 @@ use crate::goldilocks::Goldilocks;
 use crate::small::{F17, F31, Z15};
 use p3_field::coset::TwoAdicMultiplicativeCoset;
 use p3_field::{PrimeCharacteristicRing, PrimeField64, TwoAdicField};
+use std::alloc::Global;
 use std::process::Abort;
 use std::test::Fail;
 
@@ -65,7 +66,8 @@ fn elements(rt: HostRuntime) {
 
 /// Asserts the items of each row's coset, in order.
 fn assert_cosets<F: TwoAdicField + PrimeField64>(
-    rt: &HostRuntime,
+    rt: &impl Abort,
+    alloc: Global,
     rows: &[(u64, usize, &[u64])],
 ) -> Result<(), Fail> {
     for row in rows {
@@ -73,10 +75,7 @@ fn assert_cosets<F: TwoAdicField + PrimeField64>(
         let coset: TwoAdicMultiplicativeCoset<F> = coset_of(rt, shift, log_size);
         assert!(rt; coset.log_size() < 64);
         assert_eq!(rt; coset.iter().len(), expected.len(), "{shift}");
-        let items: Vec<u64> = coset
-            .iter()
-            .map(|x| x.as_canonical_u64())
-            .collect(rt.alloc())?;
+        let items: Vec<u64> = coset.iter().map(|x| x.as_canonical_u64()).collect(alloc)?;
         assert_eq!(rt; items.as_slice(), expected, "{shift}");
     }
     Ok(())
@@ -84,10 +83,10 @@ fn assert_cosets<F: TwoAdicField + PrimeField64>(
 
 #[test]
 fn items(rt: HostRuntime) -> Result<(), Fail> {
-    assert_cosets::<F17>(&rt, &F17_COSETS)?;
-    assert_cosets::<Z15>(&rt, &Z15_COSETS)?;
-    assert_cosets::<BabyBear>(&rt, &BABY_BEAR_COSETS)?;
-    assert_cosets::<Goldilocks>(&rt, &GOLDILOCKS_COSETS)
+    assert_cosets::<F17>(&rt, rt.alloc(), &F17_COSETS)?;
+    assert_cosets::<Z15>(&rt, rt.alloc(), &Z15_COSETS)?;
+    assert_cosets::<BabyBear>(&rt, rt.alloc(), &BABY_BEAR_COSETS)?;
+    assert_cosets::<Goldilocks>(&rt, rt.alloc(), &GOLDILOCKS_COSETS)
 }
 
 #[test]
@@ -101,7 +100,6 @@ fn a_coset_of_order_17(rt: HostRuntime) {
     assert_eq!(rt; coset.element(5), F17::new(5));
     assert!(rt; !coset.contains(F17::new(6)));
     assert!(rt; coset.contains(F17::new(14)));
-    let copy = coset.clone();
     let sum: F17 = coset.into_iter().sum();
     assert_eq!(rt; sum, F17::zero());
     let product: F17 = (&coset).into_iter().product();
