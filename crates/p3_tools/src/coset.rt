@@ -180,9 +180,12 @@ impl<F: TwoAdicField> TwoAdicMultiplicativeCoset<F> {
     #[inline]
     #[must_use]
     pub fn contains(&self, element: F) -> bool
-        ensures value { IsTrue result ↔ (power F.ops element (2 ^ self.now.log_size) ≡ power F.ops self.now.shift (2 ^ self.now.log_size)) }
-        ensures members { Contains (coset F.ops F.two_adic self.now.shift self.now.log_size) element → IsTrue result }
-        ensures no_others { HasNoZeroDivisors F.ops → IsTrue result → Contains (coset F.ops F.two_adic self.now.shift self.now.log_size) element }
+        ensures value { let size = 2 ^ self.now.log_size in
+            IsTrue result ↔ (power F.ops element size ≡ power F.ops self.now.shift size) }
+        ensures members { let items = coset F.ops F.two_adic self.now.shift self.now.log_size in
+            Contains items element → IsTrue result }
+        ensures no_others { let items = coset F.ops F.two_adic self.now.shift self.now.log_size in
+            HasNoZeroDivisors F.ops → IsTrue result → Contains items element }
     {
         let mut shift = self.shift;
         let mut element = element;
@@ -201,13 +204,14 @@ impl<F: TwoAdicField> TwoAdicMultiplicativeCoset<F> {
     #[must_use]
     pub fn element(&self, index: usize) -> F
         requires { self.now.log_size < 64 }
-        ensures { result ≡ get_or (coset F.ops F.two_adic self.now.shift self.now.log_size) (index % 2 ^ self.now.log_size) F.ops.zero }
+        ensures { let items = coset F.ops F.two_adic self.now.shift self.now.log_size in
+            result ≡ get_or items (index % 2 ^ self.now.log_size) F.ops.zero }
     {
         self.shift * self.generator_exp(index)
     }
 
-    /// The generator to the power `exp` modulo the size, by the binary digits of that: each is a
-    /// factor, the generator of a smaller subgroup.
+    /// The generator to the power `exp` modulo the size. Its binary digits are gone through from the
+    /// lowest: each that is one makes the generator of a smaller subgroup a factor.
     #[inline]
     fn generator_exp(&self, exp: usize) -> F
         requires { self.now.log_size < 64 }
@@ -239,7 +243,8 @@ impl<F: TwoAdicField> TwoAdicMultiplicativeCoset<F> {
     /// they end early.
     #[inline]
     fn items(&self) -> BoundedPowers<F>
-        ensures { self.now.log_size < 64 → terms F.ops result ≡ coset F.ops F.two_adic self.now.shift self.now.log_size }
+        ensures { self.now.log_size < 64
+            → terms F.ops result ≡ coset F.ops F.two_adic self.now.shift self.now.log_size }
     {
         let count = if self.log_size < 64 {
             self.size()
@@ -261,7 +266,8 @@ impl<F: TwoAdicField> IntoIterator for TwoAdicMultiplicativeCoset<F> {
 
     type IntoIter = BoundedPowers<F>;
 
-    ghost into_iter_gives = { λ c r. c.log_size < 64 → terms F.ops r ≡ coset F.ops F.two_adic c.shift c.log_size };
+    ghost into_iter_gives = { λ c r. c.log_size < 64
+        → terms F.ops r ≡ coset F.ops F.two_adic c.shift c.log_size };
 
     /// The items in order, where the log size is below 64.
     #[inline]
@@ -279,7 +285,8 @@ impl<F: TwoAdicField> IntoIterator for &TwoAdicMultiplicativeCoset<F> {
 
     type IntoIter = BoundedPowers<F>;
 
-    ghost into_iter_gives = { λ c r. c.now.log_size < 64 → terms F.ops r ≡ coset F.ops F.two_adic c.now.shift c.now.log_size };
+    ghost into_iter_gives = { λ c r. c.now.log_size < 64
+        → terms F.ops r ≡ coset F.ops F.two_adic c.now.shift c.now.log_size };
 
     /// The items in order, where the log size is below 64.
     #[inline]
