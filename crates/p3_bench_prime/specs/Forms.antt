@@ -29,3 +29,7 @@ plain order a f = record {
 -- a remainder is below the order
 pub remainder_below : (order n : ℕ) → 1 < order → n % order < order
 remainder_below order n a = mod-lt n (omega arith)
+
+-- an order that fits a word of 32 bits fits one of 64
+pub order_below : (order : ℕ) → order < 2 ^ 31 → order < 2 ^ 64
+order_below order f = omega (arith, f)

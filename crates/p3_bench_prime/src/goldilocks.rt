@@ -1,9 +1,10 @@
 ghost use Rattle.std.specs.Prelude.{◌≡◌, ◌≢◌, ◌<◌, ◌+◌, ◌-◌, ◌*◌, ◌%◌, ◌==◌, Some, MatchOption, ⊤};
 ghost use Rattle.std.specs.Ordering.{nat_cmp};
 ghost use Rattle.std.specs.Fmt.{decimal};
-ghost use Rattle.p3_bench_prime.specs.declared.goldilocks.TheConstants.{P};
+ghost use Rattle.p3_bench_prime.specs.declared.goldilocks.TheConstants.{P, TOP_GENERATOR};
 
 use crate::inverse::inverse_modulo;
+use crate::two_adic::TwoAdicPowers;
 use p3_base::accumulate::{product_from, sum_from};
 use p3_field::integers::integer::Integer;
 use p3_field::integers::{Quotient, QuotientMap};
@@ -21,6 +22,9 @@ use std::ops::{Add, AddAssign, Div, DivAssign, Mul, MulAssign, Neg, Sub, SubAssi
 
 /// The order, 2^64 - 2^32 + 1.
 const P: u64 = 18446744069414584321;
+
+/// The two-adic generator for 32 bits.
+const TOP_GENERATOR: u64 = 1753635133440165772;
 
 /// The remainder modulo the order. The 128 bits are low + 2^64 * middle + 2^96 * top; modulo the
 /// order 2^64 is 2^32 - 1 and 2^96 is minus one.
@@ -570,14 +574,13 @@ impl PrimeField64 for Goldilocks {
     ghost same_unique_u64 = { same_canon is };
 }
 
-/// The two-adic generators: the power `2^32 - 1` of the generator, and its repeated squares.
 impl TwoAdicField for Goldilocks {
     ghost use Rattle.std.specs.Prelude.{refl};
     ghost use Rattle.p3_theory.specs.TwoAdic.{repeated_squares};
-    ghost use Rattle.p3_theory.specs.ResidueGenerators.{top_generator, residue_generators, divides_residue_order};
+    ghost use Rattle.p3_theory.specs.ResidueGenerators.{residue_generators, divides_residue_order};
     ghost use Rattle.p3_bench_prime.specs.GoldilocksElements.{of, ops, is};
 
-    ghost two_adic = { repeated_squares ops 32 (of (top_generator P 32 7)) };
+    ghost two_adic = { repeated_squares ops 32 (of TOP_GENERATOR) };
 
     const TWO_ADICITY: usize = 32;
 
@@ -585,10 +588,19 @@ impl TwoAdicField for Goldilocks {
 
     #[inline]
     fn two_adic_generator(bits: usize) -> Self {
-        Self::new(1753635133440165772).exp_power_of_2(32 - bits)
+        Self::new(TOP_GENERATOR).exp_power_of_2(32 - bits)
     }
 
-    ghost generators = { residue_generators is 32 (top_generator P 32 7) refl };
+    ghost generators = { residue_generators is 32 TOP_GENERATOR refl };
 
-    ghost divides_order = { divides_residue_order P 32 (top_generator P 32 7) refl };
+    ghost divides_order = { divides_residue_order P 32 TOP_GENERATOR refl };
+}
+
+impl TwoAdicPowers for Goldilocks {
+    ghost use Rattle.std.specs.Prelude.{refl};
+    ghost use Rattle.std.proofs.Common.{lit<};
+    ghost use Rattle.p3_theory.specs.ResidueGenerators.{generator_powers};
+    ghost use Rattle.p3_bench_prime.specs.GoldilocksElements.{is};
+
+    ghost powers = { generator_powers is 32 7 TOP_GENERATOR refl (lit< tt) refl };
 }

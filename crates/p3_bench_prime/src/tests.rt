@@ -1,4 +1,6 @@
 mod complex_values;
+mod coset_tables;
+mod cosets;
 mod extension_constants;
 mod extension_rows;
 mod extension_tables;

@@ -1,6 +1,6 @@
 //! Two-adic generators of the prime fields: from the top generator as a number to all laws.
 ghost use Rattle.std.specs.Prelude.{◌≡◌, ℕ, true, refl};
-ghost use Rattle.p3_theory.specs.ResidueGenerators.{is_two_adic_generator, top_generator};
+ghost use Rattle.p3_theory.specs.ResidueGenerators.{is_two_adic_generator, top_generator, ArePowersOf};
 
 use crate::baby_bear::BabyBearModulus;
 use crate::form::{Form, Plain};
@@ -27,6 +27,18 @@ pub trait TwoAdicConstants: Form {
     ghost generates: { is_two_adic_generator Self.ORDER TWO_ADICITY TOP_GENERATOR ≡ true };
 }
 
+/// Constants whose top generator is a power of the field's `generator`.
+pub trait TopPowerConstants: TwoAdicConstants {
+    /// It is the power `(order - 1) / 2^TWO_ADICITY`.
+    ghost top_power: { Self.TOP_GENERATOR ≡ top_generator Self.ORDER Self.TWO_ADICITY Self.GENERATOR };
+}
+
+/// A two-adic field whose two-adic generators are powers of its `generator`. This project's own.
+pub trait TwoAdicPowers: TwoAdicField {
+    /// For n values the generator for so many bits is the power `(n - 1) / 2^bits`.
+    ghost powers: { ArePowersOf Self.ops Self.generator Self.size Self.TWO_ADICITY Self.two_adic };
+}
+
 impl<W: TwoAdicConstants> TwoAdicField for Fp<W> {
     ghost use Rattle.p3_theory.specs.TwoAdic.{repeated_squares};
     ghost use Rattle.p3_theory.specs.ResidueGenerators.{residue_generators, divides_residue_order};
@@ -48,10 +60,18 @@ impl<W: TwoAdicConstants> TwoAdicField for Fp<W> {
     ghost divides_order = { divides_residue_order W.ORDER W.TWO_ADICITY W.TOP_GENERATOR W.generates };
 }
 
+impl<W: TopPowerConstants> TwoAdicPowers for Fp<W> {
+    ghost use Rattle.p3_theory.specs.ResidueGenerators.{generator_powers};
+    ghost use Rattle.p3_bench_prime.specs.Elements.{is};
+    ghost use Rattle.p3_bench_prime.specs.Forms.{order_below};
+
+    ghost powers = { generator_powers (is W.Form) W.TWO_ADICITY W.GENERATOR W.TOP_GENERATOR W.generates (order_below W.ORDER W.is_form.fits) W.top_power };
+}
+
 impl TwoAdicConstants for Plain<M2> {
     ghost TWO_ADICITY = { 0 };
 
-    ghost TOP_GENERATOR = { top_generator 2 0 1 };
+    ghost TOP_GENERATOR = { 1 };
 
     const TWO_ADICITY: usize = 0;
 
@@ -60,22 +80,30 @@ impl TwoAdicConstants for Plain<M2> {
     ghost generates = { refl };
 }
 
+impl TopPowerConstants for Plain<M2> {
+    ghost top_power = { refl };
+}
+
 impl TwoAdicConstants for Plain<M17> {
     ghost TWO_ADICITY = { 4 };
 
-    ghost TOP_GENERATOR = { top_generator 17 4 3 };
+    ghost TOP_GENERATOR = { 3 };
 
     const TWO_ADICITY: usize = 4;
 
     const TOP_GENERATOR: u32 = 3;
 
     ghost generates = { refl };
+}
+
+impl TopPowerConstants for Plain<M17> {
+    ghost top_power = { refl };
 }
 
 impl TwoAdicConstants for Plain<M17b> {
     ghost TWO_ADICITY = { 4 };
 
-    ghost TOP_GENERATOR = { top_generator 17 4 3 };
+    ghost TOP_GENERATOR = { 3 };
 
     const TWO_ADICITY: usize = 4;
 
@@ -84,16 +112,24 @@ impl TwoAdicConstants for Plain<M17b> {
     ghost generates = { refl };
 }
 
+impl TopPowerConstants for Plain<M17b> {
+    ghost top_power = { refl };
+}
+
 impl TwoAdicConstants for Plain<M31> {
     ghost TWO_ADICITY = { 1 };
 
-    ghost TOP_GENERATOR = { top_generator 31 1 3 };
+    ghost TOP_GENERATOR = { 30 };
 
     const TWO_ADICITY: usize = 1;
 
     const TOP_GENERATOR: u32 = 30;
 
     ghost generates = { refl };
+}
+
+impl TopPowerConstants for Plain<M31> {
+    ghost top_power = { refl };
 }
 
 /// The top generator is minus one: the residues modulo 15 are no field, and the power 7 of their
@@ -113,7 +149,7 @@ impl TwoAdicConstants for Plain<M15> {
 impl TwoAdicConstants for Plain<BabyBearModulus> {
     ghost TWO_ADICITY = { 27 };
 
-    ghost TOP_GENERATOR = { top_generator 2013265921 27 31 };
+    ghost TOP_GENERATOR = { 440564289 };
 
     const TWO_ADICITY: usize = 27;
 
@@ -122,14 +158,22 @@ impl TwoAdicConstants for Plain<BabyBearModulus> {
     ghost generates = { refl };
 }
 
+impl TopPowerConstants for Plain<BabyBearModulus> {
+    ghost top_power = { refl };
+}
+
 impl TwoAdicConstants for Plain<KoalaBearModulus> {
     ghost TWO_ADICITY = { 24 };
 
-    ghost TOP_GENERATOR = { top_generator 2130706433 24 3 };
+    ghost TOP_GENERATOR = { 1791270792 };
 
     const TWO_ADICITY: usize = 24;
 
     const TOP_GENERATOR: u32 = 1791270792;
 
     ghost generates = { refl };
+}
+
+impl TopPowerConstants for Plain<KoalaBearModulus> {
+    ghost top_power = { refl };
 }

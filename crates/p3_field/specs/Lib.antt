@@ -10,6 +10,9 @@ pub use Rattle.p3_theory.specs.Text
 pub use Rattle.p3_theory.specs.TwoAdic
 pub use Rattle.p3_theory.specs.ValueLists
 pub use Rattle.p3_theory.specs.ZeroDivisors
+pub use Rattle.p3_theory.specs.GeometricSequence
+pub use Rattle.p3_theory.specs.TwoAdic
+pub use Rattle.p3_theory.specs.Cosets
 pub use Rattle.p3_ext.specs.Values
 pub use Rattle.p3_ext.specs.Conjugates
 pub use Rattle.p3_runs.specs.Runs

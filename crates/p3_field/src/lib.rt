@@ -33,6 +33,7 @@ pub use p3_base::sums::sum_array;
 pub use p3_ext::extension as extension;
 pub use p3_ext::subfield::HasSubfield;
 pub use p3_runs::steps as steps;
+pub use p3_tools::coset as coset;
 pub use p3_tools::exponentiation as exponentiation;
 pub use p3_tools::helpers::{
     HornerIter, add_scaled_slice_in_place, cyclic_subgroup_coset_known_order,

@@ -1,13 +1,13 @@
 -- Cosets of the subgroups of roots of unity whose orders are powers of two.
-use Rattle.std.specs.Prelude.{◌≡◌, ◌<◌, ◌≤◌, ◌+◌, ◌^◌, ◌⊎◌, ℕ, zero, suc, List, Contains, get_or}
-use Rattle.std.proofs.Common.{ap, arith, ◌∙◌, sym, inl, inr, [], ◌∷◌, lit<}
+use Rattle.std.specs.Prelude.{◌≡◌, ◌≢◌, ◌<◌, ◌≤◌, ◌+◌, ◌-◌, ◌/◌, ◌%◌, ◌^◌, ◌⊎◌, ℕ, zero, suc, List, Contains, get_or}
+use Rattle.std.proofs.Common.{ap, arith, ◌∙◌, sym, inl, inr, [], ◌∷◌, lit<, pow-add}
 use Rattle.std.proofs.Math.Nat.{pow-suc, mul_comm}
 use Rattle.p3_theory.specs.Ring.{Ops, RingLaws, Ring, ring_of}
 use Rattle.p3_theory.specs.Sequences.{cancel}
 use Rattle.p3_theory.specs.Coefficients.{length-tabulate}
 use Rattle.p3_theory.specs.Places.{get-tabulate}
 use Rattle.p3_theory.specs.Powers.{power}
-use Rattle.p3_theory.specs.PowerLaws.{power-add, power-one, power-square}
+use Rattle.p3_theory.specs.PowerLaws.{power-add, power-one, power-square, power-odd, power-even}
 use Rattle.p3_theory.specs.PowerChains.{power-power}
 use Rattle.p3_theory.specs.PowerProducts.{power-mul, power_of_one, power-inverse}
 use Rattle.p3_theory.specs.GeometricSequence.{geometric_term, geometric_sequence}
@@ -22,11 +22,43 @@ coset O g shift k = geometric_sequence O (g k) shift (2 ^ k)
 twice_power : (k : ℕ) → 2 ^ k + 2 ^ k ≡ 2 ^ suc k
 twice_power k = omega (arith, pow-suc 2 k)
 
+-- half of a number that has i binary digits has one fewer
+pub halved_digits : (i n : ℕ) → 0 < n → n < 2 ^ i → (0 < i) × (n / 2 < 2 ^ (i - 1))
+halved_digits zero n h b = absurd (omega (arith, h, b))
+halved_digits (suc i) n h b =
+    let e : suc i - 1 ≡ i = omega arith in
+    (omega arith, rw e (omega (arith, b, pow-suc 2 i)))
+
 -- the item at a place
 pub coset_item : {A : Type 0} (O : Ops A) (g : ℕ → A) (shift : A) (k j : ℕ) (d : A) → j < 2 ^ k → get_or (coset O g shift k) j d ≡ O.mul shift (power O (g k) j)
 coset_item O g shift k j d h = get-tabulate (2 ^ k) (geometric_term O (g k) shift) j d h
 
+-- what agrees after i squarings agrees after more
+pub agree_later : {A : Type 0} {O : Ops A} → RingLaws O → (x y : A) (i k : ℕ) → i ≤ k → power O x (2 ^ i) ≡ power O y (2 ^ i) → power O x (2 ^ k) ≡ power O y (2 ^ k)
+agree_later {A} {O} l x y i k h e = onward x ∙ ap (λ z. power O z (2 ^ (k - i))) e ∙ sym (onward y)
+  where
+    onward : (z : A) → power O z (2 ^ k) ≡ power O (power O z (2 ^ i)) (2 ^ (k - i))
+    onward z =
+        let parts : i + (k - i) ≡ k = omega (arith, h) in
+        ap (λ j. power O z (2 ^ j)) (sym parts) ∙ ap (power O z) (pow-add 2 i (k - i)) ∙ sym (power-power l z (2 ^ i) (2 ^ (k - i)))
+
 module _ {A : Type 0} {O : Ops A} (l : RingLaws O) {s : ℕ} {g : ℕ → A} (t : AreTwoAdicGenerators O s g) where
+  -- the square of a generator is the one before it
+  pub generator_before : (i : ℕ) → 0 < i → i ≤ s → O.mul (g i) (g i) ≡ g (i - 1)
+  generator_before zero h b = absurd (omega (arith, h))
+  generator_before (suc i) h b = t.squares i (omega (arith, b)) ∙ (let e : i ≡ suc i - 1 = omega arith in ap g e)
+
+  -- a binary digit of an exponent, the lowest first, and the generators in turn: the product so far
+  -- times the power that is left stays
+  pub digit_is_one : (p : A) (i n : ℕ) → 0 < i → i ≤ s → n % 2 ≡ 1 → O.mul (O.mul p (g i)) (power O (g (i - 1)) (n / 2)) ≡ O.mul p (power O (g i) n)
+  digit_is_one p i n h b odd =
+      ap (λ z. O.mul (O.mul p (g i)) (power O z (n / 2))) (sym (generator_before i h b))
+      ∙ l.mul_assoc _ _ _ ∙ ap (O.mul p) (power-odd l (g i) n odd)
+
+  pub digit_is_zero : (p : A) (i n : ℕ) → 0 < i → i ≤ s → n % 2 ≢ 1 → O.mul p (power O (g (i - 1)) (n / 2)) ≡ O.mul p (power O (g i) n)
+  digit_is_zero p i n h b even =
+      ap (λ z. O.mul p (power O z (n / 2))) (sym (generator_before i h b)) ∙ ap (O.mul p) (power-even l (g i) n even)
+
   -- the generator for k bits to the power 2^k is one
   pub order_of_generator : (k : ℕ) → k ≤ s → power O (g k) (2 ^ k) ≡ O.one
   order_of_generator zero h = power-one l (g 0) ∙ t.trivial

@@ -1,13 +1,15 @@
 -- Two-adic generators among the residues, told by computation on numbers.
-use Rattle.std.specs.Prelude.{◌≡◌, ◌<◌, ◌+◌, ◌-◌, ◌*◌, ◌/◌, ◌%◌, ◌^◌, ◌==◌, ◌&&◌, Bool, true, ℕ, zero, suc, Some}
-use Rattle.std.proofs.Common.{ap, arith, ◌∙◌, sym, []}
-use Rattle.std.proofs.Math.Nat.{mod-add-div, pow-suc}
+use Rattle.std.specs.Prelude.{◌≡◌, ◌<◌, ◌≤◌, ◌+◌, ◌-◌, ◌*◌, ◌/◌, ◌%◌, ◌^◌, ◌==◌, ◌&&◌, Bool, true, ℕ, zero, suc, Option, Some}
+use Rattle.std.proofs.Common.{ap, arith, ◌∙◌, sym, [], pow-add}
+use Rattle.std.proofs.Math.Nat.{mod-add-div, pow-suc, div-le_self, mul-div_cancel_left, mul_comm, mul_assoc}
+use Rattle.std.proofs.lemmas.Nat.{pow_pos}
 use Rattle.std.proofs.lemmas.Bool.{eqb-true}
 use Rattle.p3_theory.specs.Ring.{Ops, RingLaws, Hom}
 use Rattle.p3_theory.specs.Frobenius.{iterate}
 use Rattle.p3_theory.specs.Powers.{power}
 use Rattle.p3_theory.specs.BinaryPowers.{binary_power, binary_power-is, map-binary_power}
 use Rattle.p3_theory.specs.PowerLaws.{power-square, power-one}
+use Rattle.p3_theory.specs.PowerChains.{power-power}
 use Rattle.p3_theory.specs.Reify.{by_laws, reads, yes}
 use Rattle.p3_theory.specs.SolverSound.{and_true}
 use Rattle.p3_theory.specs.Residues.{residues, IsResidues, residue_ops, of_keeps, residue_laws}
@@ -17,9 +19,13 @@ use Rattle.p3_theory.specs.TwoAdic.{AreTwoAdicGenerators, DividesOrder, repeated
 abbrev pub square : ℕ → ℕ → ℕ
 square n x = (residues n).mul x x
 
--- the power (n - 1) / 2^s of g modulo n, below 2^64
+-- where there are n values, each g k up to g s is the power (n - 1) / 2^k of x
+abbrev pub ArePowersOf : {A : Type 0} → Ops A → A → Option ℕ → ℕ → (ℕ → A) → Type 0
+ArePowersOf O x size s g = (n k : ℕ) → size ≡ Some n → k ≤ s → g k ≡ power O x ((n - 1) / 2 ^ k)
+
+-- the power (n - 1) / 2^s of x modulo n, for n below 2^64
 abbrev pub top_generator : ℕ → ℕ → ℕ → ℕ
-top_generator n s g = binary_power (residues n) 64 g ((n - 1) / 2 ^ s)
+top_generator n s x = binary_power (residues n) 64 x ((n - 1) / 2 ^ s)
 
 -- top, squared s - 1 times, is minus one modulo n, and 2^s divides n - 1; or s is 0 and top is one
 abbrev pub is_two_adic_generator : ℕ → ℕ → ℕ → Bool
@@ -58,10 +64,6 @@ module _ {A : Type 0} {n : ℕ} {canon : A → ℕ} {of : ℕ → A} (is : IsRes
   residue_generators s top t =
       repeated_squares_generate (residue_laws is) s (of top) (none s top t) (half s top t) (square_of_neg_one (residue_laws is))
 
-  -- the value of that power
-  pub top_generator-is : (s g : ℕ) → (n - 1) / 2 ^ s < 2 ^ 64 → of (top_generator n s g) ≡ power O (of g) ((n - 1) / 2 ^ s)
-  top_generator-is s g b = map-binary_power h 64 g ((n - 1) / 2 ^ s) ∙ binary_power-is (residue_laws is) 64 (of g) ((n - 1) / 2 ^ s) b
-
 -- and that 2^s divides the order less one
 pub divides_residue_order : (n s top : ℕ) → is_two_adic_generator n s top ≡ true → DividesOrder s (Some n)
 divides_residue_order n zero top t = (n - 1, omega arith)
@@ -73,3 +75,28 @@ divides_residue_order n (suc s) top t =
   where
     zero-add : (k : ℕ) → 0 + k ≡ k
     zero-add k = omega arith
+
+-- where top is that power of x, each of its repeated squares is the power named
+module _ {A : Type 0} {n : ℕ} {canon : A → ℕ} {of : ℕ → A} (is : IsResidues n canon of) where
+  top_power : (s x : ℕ) → n < 2 ^ 64 → of (top_generator n s x) ≡ power (residue_ops n canon of) (of x) ((n - 1) / 2 ^ s)
+  top_power s x b =
+      let e : ℕ = (n - 1) / 2 ^ s in
+      let below : e < 2 ^ 64 = omega (arith, div-le_self (n - 1) (2 ^ s), b) in
+      map-binary_power (of_keeps is) 64 x e ∙ binary_power-is (residue_laws is) 64 (of x) e below
+
+  pub generator_powers : (s x top : ℕ) → is_two_adic_generator n s top ≡ true → n < 2 ^ 64 → top ≡ top_generator n s x
+      → ArePowersOf (residue_ops n canon of) (of x) (Some n) s (repeated_squares (residue_ops n canon of) s (of top))
+  generator_powers s x top t b e m k same h =
+      let O : Ops A = residue_ops n canon of in
+      let order : n ≡ m = cc same in
+      let divides = divides_residue_order n s top t in
+      ap (λ y. power O (of y) (2 ^ (s - k))) e ∙ ap (λ y. power O y (2 ^ (s - k))) (top_power s x b)
+      ∙ power-power (residue_laws is) (of x) ((n - 1) / 2 ^ s) (2 ^ (s - k))
+      ∙ ap (power O (of x)) (exponent (n - 1) divides.0 s k divides.1 h) ∙ ap (λ j. power O (of x) ((j - 1) / 2 ^ k)) order
+    where
+      exponent : (a q s k : ℕ) → a ≡ 2 ^ s * q → k ≤ s → a / 2 ^ s * 2 ^ (s - k) ≡ a / 2 ^ k
+      exponent a q s k e h =
+          let parts : k + (s - k) ≡ s = omega (arith, h) in
+          let split : a ≡ 2 ^ k * (2 ^ (s - k) * q) = e ∙ ap (λ j. 2 ^ j * q) (sym parts) ∙ ap (λ j. j * q) (pow-add 2 k (s - k)) ∙ mul_assoc (2 ^ k) (2 ^ (s - k)) q in
+          ap (λ j. j / 2 ^ s * 2 ^ (s - k)) e ∙ ap (λ j. j * 2 ^ (s - k)) (mul-div_cancel_left q (pow_pos s)) ∙ mul_comm q (2 ^ (s - k))
+          ∙ sym (ap (λ j. j / 2 ^ k) split ∙ mul-div_cancel_left (2 ^ (s - k) * q) (pow_pos k))
