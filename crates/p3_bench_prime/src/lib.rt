@@ -4,6 +4,7 @@
 
 pub mod baby_bear;
 pub mod binomial_constants;
+pub mod complex_tower;
 pub mod extensions;
 pub mod form;
 pub mod fp;
@@ -15,3 +16,5 @@ pub mod small;
 #[cfg(test)]
 mod tests;
 pub mod trinomial_constants;
+pub mod two_adic_constants;
+mod two_adic_extensions;

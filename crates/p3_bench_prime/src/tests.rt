@@ -1,3 +1,4 @@
+mod complex_tower;
 mod complex_values;
 mod extension_constants;
 mod extension_rows;
@@ -8,6 +9,7 @@ mod ring_values;
 mod stream_values;
 mod tool_values;
 mod trinomial_tables;
+mod two_adic_extensions;
 mod vector_tables;
 mod vectors;
 

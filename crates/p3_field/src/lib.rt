@@ -10,7 +10,7 @@ pub use p3_base::columnwise::{
 pub use p3_base::const_power::exp_const_u64;
 pub use p3_base::dup::Dup;
 pub use p3_base::extension_field::ExtensionField;
-pub use p3_base::field::{Field, PrimeField, PrimeField32, PrimeField64};
+pub use p3_base::field::{Field, PrimeField, PrimeField32, PrimeField64, TwoAdicField};
 pub use p3_base::integers as integers;
 pub use p3_base::linear_combination::{
     chunked_linear_combination, chunked_mixed_dot_product, dispatch_chunked_mixed_dot_product,

@@ -84,3 +84,4 @@ pub mod ComplexExtensions
 pub mod Monomials
 pub mod Subfields
 pub mod TwoAdic
+pub mod TwoAdicCoefficients
