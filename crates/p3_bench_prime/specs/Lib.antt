@@ -4,3 +4,5 @@ pub mod ResidueMultiples
 pub mod Inverses
 pub mod Halves
 pub mod GoldilocksElements
+pub mod ComplexNumbers
+pub mod ComplexTower

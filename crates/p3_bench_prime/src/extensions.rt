@@ -1,6 +1,8 @@
 //! The extensions of the bench fields.
-ghost use Rattle.std.specs.Prelude.{[], ◌∷◌, codes, refl};
+ghost use Rattle.std.specs.Prelude.{◌≡◌, [], ◌∷◌, codes, refl};
 ghost use Rattle.std.proofs.Common.{lit≤, lit<};
+ghost use Rattle.p3_bench_prime.specs.ComplexNumbers.{complex_of};
+ghost use Rattle.p3_bench_prime.specs.Elements.{of};
 
 use crate::baby_bear::{BabyBear, BabyBearModulus};
 use crate::binomial_constants::BinomialConstants;
@@ -10,7 +12,7 @@ use crate::small::{F2, F17, F17b, F31, M2, M15, M17, M17b, M31, Z15};
 use crate::trinomial_constants::{CubicConstants, QuinticConstants};
 use p3_field::extension::{
     BinomialExtensionField, ByteCountFits, Complex, ComplexExtendable,
-    CubicTrinomialExtensionField, QuinticTrinomialExtensionField,
+    CubicTrinomialExtensionField, NestedByteCountFits, QuinticTrinomialExtensionField,
 };
 
 /// The extension of `F17` by `X^2 = 3`.
@@ -411,12 +413,27 @@ impl QuinticConstants for Plain<M2> {
 /// The extension of `F31` by `X^2 = -1`.
 pub type F31c = Complex<F31>;
 
+/// The value with the residues of these numbers at `X^0` and at `X^1`.
+pub(crate) fn complex(real: u32, imag: u32) -> F31c
+    ensures { result ≡ complex_of (of ⟦<Plain<M31> as Form>⟧) (real ∷ imag ∷ []) }
+{
+    let real_part = F31::new(real);
+    let imaginary_part = F31::new(imag);
+    F31c::new_complex(real_part, imaginary_part)
+}
+
 impl ComplexExtendable for F31 {
     ghost use Rattle.std.specs.Prelude.{get_or};
-    ghost use Rattle.p3_bench_prime.specs.Elements.{of, is};
+    ghost use Rattle.p3_bench_prime.specs.Elements.{is};
     ghost use Rattle.p3_bench_prime.specs.Halves.{two_has_inverse};
 
     ghost complex_generator = { λ i. of ⟦<Plain<M31> as Form>⟧ (get_or (3 ∷ 2 ∷ []) i 0) };
+
+    ghost circle_two_adic = { λ bits. complex_of (of ⟦<Plain<M31> as Form>⟧) (get_or ((1 ∷ 0 ∷ []) ∷ (30 ∷ 0 ∷ []) ∷ (0 ∷ 30 ∷ []) ∷ (4 ∷ 27 ∷ []) ∷ (7 ∷ 13 ∷ []) ∷ (2 ∷ 11 ∷ []) ∷ []) bits []) };
+
+    ghost CIRCLE_TWO_ADICITY = { 5 };
+
+    const CIRCLE_TWO_ADICITY: usize = 5;
 
     #[inline]
     fn complex_generator(i: usize) -> Self {
@@ -424,11 +441,21 @@ impl ComplexExtendable for F31 {
         Self::new(coefficient)
     }
 
+    #[inline]
+    fn circle_two_adic_generator(bits: usize) -> F31c {
+        let row = [[1, 0], [30, 0], [0, 30], [4, 27], [7, 13], [2, 11]][bits];
+        complex(row[0], row[1])
+    }
+
     ghost two_has_an_inverse = { two_has_inverse (is ⟦<Plain<M31> as Form>⟧) refl };
 }
 
 impl<W: Form> ByteCountFits<2> for Fp<W> {
     ghost fits = { lit< tt };
+}
+
+impl<W: Form> NestedByteCountFits<2, 2> for Fp<W> {
+    ghost nested_fits = { lit< tt };
 }
 
 impl<W: Form> ByteCountFits<3> for Fp<W> {

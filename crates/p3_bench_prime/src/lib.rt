@@ -4,6 +4,7 @@
 
 pub mod baby_bear;
 pub mod binomial_constants;
+pub mod complex_tower;
 pub mod extensions;
 pub mod form;
 pub mod fp;
@@ -16,3 +17,5 @@ pub mod small;
 mod tests;
 pub mod trinomial_constants;
 pub mod two_adic;
+pub mod two_adic_constants;
+mod two_adic_extensions;

@@ -1,3 +1,4 @@
+mod complex_tower;
 mod complex_values;
 mod coset_tables;
 mod cosets;
@@ -12,6 +13,7 @@ mod stream_values;
 mod tool_values;
 mod trinomial_tables;
 mod two_adic_values;
+mod two_adic_extensions;
 mod vector_tables;
 mod vectors;
 

@@ -12,3 +12,5 @@ pub mod ValueBytes
 pub mod ValueOrder
 pub mod ConjugateChains
 pub mod ComplexValues
+pub mod ExtensionGenerators
+pub mod ComplexTowers

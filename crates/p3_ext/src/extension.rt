@@ -25,6 +25,7 @@ mod order;
 mod power_table;
 pub mod quintic_extension;
 mod streams;
+mod two_adic;
 mod vectors;
 
 pub use binomial_extension::{binomial_mul, binomial_square, octic_mul, quartic_mul, quintic_mul};
@@ -37,7 +38,11 @@ use p3_base::field::Field;
 use p3_base::ring::{Algebra, PrimeCharacteristicRing};
 pub use quintic_extension::{quintic_square, trinomial_quintic_mul};
 use std::marker::PhantomData;
-pub use streams::ByteCountFits;
+pub use streams::{ByteCountFits, NestedByteCountFits};
+pub use two_adic::{
+    HasTwoAdicBinomialExtension, HasTwoAdicComplexBinomialExtension, HasTwoAdicCubicExtension,
+    HasTwoAdicQuinticExtension, TwoAdicExtendable,
+};
 use vectors::{add_entries, scale_entries, sub_entries};
 pub use vectors::{vector_add, vector_sub};
 

@@ -1,6 +1,6 @@
 -- Pairs of coefficients as complex values, and minus one as a root of unity of order two.
-use Rattle.std.proofs.Common.{◌≡◌, ◌≤◌, ◌<◌, ℕ, zero, suc, List, [], ◌∷◌, get_or, refl, ap, ◌∙◌, arith}
-use Rattle.p3_theory.specs.Ring.{Ops, Ring, Invertible, subtract}
+use Rattle.std.proofs.Common.{◌≡◌, ◌≤◌, ◌<◌, ℕ, zero, suc, List, [], ◌∷◌, get_or, refl, ap, ap₂, sym, ◌∙◌, arith}
+use Rattle.p3_theory.specs.Ring.{Ops, Ring, Hom, Invertible, subtract}
 use Rattle.p3_theory.specs.Polynomial.{at, quotient_mul, binomial}
 use Rattle.p3_theory.specs.Powers.{power}
 use Rattle.p3_theory.specs.Multiples.{two}
@@ -22,6 +22,12 @@ module _ {A : Type 0} (O : Ops A) where
   -- the sum of the squares of both parts
   abbrev pub complex_norm : List A → A
   complex_norm v = O.add (O.mul (real_part v) (real_part v)) (O.mul (imaginary_part v) (imaginary_part v))
+
+-- where two has an inverse, it has one wherever the operations are kept
+pub half-along : {A B : Type 0} {O : Ops A} {P : Ops B} {h : A → B} → Hom O P h → Invertible O (two O) → Invertible P (two P)
+half-along {O = O} {P = P} {h = h} H (y, e) =
+    let two_is : h (two O) ≡ two P = H.add O.one O.one ∙ ap₂ P.add H.one H.one in
+    (h y, ap (λ t. P.mul t (h y)) (sym two_is) ∙ sym (H.mul (two O) y) ∙ ap h e ∙ H.one)
 
 -- x over an algebra times r over its ring, where the square of X is minus one
 abbrev pub rotated : {A B : Type 0} → Ops A → Ops B → (A → B) → List A → List B → List B

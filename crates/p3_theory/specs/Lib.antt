@@ -91,3 +91,4 @@ pub mod CountedRoots
 pub mod BinaryPowers
 pub mod ResidueGenerators
 pub mod Cosets
+pub mod TwoAdicCoefficients

@@ -1,7 +1,7 @@
 -- Frobenius tables of residues: from numbers to the values of a type that stores them in any form.
-use Rattle.std.proofs.Common.{◌≡◌, ◌<◌, ℕ, suc, pred, List, [], ◌∷◌, map, get_or, sym, ap, subst, ◌∙◌}
+use Rattle.std.proofs.Common.{◌≡◌, ◌<◌, ℕ, zero, suc, pred, List, [], ◌∷◌, map, get_or, sym, ap, subst, ◌∙◌}
 use Rattle.p3_theory.specs.Ring.{Ops, Hom, ring_of}
-use Rattle.p3_theory.specs.Polynomial.{IsMonic, at, tabulate, quotient_ops}
+use Rattle.p3_theory.specs.Polynomial.{IsMonic, at, tabulate, quotient_ops, monomial, binomial}
 use Rattle.p3_theory.specs.Powers.{power}
 use Rattle.p3_theory.specs.Places.{get-tabulate}
 use Rattle.p3_theory.specs.Residues.{residues, IsResidues, residue_ops, residue_laws, of_keeps}
@@ -20,8 +20,15 @@ module _ {A : Type 0} (O : Ops A) (D : ℕ) (f phi : List A) where
   pub coeffs-entry : (i : ℕ) → i < pred D → get_or (coeffs_of O D f phi) i [] ≡ power (quotient_ops O D f) phi (suc i)
   coeffs-entry i h = get-tabulate (pred D) (λ i. power (quotient_ops O D f) phi (suc i)) i [] h
 
--- the trinomials along a map of rings
+-- the polynomials of the shapes along a map of rings
 module _ {A B : Type 0} {O : Ops A} {P : Ops B} {h : A → B} (H : Hom O P h) where
+  monomial-along : (d : ℕ) → map h (monomial O d) ≡ monomial P d
+  monomial-along zero i = H.one i ∷ []
+  monomial-along (suc d) i = H.zero i ∷ monomial-along d i
+
+  pub binomial-along : (D : ℕ) (w : A) → map h (binomial O D w) ≡ binomial P D (h w)
+  binomial-along D w i = H.neg w i ∷ monomial-along (pred D) i
+
   minus_one : h (O.neg O.one) ≡ P.neg P.one
   minus_one = H.neg O.one ∙ ap P.neg H.one
 

@@ -42,21 +42,21 @@ pub trait HasComplexBinomialExtension<const D: usize>: ComplexExtendable {
         requires { i < D }
         ensures { result ≡ ext_generator i };
 
-    /// The value times W.
-    #[inline]
-    fn mul_by_w(z: Complex<Self>) -> Complex<Self>
-        ensures { result ≡ (complex_ops Self.ops).mul w z }
-    {
-        let w = <Self as HasComplexBinomialExtension<D>>::w();
-        w * z
-    }
-
     /// The degree is two or more.
     ghost at_least_two: { 2 ≤ D };
 
     ghost root_power: { power (complex_ops Self.ops) dth_root D ≡ (complex_ops Self.ops).one };
 
     ghost apart: { ArePowersApart (complex_ops Self.ops) D dth_root };
+
+    /// The value times W.
+    #[inline]
+    final fn mul_by_w(z: Complex<Self>) -> Complex<Self>
+        ensures { result ≡ (complex_ops Self.ops).mul w z }
+    {
+        let w = <Self as HasComplexBinomialExtension<D>>::w();
+        w * z
+    }
 }
 
 impl<F: HasComplexBinomialExtension<D>, const D: usize> ExtensionProduct<

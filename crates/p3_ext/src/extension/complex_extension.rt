@@ -1,5 +1,5 @@
 //! Extensions by a root of minus one, and extensions over them.
-ghost use Rattle.std.specs.Prelude.{◌≡◌, ◌<◌, [], ◌∷◌, ℕ};
+ghost use Rattle.std.specs.Prelude.{◌≡◌, ◌≤◌, ◌<◌, [], ◌∷◌, ℕ};
 ghost use Rattle.p3_theory.specs.Ring.{Ops, Invertible};
 ghost use Rattle.p3_theory.specs.Multiples.{two};
 ghost use Rattle.p3_theory.specs.ComplexExtensions.{real_part, imaginary_part, conjugated, complex_norm, rotated};
@@ -16,14 +16,31 @@ pub type Complex<F> = BinomialExtensionField<F, 2>;
 
 /// A field with an extension by `X^2 = -1`. Upstream's `ComplexExtendable`.
 pub trait ComplexExtendable: Field {
+    ghost use Rattle.p3_ext.specs.declared.extension.ext_field.ExtField.{ExtField};
+    ghost use Rattle.p3_ext.specs.declared.extension.Binomial.{Binomial};
+
     /// The coefficients of the chosen element.
     ghost complex_generator: { ℕ → Self };
+
+    /// The elements that `circle_two_adic_generator` answers.
+    ghost circle_two_adic: { ℕ → ExtField Self 2 (Binomial Self) Self };
+
+    /// The greatest number of bits that `circle_two_adic_generator` takes.
+    const CIRCLE_TWO_ADICITY: usize;
+
+    ghost CIRCLE_TWO_ADICITY: { ℕ };
 
     /// The coefficient at `X^i` of a chosen element of the extension, whose order has the full power
     /// of two. Upstream's `COMPLEX_GENERATOR`.
     fn complex_generator(i: usize) -> Self
         requires { i < 2 }
         ensures { result ≡ complex_generator i };
+
+    /// A chosen element of the extension for so many bits, for a field one of order `2^bits` among the
+    /// elements of norm one. No law says that it is.
+    fn circle_two_adic_generator(bits: usize) -> Complex<Self>
+        requires { bits ≤ CIRCLE_TWO_ADICITY }
+        ensures { result ≡ circle_two_adic bits };
 
     /// Two has an inverse, so minus one is apart from one.
     ghost two_has_an_inverse: { Invertible Self.ops (two Self.ops) };

@@ -12,6 +12,18 @@ pub trait ByteCountFits<const D: usize>: RawDataSerializable {
     ghost fits: { Self.NUM_BYTES * D < 2 ^ 64 };
 }
 
+/// A base over whose extensions of degree D the bytes of E coefficients are counted by a `usize`:
+/// what an extension of degree E of such an extension asks for. This project's own.
+pub trait NestedByteCountFits<const D: usize, const E: usize>: ByteCountFits<D> {
+    /// E coefficients of D coefficients each make fewer than `2^64` bytes.
+    ghost nested_fits: { Self.NUM_BYTES * D * E < 2 ^ 64 };
+}
+
+impl<F: NestedByteCountFits<D, E> + Copy, const D: usize, const E: usize, S: Copy> ByteCountFits<E>
+    for ExtField<F, D, S, F> {
+    ghost fits = { F.nested_fits };
+}
+
 /// The bytes of the coefficients, one coefficient after the other, from the constant one upward.
 /// The streams over many values are the calls of the trait. Upstream's `RawDataSerializable` of its
 /// extension types.

@@ -1,0 +1,14 @@
+use Rattle.std.proofs.Common.{◌≡◌, ◌∙◌, arith, subst}
+use Rattle.p3_theory.specs.TabulatedPlaces.{HoldsBelow, holds-all}
+use Rattle.p3_ext.specs.Values.{same_value}
+use Rattle.p3_ext.specs.ExtensionGenerators.{generator_value}
+use Rattle.p3_ext.proofs.extension.two_adic.ExtFieldTwoAdicField.two_adic_generator.Goals as goal
+
+pub returns : goal.returns
+returns g c =
+    let coefficients = g.F.TwoAdicExtendable.two_adic_coefficients in
+    let s = coefficients c.args.bits in
+    let o = g.F.PrimeCharacteristicRing.ops in
+    let all : c.loop-i.i ≡ g.row.D = omega arith in
+    let held = subst (HoldsBelow s o.zero c.loop-i.value) all c.loop-i.invariant.1 in
+    same_value c.new.result (generator_value g.row.D coefficients c.args.bits) (c.new.ensures ∙ holds-all s o.zero c.loop-i.value g.row.D c.loop-i.invariant.0 held)
