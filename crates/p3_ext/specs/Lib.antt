@@ -12,3 +12,4 @@ pub mod ValueBytes
 pub mod ValueOrder
 pub mod ConjugateChains
 pub mod ComplexValues
+pub mod Domains

@@ -88,3 +88,5 @@ pub mod SquareRoots
 pub mod PowersOfTwo
 pub mod RootRounds
 pub mod CountedRoots
+pub mod FiniteFields
+pub mod QuadraticDomains
