@@ -5,6 +5,8 @@ mod extension_tables;
 mod extension_values;
 mod extensions;
 mod ring_values;
+mod square_root_tables;
+mod square_roots;
 mod stream_values;
 mod tool_values;
 mod trinomial_tables;
