@@ -18,7 +18,3 @@ module _ {A B : Type 0} {O : Ops A} {P : Ops B} {h : A → B} (keeps : Hom O P h
     odd = odd;
     half = λ pos. same _ _ (map-power keeps c (2 ^ (s - 1)) ∙ ap (λ v. power P v (2 ^ (s - 1))) is ∙ half pos ∙ sym (keeps.neg O.one ∙ ap P.neg keeps.one));
   }
-
-  -- k stands for the generator g
-  pub premise_by_generator : (g : A) (k : B) → h g ≡ k → (0 < s → power P (power P k q) (2 ^ (s - 1)) ≡ P.neg P.one) → FiniteFieldPremise O n s q (power O g q)
-  premise_by_generator g k is half = premise_by_image (power O g q) (power P k q) (map-power keeps g q ∙ ap (λ v. power P v q) is) half
