@@ -9,6 +9,8 @@ mod extension_values;
 mod extensions;
 mod ring_values;
 mod step_runs;
+mod square_root_tables;
+mod square_roots;
 mod stream_values;
 mod tool_values;
 mod trinomial_tables;

@@ -14,3 +14,4 @@ pub mod ConjugateChains
 pub mod ComplexValues
 pub mod ExtensionGenerators
 pub mod ComplexTowers
+pub mod Domains

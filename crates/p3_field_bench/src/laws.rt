@@ -1,13 +1,16 @@
 //! Laws of the definitions that the contracts cite.
 
-ghost use Rattle.std.specs.Prelude.{◌≡◌, ℕ, List, Option, false, IfSome};
+ghost use Rattle.std.specs.Prelude.{◌≡◌, ℕ, List, Option, Some, false, IfSome};
 ghost use Rattle.std.specs.Io.KnownBytes.{Consumes, IsAtEnd};
 ghost use Rattle.p3_field_bench.specs.Lines.{lines_of};
 ghost use Rattle.p3_field_bench.specs.Text.{RunEnds, IsText};
+ghost use Rattle.p3_theory.specs.Powers.{power};
+ghost use Rattle.p3_theory.specs.SquareRoots.{FiniteFieldPremise};
 ghost use Rattle.p3_theory.specs.ZeroDivisors.{HasNoZeroDivisors};
 
-use p3_bench_prime::small::{F17, F31};
-use p3_field::PrimeCharacteristicRing;
+use p3_bench_prime::extensions::{F17x2, F31c};
+use p3_bench_prime::small::{F2, F17, F31};
+use p3_field::{Field, PrimeCharacteristicRing};
 
 /// The texts of the calculator are defined for every input.
 pub fn every_input_has_a_text()
@@ -28,4 +31,39 @@ pub fn domain_f17()
 /// A product in the prime field of order 31 is zero only where a factor is.
 pub fn domain_f31()
     ensures { HasNoZeroDivisors ⟦<F31 as PrimeCharacteristicRing>⟧.ops }
+{}
+
+/// The finite-field premise of the prime field of order 2, at the generator to the power 1: the order less one is
+/// `2^0 * 1`.
+pub fn premise_f2()
+    ensures order { ⟦<F2 as Field>⟧.size ≡ Some 2 }
+    ensures premise { FiniteFieldPremise ⟦<F2 as PrimeCharacteristicRing>⟧.ops 2 0 1 (power ⟦<F2 as PrimeCharacteristicRing>⟧.ops ⟦<F2 as Field>⟧.generator 1) }
+{}
+
+/// The finite-field premise of the prime field of order 17, at the generator to the power 1: the order less one is
+/// `2^4 * 1`.
+pub fn premise_f17()
+    ensures order { ⟦<F17 as Field>⟧.size ≡ Some 17 }
+    ensures premise { FiniteFieldPremise ⟦<F17 as PrimeCharacteristicRing>⟧.ops 17 4 1 (power ⟦<F17 as PrimeCharacteristicRing>⟧.ops ⟦<F17 as Field>⟧.generator 1) }
+{}
+
+/// The finite-field premise of the prime field of order 31, at the generator to the power 15: the order less one is
+/// `2^1 * 15`.
+pub fn premise_f31()
+    ensures order { ⟦<F31 as Field>⟧.size ≡ Some 31 }
+    ensures premise { FiniteFieldPremise ⟦<F31 as PrimeCharacteristicRing>⟧.ops 31 1 15 (power ⟦<F31 as PrimeCharacteristicRing>⟧.ops ⟦<F31 as Field>⟧.generator 15) }
+{}
+
+/// The finite-field premise of the extension of `F17` by `X^2 = 3`, at the generator to the power 9: the order less one is
+/// `2^5 * 9`.
+pub fn premise_f17x2()
+    ensures order { ⟦<F17x2 as Field>⟧.size ≡ Some 289 }
+    ensures premise { FiniteFieldPremise ⟦<F17x2 as PrimeCharacteristicRing>⟧.ops 289 5 9 (power ⟦<F17x2 as PrimeCharacteristicRing>⟧.ops ⟦<F17x2 as Field>⟧.generator 9) }
+{}
+
+/// The finite-field premise of the complex values over `F31`, at the generator to the power 15: the order less one is
+/// `2^6 * 15`.
+pub fn premise_f31c()
+    ensures order { ⟦<F31c as Field>⟧.size ≡ Some 961 }
+    ensures premise { FiniteFieldPremise ⟦<F31c as PrimeCharacteristicRing>⟧.ops 961 6 15 (power ⟦<F31c as PrimeCharacteristicRing>⟧.ops ⟦<F31c as Field>⟧.generator 15) }
 {}

@@ -92,3 +92,5 @@ pub mod BinaryPowers
 pub mod ResidueGenerators
 pub mod Cosets
 pub mod TwoAdicCoefficients
+pub mod FiniteFields
+pub mod QuadraticDomains

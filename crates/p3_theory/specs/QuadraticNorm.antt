@@ -24,7 +24,7 @@ module _ {A : Type 0} (R : Ring A) (w : A) where
       by_ring R (w ∷ m ∷ a0 ∷ a1 ∷ []) (quotient_mul free 2 (binomial free 2 (V 0)) (V 2 ∷ V 3 ∷ []) (quadratic_rest free (V 1) (V 2) (V 3)))
       (free.mul (quadratic_norm free (V 0) (V 2) (V 3)) (V 1) ∷ free.zero ∷ []) refl
 
-  norms_of : (a0 a1 b0 b1 : A) → (let c : List A = quotient_mul R.ops 2 (binomial R.ops 2 w) (a0 ∷ a1 ∷ []) (b0 ∷ b1 ∷ []) in
+  pub norms_of : (a0 a1 b0 b1 : A) → (let c : List A = quotient_mul R.ops 2 (binomial R.ops 2 w) (a0 ∷ a1 ∷ []) (b0 ∷ b1 ∷ []) in
       R.mul (quadratic_norm R.ops w a0 a1) (quadratic_norm R.ops w b0 b1) ∷ [] ≡ quadratic_norm R.ops w (get_or c 0 R.zero) (get_or c 1 R.zero) ∷ [])
   norms_of a0 a1 b0 b1 =
       let c : List Expr = quotient_mul free 2 (binomial free 2 (V 4)) (V 0 ∷ V 1 ∷ []) (V 2 ∷ V 3 ∷ []) in

@@ -32,7 +32,7 @@ holds_below (suc n) p = p n && holds_below n p
 abbrev pub has_no_zero_divisors : ℕ → Bool
 has_no_zero_divisors n = holds_below n (λ x. holds_below n (λ y. not ((x * y) % n == 0) || (x == 0 || y == 0)))
 
-at_below : (n : ℕ) (p : ℕ → Bool) → holds_below n p ≡ true → (k : ℕ) → k < n → p k ≡ true
+pub at_below : (n : ℕ) (p : ℕ → Bool) → holds_below n p ≡ true → (k : ℕ) → k < n → p k ≡ true
 at_below zero p h k l = absurd (omega arith)
 at_below (suc n) p h k l =
     let w = and_true (p n) (holds_below n p) h in
