@@ -19,8 +19,7 @@ pub searched : {A : Type 0} (O : Ops A) (size : Option ℕ) (n : ℕ) → size �
     → IfSome o (IsSquareRoot O x) → (turns : ℕ) × CountedByGenerator O size g x o turns → RootOrNone O n g x o
 searched O size n e more fits g x (Some r) root counted = root
 searched O size n e more fits g x None root counted =
-    let t = trailing_split (n - 1) (omega (arith, more)) (omega (arith, fits)) in
-    (
+    let t = trailing_split (n - 1) (omega (arith, more)) (omega (arith, fits)) in (
       λ zero. absurd (cc (((counted.1 n _ _ e t.1 t.2).of_zero zero).0)),
       λ s q premise. ((counted.1 n s q e premise.split premise.odd).complete premise refl).0,
     )
