@@ -33,10 +33,9 @@ pub use p3_base::sums::sum_array;
 pub use p3_ext::extension as extension;
 pub use p3_ext::subfield::HasSubfield;
 pub use p3_runs::steps as steps;
-pub use p3_tools::coset as coset;
-pub use p3_tools::exponentiation as exponentiation;
 pub use p3_tools::helpers::{
     HornerIter, add_scaled_slice_in_place, cyclic_subgroup_coset_known_order,
     cyclic_subgroup_known_order, dot_product, field_to_array, halve_u32, halve_u64,
     par_add_scaled_slice_in_place, par_scale_slice_in_place, scale_slice_in_place_single_core,
 };
+pub use p3_tools::{coset as coset, exponentiation as exponentiation};
