@@ -2,9 +2,11 @@
 //! rules; their texts and statuses were made with the original Rust crate over the same fields, and
 //! checked against a second program that works from the definitions of the operations alone.
 
+mod root_runs;
 mod vector_runs;
 
 use crate::{MemSink, MemSource, engine};
+use root_runs::ROOTS;
 use std::process::Abort;
 use std::test::Fail;
 use vector_runs::{EDGES, FAULTS, VALUES};
@@ -45,6 +47,11 @@ fn runs_at_the_edges(rt: HostRuntime) -> Result<(), Fail> {
 #[test]
 fn runs_with_faults(rt: HostRuntime) -> Result<(), Fail> {
     assert_runs(&rt, &FAULTS)
+}
+
+#[test]
+fn runs_with_roots(rt: HostRuntime) -> Result<(), Fail> {
+    assert_runs(&rt, &ROOTS)
 }
 
 #[test]
