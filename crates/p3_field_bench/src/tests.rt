@@ -45,7 +45,7 @@ fn a_field_is_chosen_anew(rt: HostRuntime) -> Result<(), Fail> {
 }
 
 #[test]
-fn square_roots(rt: HostRuntime) -> Result<(), Fail> {
+fn lines_over_f17(rt: HostRuntime) -> Result<(), Fail> {
     let rows = [
         ("field f17\nput 0 13\nsqrt 1 0\nshow 1\n", "8\n", 0u8),
         ("field f17\nput 0 3\nsqrt 1 0\n", "line 3: fault 6\n", 1),
@@ -54,6 +54,9 @@ fn square_roots(rt: HostRuntime) -> Result<(), Fail> {
         ("field f17\nsqrt 1 16\n", "line 2: fault 3\n", 1),
         ("field z15\nput 0 4\nsqrt 0 0\n", "line 3: fault 6\n", 1),
         ("sqrt 0 0\n", "line 1: fault 7\n", 1),
+        ("field f17\nput 16 1\n", "line 2: fault 3\n", 1),
+        ("field f17\nput 0 17\n", "line 2: fault 4\n", 1),
+        ("field f17\nput 0 1 2\n", "line 2: fault 2\n", 1),
         ("field f17\nshow 0", "0\n", 0),
     ];
     for (input, text, status) in rows {
