@@ -1,7 +1,6 @@
 -- Extensions without zero divisors.
-use Rattle.std.specs.Prelude.{◌≡◌}
 use Rattle.std.proofs.Common.{ap, inl, inr}
-use Rattle.p3_theory.specs.Ring.{Ops, Ring, RingLaws, ring_of}
+use Rattle.p3_theory.specs.Ring.{Ops, RingLaws, ring_of}
 use Rattle.p3_theory.specs.Polynomial.{binomial}
 use Rattle.p3_theory.specs.ZeroDivisors.{HasNoZeroDivisors}
 use Rattle.p3_theory.specs.QuadraticDomains.{OnlyZeroHasNormZero, quadratic_domain}

@@ -1,5 +1,5 @@
 -- Runs of steps on registers of a field, with inverses and square roots.
-use Rattle.std.specs.Prelude.{◌≡◌, ◌≢◌, ◌<◌, ◌⊎◌, ℕ, suc, List, [], ◌∷◌, All, Option, Some, None, Result, Ok, Err, IsSome, slice_set}
+use Rattle.std.specs.Prelude.{◌≡◌, ◌≢◌, ◌<◌, ◌⊎◌, ℕ, suc, List, [], ◌∷◌, All, Option, None, Result, Ok, Err, IsSome, slice_set}
 use Rattle.p3_theory.specs.Ring.{Ops, IsInverse}
 use Rattle.p3_theory.specs.SquareRoots.{IsSquareRoot, CountedByGenerator}
 use Rattle.p3_runs.specs.Runs.{register, after_step}

@@ -30,7 +30,7 @@ module _ {A : Type 0} {O : Ops A} (l : RingLaws O) {n : ℕ} (values : ValueList
       power-power l x a b ∙ ap (power O x) e.1 ∙ elim (tell x) [
         | inl zero ↦ ap (λ z. O.mul z (power O x ((n - 1) * e.0))) zero ∙ l.mul_comm O.zero _ ∙ mul-zero (ring_of l) _ ∙ sym zero
         | inr other ↦
-          ap (O.mul x) (sym (power-power l x (n - 1) e.0) ∙ ap (λ z. power O z e.0) (fermat l domain values x other) ∙ power_of_one l e.0) ∙ l.mul_one x
+            ap (O.mul x) (sym (power-power l x (n - 1) e.0) ∙ ap (λ z. power O z e.0) (fermat l domain values x other) ∙ power_of_one l e.0) ∙ l.mul_one x
       ]
 
   pub injective_power : (a b : ℕ) → AreInverseExponents n a b → IsInjectivePower O a

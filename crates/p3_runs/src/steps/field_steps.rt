@@ -54,9 +54,8 @@ impl Registers for FieldStep {
     #[inline]
     fn fits(&self, n: usize) -> bool {
         match *self {
-            FieldStep::Add { d, a, b } | FieldStep::Sub { d, a, b } | FieldStep::Mul { d, a, b } => {
-                d < n && a < n && b < n
-            }
+            FieldStep::Add { d, a, b } | FieldStep::Sub { d, a, b } | FieldStep::Mul { d, a, b } =>
+                { d < n && a < n && b < n }
             FieldStep::Neg { d, a } | FieldStep::Square { d, a } | FieldStep::Double { d, a } => {
                 d < n && a < n
             }

@@ -1,4 +1,4 @@
-use Rattle.std.proofs.Common.{List, Result, Err, ◌≡◌, ◌∷◌, ◌+◌, suc, drop, arith, inl, inr, subst, sym, refl}
+use Rattle.std.proofs.Common.{List, Result, Err, ◌≡◌, ◌+◌, suc, drop, arith, inl, inr, subst, sym, refl}
 use Rattle.std.proofs.lemmas.List.{drop_more}
 use Rattle.p3_runs.specs.FieldRuns.{RunMay}
 use Rattle.p3_runs.specs.declared.steps.field_steps.FieldStep.{FieldStep}
