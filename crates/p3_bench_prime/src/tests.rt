@@ -8,14 +8,14 @@ mod extension_tables;
 mod extension_values;
 mod extensions;
 mod ring_values;
-mod step_runs;
 mod square_root_tables;
 mod square_roots;
+mod step_runs;
 mod stream_values;
 mod tool_values;
 mod trinomial_tables;
-mod two_adic_values;
 mod two_adic_extensions;
+mod two_adic_values;
 mod vector_tables;
 mod vectors;
 
