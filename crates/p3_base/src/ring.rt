@@ -478,6 +478,12 @@ impl<R: PrimeCharacteristicRing> Algebra<R> for R {
 
     ghost BATCHED_LC_CHUNK = { 8 };
 
+    /// The ring's own sum of products.
+    #[inline]
+    fn mixed_dot_product(a: &[R], f: &[R]) -> R {
+        R::dot_product(a, f)
+    }
+
     ghost chunk_length = { (3, lit< tt, refl) };
 
     ghost embeds = { identity R.ops };

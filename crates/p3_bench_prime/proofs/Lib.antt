@@ -1,3 +1,4 @@
 pub mod Sums
 pub mod Euclid
 pub mod ArrayItems
+pub mod WordProducts

@@ -34,7 +34,7 @@ module _ {n : ℕ} {canon word : ℕ → ℕ} (is : IsForm n canon word) where
   difference_large r w v h k l e = difference r w v h k l (let f = reduce_once (r + v) n (omega arith) (omega arith) in omega (arith, f))
 
   -- the word of zero
-  canon_zero : canon 0 ≡ 0
+  pub canon_zero : canon 0 ≡ 0
   canon_zero =
       let a : 0 < n = omega (arith, is.above_one) in
       let h : canon 0 < n = is.canon_below 0 a in

@@ -14,6 +14,10 @@ module _ {W : Type 0} (form : Ghosts W) where
   abbrev pub canon : Fp W form → ℕ
   canon x = form.canon x.word
 
+  -- the word that stands for the value
+  abbrev pub word : Fp W form → ℕ
+  word x = x.word
+
   -- the value of a number's residue
   abbrev pub of : ℕ → Fp W form
   of n = record { word = form.word (n % form.ORDER); of = record {}; below = form.is_form.word_below (n % form.ORDER) (remainder_below form.ORDER n form.is_form.above_one) }

@@ -41,6 +41,12 @@ pub trait Form {
         requires right { right < ORDER }
         ensures below { result < ORDER }
         ensures value { canon result ≡ (canon left * canon right) % ORDER };
+
+    /// The word of the residue that a sum of products of words stands for. A word w stands for w
+    /// times the residue of the word 1, and a product of words for that many times its square.
+    fn reduce_products(sum: u128) -> u32
+        ensures below { result < ORDER }
+        ensures value { canon result ≡ (sum * (canon 1 * canon 1)) % ORDER };
 }
 
 /// A marker of an order.
@@ -93,5 +99,15 @@ impl<M: Modulus> Form for Plain<M> {
     #[inline]
     fn product(left: u32, right: u32) -> u32 {
         (left as u64 * right as u64 % M::ORDER as u64) as u32
+    }
+
+    /// Short sums fit 64 bits, where a remainder is cheaper.
+    #[inline]
+    fn reduce_products(sum: u128) -> u32 {
+        if sum <= 0xffff_ffff_ffff_ffff {
+            (sum as u64 % M::ORDER as u64) as u32
+        } else {
+            (sum % M::ORDER as u128) as u32
+        }
     }
 }

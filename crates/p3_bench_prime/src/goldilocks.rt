@@ -1,4 +1,4 @@
-ghost use Rattle.std.specs.Prelude.{◌≡◌, ◌≢◌, ◌<◌, ◌+◌, ◌-◌, ◌*◌, ◌%◌, ◌==◌, Some, MatchOption, ⊤};
+ghost use Rattle.std.specs.Prelude.{◌≡◌, ◌≢◌, ◌<◌, ◌+◌, ◌-◌, ◌*◌, ◌%◌, ◌^◌, ◌==◌, Some, MatchOption, length, ⊤};
 ghost use Rattle.std.specs.Ordering.{nat_cmp};
 ghost use Rattle.std.specs.Fmt.{decimal};
 ghost use Rattle.p3_bench_prime.specs.declared.goldilocks.TheConstants.{P, TOP_GENERATOR};
@@ -94,6 +94,7 @@ impl Copy for Goldilocks {}
 impl Goldilocks {
     ghost use Rattle.p3_theory.specs.Ring.{IsInverse};
     ghost use Rattle.p3_bench_prime.specs.GoldilocksElements.{canon, of, ops};
+    ghost use Rattle.p3_theory.specs.SumsOfProducts.{sum_of_products};
     ghost use Rattle.p3_bench_prime.specs.declared.goldilocks.Goldilocks.{Goldilocks};
 
     /// The residue of a number. Upstream's `new`.
@@ -117,6 +118,22 @@ impl Goldilocks {
             Some(residue) => Some(Goldilocks { word: residue }),
             None => None,
         }
+    }
+
+    /// The sums of the low and of the high 64 bits of the products, position by position.
+    #[inline]
+    fn sum_product_halves(u: &[Self], v: &[Self]) -> (u128, u128)
+        requires { length u.now ≡ length v.now }
+        ensures { result.0 + 2 ^ 64 * result.1 ≡ sum_of_products canon u.now v.now }
+    {
+        let mut low = 0u128;
+        let mut high = 0u128;
+        for i in 0..u.len() {
+            let product = u[i].word as u128 * v[i].word as u128;
+            low += product & 0xffff_ffff_ffff_ffff;
+            high += product >> 64;
+        }
+        (low, high)
     }
 }
 
@@ -436,6 +453,19 @@ impl PrimeCharacteristicRing for Goldilocks {
     fn halve(&self) -> Self {
         Goldilocks {
             word: halve_u64::<P>(self.word),
+        }
+    }
+
+    /// The sum of the products of the words, which is reduced once, at the end: modulo the order
+    /// 2^64 is 2^32 - 1.
+    #[inline]
+    fn dot_product(u: &[Self], v: &[Self]) -> Self {
+        let (low, high) = Self::sum_product_halves(u, v);
+        let low_residue = reduce128(low);
+        let high_residue = reduce128(high);
+        let folded = reduce128(high_residue as u128 * 0xffff_ffff);
+        Goldilocks {
+            word: add_residues(low_residue, folded),
         }
     }
 

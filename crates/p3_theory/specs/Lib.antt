@@ -9,6 +9,7 @@ pub mod Remainders
 pub mod QuotientRing
 pub mod Horner
 pub mod Substitution
+pub mod SumsOfProducts
 pub mod Norm
 pub mod BinomialFrobenius
 pub mod BinomialProduct

@@ -1,5 +1,5 @@
 //! Worked values of the calls on rings and fields.
-ghost use Rattle.std.specs.Prelude.{◌≡◌, length};
+ghost use Rattle.std.specs.Prelude.{◌≡◌, ◌≤◌, length};
 
 use crate::baby_bear::BabyBear;
 use crate::goldilocks::Goldilocks;
@@ -69,6 +69,48 @@ fn combinations(rt: HostRuntime) {
         answer
     );
     assert_eq!(rt; sum_array::<BabyBear, 3>(&values), BabyBear::new(10));
+}
+
+/// The dot product of the first items with themselves.
+fn dot_of_first<F: PrimeField64>(items: &[F], count: usize) -> u64
+    requires { count ≤ length items.now }
+{
+    let first = &items[..count];
+    F::dot_product(first, first).as_canonical_u64()
+}
+
+/// The dot products of the first 0, 1, 3, 4, 5 and 17 items with themselves.
+fn dots_of_first<F: PrimeField64>(items: &[F]) -> [u64; 6]
+    requires { length items.now ≡ 17 }
+{
+    [
+        dot_of_first(items, 0),
+        dot_of_first(items, 1),
+        dot_of_first(items, 3),
+        dot_of_first(items, 4),
+        dot_of_first(items, 5),
+        dot_of_first(items, 17),
+    ]
+}
+
+#[test]
+fn dot_products_of_greatest_residues(rt: HostRuntime) {
+    assert_eq!(rt; dots_of_first(&[F2::neg_one(); 17]), [0, 1, 1, 0, 1, 1]);
+    assert_eq!(rt; dots_of_first(&[F17::neg_one(); 17]), [0, 1, 3, 4, 5, 0]);
+    assert_eq!(rt; dots_of_first(&[F31::neg_one(); 17]), [0, 1, 3, 4, 5, 17]);
+    assert_eq!(rt; dots_of_first(&[Z15::neg_one(); 17]), [0, 1, 3, 4, 5, 2]);
+    assert_eq!(rt;
+        dots_of_first(&[BabyBear::neg_one(); 17]),
+        [0, 1, 3, 4, 5, 17]
+    );
+    assert_eq!(rt;
+        dots_of_first(&[KoalaBear::neg_one(); 17]),
+        [0, 1, 3, 4, 5, 17]
+    );
+    assert_eq!(rt;
+        dots_of_first(&[Goldilocks::neg_one(); 17]),
+        [0, 1, 3, 4, 5, 17]
+    );
 }
 
 /// The sum of products by both calls in chunks of four, and by the call that is given the chunk.

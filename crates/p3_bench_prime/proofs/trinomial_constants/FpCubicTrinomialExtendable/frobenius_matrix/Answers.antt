@@ -1,4 +1,4 @@
-use Rattle.std.proofs.Common.{◌≡◌, [], get_or, ap, sym, ◌∙◌}
+use Rattle.std.proofs.Common.{[], get_or, ap, sym, ◌∙◌}
 use Rattle.p3_theory.specs.Residues.{residues, of_keeps}
 use Rattle.p3_theory.specs.Trinomials.{cubic_trinomial}
 use Rattle.p3_theory.specs.TableEntries.{matrix-entry, power-entry, cubic-along}
