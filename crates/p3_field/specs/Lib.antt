@@ -11,8 +11,11 @@ pub use Rattle.p3_theory.specs.TwoAdic
 pub use Rattle.p3_theory.specs.ValueLists
 pub use Rattle.p3_theory.specs.ZeroDivisors
 pub use Rattle.p3_theory.specs.GeometricSequence
-pub use Rattle.p3_theory.specs.TwoAdic
 pub use Rattle.p3_theory.specs.Cosets
+pub use Rattle.p3_theory.specs.Monomials
+pub use Rattle.p3_theory.specs.TwoAdicCoefficients
 pub use Rattle.p3_ext.specs.Values
 pub use Rattle.p3_ext.specs.Conjugates
+pub use Rattle.p3_ext.specs.ExtensionGenerators
 pub use Rattle.p3_runs.specs.Runs
+pub use Rattle.p3_runs.specs.FieldRuns

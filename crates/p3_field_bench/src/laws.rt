@@ -10,7 +10,7 @@ ghost use Rattle.p3_theory.specs.ZeroDivisors.{HasNoZeroDivisors};
 
 use p3_bench_prime::extensions::{F17x2, F31c};
 use p3_bench_prime::small::{F2, F17, F31};
-use p3_field::{Field, PrimeCharacteristicRing};
+use p3_field::{Field, PrimeCharacteristicRing, TwoAdicField};
 
 /// The texts of the calculator are defined for every input.
 pub fn every_input_has_a_text()
@@ -34,31 +34,39 @@ pub fn domain_f31()
 {}
 
 /// The finite-field premise of the prime field of order 2, at the generator to the power 1: the order less one is
-/// `2^0 * 1`.
+/// `2^0 * 1`. The same at the greatest two-adic generator.
 pub fn premise_f2()
     ensures order { ⟦<F2 as Field>⟧.size ≡ Some 2 }
     ensures premise { FiniteFieldPremise ⟦<F2 as PrimeCharacteristicRing>⟧.ops 2 0 1 (power ⟦<F2 as PrimeCharacteristicRing>⟧.ops ⟦<F2 as Field>⟧.generator 1) }
+    ensures two_adicity { ⟦<F2 as TwoAdicField>⟧.TWO_ADICITY ≡ 0 }
+    ensures two_adic { FiniteFieldPremise ⟦<F2 as PrimeCharacteristicRing>⟧.ops 2 0 1 (⟦<F2 as TwoAdicField>⟧.two_adic 0) }
 {}
 
 /// The finite-field premise of the prime field of order 17, at the generator to the power 1: the order less one is
-/// `2^4 * 1`.
+/// `2^4 * 1`. The same at the greatest two-adic generator.
 pub fn premise_f17()
     ensures order { ⟦<F17 as Field>⟧.size ≡ Some 17 }
     ensures premise { FiniteFieldPremise ⟦<F17 as PrimeCharacteristicRing>⟧.ops 17 4 1 (power ⟦<F17 as PrimeCharacteristicRing>⟧.ops ⟦<F17 as Field>⟧.generator 1) }
+    ensures two_adicity { ⟦<F17 as TwoAdicField>⟧.TWO_ADICITY ≡ 4 }
+    ensures two_adic { FiniteFieldPremise ⟦<F17 as PrimeCharacteristicRing>⟧.ops 17 4 1 (⟦<F17 as TwoAdicField>⟧.two_adic 4) }
 {}
 
 /// The finite-field premise of the prime field of order 31, at the generator to the power 15: the order less one is
-/// `2^1 * 15`.
+/// `2^1 * 15`. The same at the greatest two-adic generator.
 pub fn premise_f31()
     ensures order { ⟦<F31 as Field>⟧.size ≡ Some 31 }
     ensures premise { FiniteFieldPremise ⟦<F31 as PrimeCharacteristicRing>⟧.ops 31 1 15 (power ⟦<F31 as PrimeCharacteristicRing>⟧.ops ⟦<F31 as Field>⟧.generator 15) }
+    ensures two_adicity { ⟦<F31 as TwoAdicField>⟧.TWO_ADICITY ≡ 1 }
+    ensures two_adic { FiniteFieldPremise ⟦<F31 as PrimeCharacteristicRing>⟧.ops 31 1 15 (⟦<F31 as TwoAdicField>⟧.two_adic 1) }
 {}
 
 /// The finite-field premise of the extension of `F17` by `X^2 = 3`, at the generator to the power 9: the order less one is
-/// `2^5 * 9`.
+/// `2^5 * 9`. The same at the greatest two-adic generator.
 pub fn premise_f17x2()
     ensures order { ⟦<F17x2 as Field>⟧.size ≡ Some 289 }
     ensures premise { FiniteFieldPremise ⟦<F17x2 as PrimeCharacteristicRing>⟧.ops 289 5 9 (power ⟦<F17x2 as PrimeCharacteristicRing>⟧.ops ⟦<F17x2 as Field>⟧.generator 9) }
+    ensures two_adicity { ⟦<F17x2 as TwoAdicField>⟧.TWO_ADICITY ≡ 5 }
+    ensures two_adic { FiniteFieldPremise ⟦<F17x2 as PrimeCharacteristicRing>⟧.ops 289 5 9 (⟦<F17x2 as TwoAdicField>⟧.two_adic 5) }
 {}
 
 /// The finite-field premise of the complex values over `F31`, at the generator to the power 15: the order less one is

@@ -7,7 +7,9 @@ use super::square_root_tables::Root;
 use crate::form::{Modulus, Plain};
 use crate::fp::Fp;
 use crate::small::{F2, F17, F17b, F31, Z15};
-use p3_field::{PrimeField64, tonelli_shanks_counted};
+use p3_field::{
+    PrimeField64, TwoAdicField, tonelli_shanks_counted, tonelli_shanks_two_adic_counted,
+};
 use std::process::Abort;
 
 /// The marker of the order 4, at which two times two is zero.
@@ -38,13 +40,34 @@ fn counted<F: PrimeField64>(x: u64) -> (Option<u64>, u32)
     }
 }
 
+/// The same of the search by the greatest two-adic generator.
+fn two_adic_counted<F: TwoAdicField + PrimeField64>(x: u64) -> (Option<u64>, u32)
+    requires { IsSome F.size }
+{
+    let (root, turns) = tonelli_shanks_two_adic_counted(F::from_u64(x));
+    match root {
+        Some(r) => (Some(r.as_canonical_u64()), turns.count()),
+        None => (None, turns.count()),
+    }
+}
+
 /// Asserts that each row has a value, the root that is answered, if one is, and the turns.
-fn assert_roots<F: PrimeField64>(rt: &impl Abort, rows: &[Root])
+fn assert_roots<F: PrimeField64>(rt: &impl Abort, rows: &[Root<u64>])
     requires { IsSome F.size }
 {
     for row in rows {
         let (x, root, turns) = *row;
         assert_eq!(rt; counted::<F>(x), (root, turns), "{x}");
+    }
+}
+
+/// The same of the search by the greatest two-adic generator.
+fn assert_two_adic_roots<F: TwoAdicField + PrimeField64>(rt: &impl Abort, rows: &[Root<u64>])
+    requires { IsSome F.size }
+{
+    for row in rows {
+        let (x, root, turns) = *row;
+        assert_eq!(rt; two_adic_counted::<F>(x), (root, turns), "{x}");
     }
 }
 
@@ -72,4 +95,11 @@ fn residues_of_tables(rt: HostRuntime) {
     assert_roots::<F17>(&rt, tables::F17);
     assert_roots::<F31>(&rt, tables::F31);
     assert_roots::<Z15>(&rt, tables::Z15);
+}
+
+#[test]
+fn two_adic_residues_of_tables(rt: HostRuntime) {
+    assert_two_adic_roots::<F17>(&rt, tables::F17_TWO_ADIC);
+    assert_two_adic_roots::<F31>(&rt, tables::F31_TWO_ADIC);
+    assert_two_adic_roots::<Z15>(&rt, tables::Z15_TWO_ADIC);
 }

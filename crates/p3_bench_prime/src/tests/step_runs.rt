@@ -47,10 +47,7 @@ fn a_run_over_an_extension(rt: HostRuntime) {
 
 #[test]
 fn an_inverse_is_refused(rt: HostRuntime) {
-    let steps = [
-        FieldStep::Inv { d: 0, a: 0 },
-        FieldStep::Inv { d: 1, a: 1 },
-    ];
+    let steps = [FieldStep::Inv { d: 0, a: 0 }, FieldStep::Inv { d: 1, a: 1 }];
     let mut regs = [F17::new(2), F17::new(0)];
     assert!(rt; steps_fit(&steps, 2));
     assert!(rt; !steps_fit(&steps, 1));

@@ -1,24 +1,10 @@
 //! Two-adic generators of extensions.
+ghost use Rattle.std.specs.Prelude.{◌≤◌};
 
-use crate::complex_tower::F31cx2;
 use crate::extensions::{F2t5, F17t5, F17x2, F17x4, F17x8, F31c, F31t3};
 use crate::small::{F2, F17, F31};
-use p3_field::extension::{
-    BinomialExtensionField, Complex, ComplexExtendable, HasTwoAdicComplexBinomialExtension,
-};
+use p3_field::extension::{ComplexExtendable, HasTwoAdicComplexBinomialExtension};
 use p3_field::{PrimeCharacteristicRing, TwoAdicField};
-
-/// A two-adic generator of the extension of degree 2 over the complex values of F. It is generic in F:
-/// at the concrete type the toolchain meets its limit of impls to pass.
-fn generator_over<F: HasTwoAdicComplexBinomialExtension<2>>(
-    bits: usize,
-) -> BinomialExtensionField<Complex<F>, 2> {
-    TwoAdicField::two_adic_generator(bits)
-}
-
-fn two_adicity_over<F: HasTwoAdicComplexBinomialExtension<2>>() -> usize {
-    <BinomialExtensionField<Complex<F>, 2> as TwoAdicField>::TWO_ADICITY
-}
 
 /// The complex value with these coefficients.
 fn complex(real: u32, imag: u32) -> F31c {
@@ -56,13 +42,28 @@ fn generators_by_trinomials(rt: HostRuntime) {
     assert_eq!(rt; F2t5::two_adic_generator(0), F2t5::from(F2::one()));
 }
 
+/// The coefficients of a two-adic generator of the extension of degree 2 over complex values.
+fn tower_generator(bits: usize) -> [F31c; 2]
+    requires { bits ≤ 7 }
+{
+    [
+        <F31 as HasTwoAdicComplexBinomialExtension<2>>::complex_ext_two_adic_generator(bits, 0),
+        <F31 as HasTwoAdicComplexBinomialExtension<2>>::complex_ext_two_adic_generator(bits, 1),
+    ]
+}
+
 #[test]
 fn generators_over_complex_values(rt: HostRuntime) {
-    assert_eq!(rt; two_adicity_over::<F31>(), 7);
-    assert_eq!(rt; generator_over::<F31>(7), F31cx2::new_imag(complex(15, 18)));
-    assert_eq!(rt; generator_over::<F31>(6), F31cx2::new_real(complex(18, 27)));
-    assert_eq!(rt; generator_over::<F31>(5), F31cx2::new_real(complex(29, 11)));
-    assert_eq!(rt; generator_over::<F31>(1), F31cx2::neg_one());
+    type F = F31;
+    assert_eq!(rt;
+        <F as HasTwoAdicComplexBinomialExtension<2>>::COMPLEX_EXT_TWO_ADICITY,
+        7
+    );
+    assert_eq!(rt; tower_generator(7), [F31c::zero(), complex(15, 18)]);
+    assert_eq!(rt; tower_generator(6), [complex(18, 27), F31c::zero()]);
+    assert_eq!(rt; tower_generator(5), [complex(29, 11), F31c::zero()]);
+    assert_eq!(rt; tower_generator(1), [complex(30, 0), F31c::zero()]);
+    assert_eq!(rt; tower_generator(0), [F31c::one(), F31c::zero()]);
 }
 
 #[test]
