@@ -2,14 +2,15 @@
 use crate::calls::*;
 use crate::extensions::*;
 use crate::table::Case;
+use std::hint::black_box;
 
 /// The coefficients as one number, to be compared.
 fn mixed(value: &[u64; 8]) -> u64 {
     value.iter().fold(0, |sum, c| sum.wrapping_mul(0x9e37_79b9_7f4a_7c15).wrapping_add(*c))
 }
 
-const VALUE: [u64; 8] = [2, 3, 5, 7, 11, 13, 1, 4];
-const OTHER: [u64; 8] = [3, 1, 4, 1, 5, 9, 2, 6];
+static VALUE: [u64; 8] = [2, 3, 5, 7, 11, 13, 1, 4];
+static OTHER: [u64; 8] = [3, 1, 4, 1, 5, 9, 2, 6];
 
 fn case(name: &str, library: impl Fn(u64) -> u64 + 'static, plain: impl Fn(u64) -> u64 + 'static) -> Case {
     Case {
@@ -21,9 +22,11 @@ fn case(name: &str, library: impl Fn(u64) -> u64 + 'static, plain: impl Fn(u64) 
 }
 
 fn cases_of<E: Extension + 'static>(name: &str, extension: u32, degree: usize) -> Vec<Case> {
+    // hidden from the compiler, so that no side is compiled for these numbers alone
+    let (start, other) = black_box((&VALUE, &OTHER));
     let over = move |call: &dyn Fn(&mut [u64])| {
         let mut value = [0; 8];
-        value[..degree].copy_from_slice(&VALUE[..degree]);
+        value[..degree].copy_from_slice(&start[..degree]);
         call(&mut value[..degree]);
         mixed(&value)
     };
@@ -31,9 +34,9 @@ fn cases_of<E: Extension + 'static>(name: &str, extension: u32, degree: usize) -
         case(
             &format!("{name} product"),
             move |k| over(&|v| unsafe {
-                p3_speed_extension_products(extension, v.as_mut_ptr(), degree, OTHER.as_ptr(), degree, k)
+                p3_speed_extension_products(extension, v.as_mut_ptr(), degree, other.as_ptr(), degree, k)
             }),
-            move |k| over(&|v| product_chain::<E>(v, &OTHER[..degree], k)),
+            move |k| over(&|v| product_chain::<E>(v, &other[..degree], k)),
         ),
         case(
             &format!("{name} square"),
@@ -45,9 +48,9 @@ fn cases_of<E: Extension + 'static>(name: &str, extension: u32, degree: usize) -
         case(
             &format!("{name} try_inverse"),
             move |k| over(&|v| unsafe {
-                p3_speed_extension_inverses(extension, v.as_mut_ptr(), degree, OTHER.as_ptr(), degree, k)
+                p3_speed_extension_inverses(extension, v.as_mut_ptr(), degree, other.as_ptr(), degree, k)
             }),
-            move |k| over(&|v| inverse_chain::<E>(v, &OTHER[..degree], k)),
+            move |k| over(&|v| inverse_chain::<E>(v, &other[..degree], k)),
         ),
     ]
 }

@@ -3,6 +3,7 @@ use crate::calls::*;
 use crate::primes;
 use crate::residues::{BabyBear, F17, Goldilocks, Residue};
 use crate::table::Case;
+use std::hint::black_box;
 
 const LENGTH: usize = 1000;
 const POWERS: usize = 4096;
@@ -40,6 +41,7 @@ struct Inputs {
 
 fn slice_cases<F: Residue>(name: &str, i: Inputs) -> Vec<Case> {
     let Inputs { field, left, right } = i;
+    let point = black_box(3);
     let (l, r, n) = (left.as_ptr() as usize, right.as_ptr() as usize, LENGTH);
     let at = |p: usize| p as *const u64;
     vec![
@@ -56,36 +58,39 @@ fn slice_cases<F: Residue>(name: &str, i: Inputs) -> Vec<Case> {
             move |k| unsafe { p3_speed_dot_products(field, at(l), n, at(r), n, k as usize) },
             move |k| primes::dot_products::<F>(left, right, k as usize)),
         case(name, "Horner", 1000,
-            move |k| unsafe { p3_speed_horner_chain(field, at(l), n, 3, k) },
-            move |k| primes::horner_chain::<F>(left, 3, k)),
+            move |k| unsafe { p3_speed_horner_chain(field, at(l), n, point, k) },
+            move |k| primes::horner_chain::<F>(left, point, k)),
     ]
 }
 
 fn chain_cases<F: Residue>(name: &str, field: u32) -> Vec<Case> {
+    // hidden from the compiler, so that no side is compiled for these numbers alone
+    let [start, factor, step, exponent] = black_box([5, 3, 7, EXPONENT]);
+    let length = black_box(POWERS);
     vec![
         case(name, "product chain", 1000,
-            move |k| p3_speed_product_chain(field, 5, 3, 1000 * k),
-            move |k| primes::product_chain::<F>(5, 3, 1000 * k)),
+            move |k| p3_speed_product_chain(field, start, factor, 1000 * k),
+            move |k| primes::product_chain::<F>(start, factor, 1000 * k)),
         case(name, "exp_u64", 1,
-            move |k| p3_speed_power_chain(field, 3, 1, EXPONENT, k),
-            move |k| primes::power_chain::<F>(3, 1, EXPONENT, k)),
+            move |k| p3_speed_power_chain(field, start, step, exponent, k),
+            move |k| primes::power_chain::<F>(start, step, exponent, k)),
         case(name, "list of 4096 powers", 4096,
-            move |k| p3_speed_power_lists(field, 3, POWERS, k),
-            move |k| primes::power_lists::<F>(3, POWERS, k)),
+            move |k| p3_speed_power_lists(field, factor, length, k),
+            move |k| primes::power_lists::<F>(factor, length, k)),
         case(name, "try_inverse", 1,
-            move |k| p3_speed_inverse_chain(field, 3, 7, k),
-            move |k| primes::inverse_chain::<F>(3, 7, k)),
+            move |k| p3_speed_inverse_chain(field, start, step, k),
+            move |k| primes::inverse_chain::<F>(start, step, k)),
         case(name, "tonelli_shanks", 1,
-            move |k| p3_speed_root_chain(field, 3, 7, k),
-            move |k| primes::root_chain::<F>(3, 7, k)),
+            move |k| p3_speed_root_chain(field, start, step, k),
+            move |k| primes::root_chain::<F>(start, step, k)),
     ]
 }
 
 fn cases_of<F: Residue>(name: &str, field: u32) -> Vec<Case> {
     let inputs = Inputs {
         field,
-        left: numbers(F::ORDER, 1).leak(),
-        right: numbers(F::ORDER, 2).leak(),
+        left: numbers(F::ORDER, black_box(1)).leak(),
+        right: numbers(F::ORDER, black_box(2)).leak(),
     };
     let mut cases = chain_cases::<F>(name, field);
     cases.extend(slice_cases::<F>(name, inputs));

@@ -6,7 +6,12 @@ use p3_bench_prime::extensions::{BabyBearx4, F17t5, F17x2, F17x4, F17x8, F31t3, 
 
 /// Multiplies the value by the factor, `count` times.
 #[unsafe(no_mangle)]
-pub extern "C" fn p3_speed_extension_products(extension: u32, value: &mut [u64], factor: &[u64], count: u64) {
+pub extern "C" fn p3_speed_extension_products(
+    extension: u32,
+    value: &mut [u64],
+    factor: &[u64],
+    count: u64,
+) {
     match extension {
         0 => extensions::products::<F17x2>(value, factor, count),
         1 => extensions::products::<F17x4>(value, factor, count),
@@ -36,7 +41,12 @@ pub extern "C" fn p3_speed_extension_squares(extension: u32, value: &mut [u64], 
 
 /// Inverts the value and adds the step, `count` times; what has no inverse becomes the step.
 #[unsafe(no_mangle)]
-pub extern "C" fn p3_speed_extension_inverses(extension: u32, value: &mut [u64], step: &[u64], count: u64) {
+pub extern "C" fn p3_speed_extension_inverses(
+    extension: u32,
+    value: &mut [u64],
+    step: &[u64],
+    count: u64,
+) {
     match extension {
         0 => extensions::inverses::<F17x2>(value, step, count),
         1 => extensions::inverses::<F17x4>(value, step, count),

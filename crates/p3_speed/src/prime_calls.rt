@@ -6,7 +6,6 @@ use p3_bench_prime::goldilocks::Goldilocks;
 use p3_bench_prime::small::F17;
 use std::alloc::Global;
 
-
 /// The product of `start` and `count` times `factor`.
 #[unsafe(no_mangle)]
 pub extern "C" fn p3_speed_product_chain(field: u32, start: u64, factor: u64, count: u64) -> u64 {
@@ -21,7 +20,13 @@ pub extern "C" fn p3_speed_product_chain(field: u32, start: u64, factor: u64, co
 /// The left slice, multiplied place by place by the right one `rounds` times: its dot product with
 /// the right one.
 #[unsafe(no_mangle)]
-pub extern "C" fn p3_speed_multiplied_slices(field: u32, alloc: Global, left: &[u64], right: &[u64], rounds: u64) -> u64 {
+pub extern "C" fn p3_speed_multiplied_slices(
+    field: u32,
+    alloc: Global,
+    left: &[u64],
+    right: &[u64],
+    rounds: u64,
+) -> u64 {
     if left.len() != right.len() {
         return 0;
     }
@@ -37,7 +42,13 @@ pub extern "C" fn p3_speed_multiplied_slices(field: u32, alloc: Global, left: &[
 /// The left slice, to which the right one is added `rounds` times: its dot product with the right
 /// one.
 #[unsafe(no_mangle)]
-pub extern "C" fn p3_speed_added_slices(field: u32, alloc: Global, left: &[u64], right: &[u64], rounds: u64) -> u64 {
+pub extern "C" fn p3_speed_added_slices(
+    field: u32,
+    alloc: Global,
+    left: &[u64],
+    right: &[u64],
+    rounds: u64,
+) -> u64 {
     if left.len() != right.len() {
         return 0;
     }
@@ -64,7 +75,13 @@ pub extern "C" fn p3_speed_sums(field: u32, alloc: Global, numbers: &[u64], roun
 
 /// The power `exponent` and `step` more, `count` times.
 #[unsafe(no_mangle)]
-pub extern "C" fn p3_speed_power_chain(field: u32, start: u64, step: u64, exponent: u64, count: u64) -> u64 {
+pub extern "C" fn p3_speed_power_chain(
+    field: u32,
+    start: u64,
+    step: u64,
+    exponent: u64,
+    count: u64,
+) -> u64 {
     match field {
         0 => primes::power_chain::<F17>(start, step, exponent, count),
         1 => primes::power_chain::<BabyBear>(start, step, exponent, count),
@@ -75,7 +92,13 @@ pub extern "C" fn p3_speed_power_chain(field: u32, start: u64, step: u64, expone
 
 /// Dot products of the slices, each written over a place of the left one: the last of `rounds`.
 #[unsafe(no_mangle)]
-pub extern "C" fn p3_speed_dot_products(field: u32, alloc: Global, left: &[u64], right: &[u64], rounds: usize) -> u64 {
+pub extern "C" fn p3_speed_dot_products(
+    field: u32,
+    alloc: Global,
+    left: &[u64],
+    right: &[u64],
+    rounds: usize,
+) -> u64 {
     if left.len() != right.len() {
         return 0;
     }
@@ -90,7 +113,13 @@ pub extern "C" fn p3_speed_dot_products(field: u32, alloc: Global, left: &[u64],
 
 /// The value of the polynomial at `start`, at that value, and so on.
 #[unsafe(no_mangle)]
-pub extern "C" fn p3_speed_horner_chain(field: u32, alloc: Global, numbers: &[u64], start: u64, rounds: u64) -> u64 {
+pub extern "C" fn p3_speed_horner_chain(
+    field: u32,
+    alloc: Global,
+    numbers: &[u64],
+    start: u64,
+    rounds: u64,
+) -> u64 {
     let answer = match field {
         0 => primes::horner_chain::<F17>(alloc, numbers, start, rounds),
         1 => primes::horner_chain::<BabyBear>(alloc, numbers, start, rounds),
@@ -102,7 +131,13 @@ pub extern "C" fn p3_speed_horner_chain(field: u32, alloc: Global, numbers: &[u6
 
 /// Lists of powers of `base`, each from the last item of the list before on: the last item.
 #[unsafe(no_mangle)]
-pub extern "C" fn p3_speed_power_lists(field: u32, alloc: Global, base: u64, length: usize, rounds: u64) -> u64 {
+pub extern "C" fn p3_speed_power_lists(
+    field: u32,
+    alloc: Global,
+    base: u64,
+    length: usize,
+    rounds: u64,
+) -> u64 {
     let answer = match field {
         0 => primes::power_lists::<F17>(alloc, base, length, rounds),
         1 => primes::power_lists::<BabyBear>(alloc, base, length, rounds),
