@@ -2,6 +2,7 @@
 //! code as often as it is told, and answers a number that depends on all of it.
 #![tactic(auto)]
 
+pub mod calculator_call;
 pub mod extension_calls;
 mod extensions;
 pub mod prime_calls;
