@@ -14,4 +14,5 @@ unsafe extern "C" {
     pub fn p3_speed_extension_products(extension: u32, value: *mut u64, length: usize, factor: *const u64, factor_length: usize, count: u64);
     pub fn p3_speed_extension_squares(extension: u32, value: *mut u64, length: usize, count: u64);
     pub fn p3_speed_extension_inverses(extension: u32, value: *mut u64, length: usize, step: *const u64, step_length: usize, count: u64);
+    pub fn p3_speed_calculator(input: *const u8, input_length: usize, output: *mut u8, output_length: usize) -> usize;
 }

@@ -19,11 +19,11 @@ fn time(call: &dyn Fn(u64) -> u64, rounds: u64) -> (f64, u64) {
     (start.elapsed().as_nanos() as f64, answer)
 }
 
-/// Rounds that take some milliseconds.
+/// Rounds that take some milliseconds, by the best of three runs.
 fn rounds_of(case: &Case) -> u64 {
     let mut rounds = 1;
     loop {
-        let (taken, _) = time(&case.plain, rounds);
+        let taken = (0..3).map(|_| time(&case.plain, rounds).0).fold(f64::INFINITY, f64::min);
         if taken > NANOSECONDS_A_RUN as f64 / 2.0 || rounds > 1 << 40 {
             return rounds;
         }
