@@ -30,7 +30,7 @@ fn case(field: &str) -> Case {
         name: format!("calculator over {field}, a line"),
         operations: 1000,
         library: Box::new(move |rounds| {
-            let mut output = vec![0; 1 << 16];
+            let mut output = vec![0; 1 << 13];
             let mut sum = 0;
             for _ in 0..rounds {
                 let count = library(input, &mut output);
