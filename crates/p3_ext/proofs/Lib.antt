@@ -1,2 +1,2 @@
 mod ExtensionOrder
-mod TripleSet
+mod WrittenItems
