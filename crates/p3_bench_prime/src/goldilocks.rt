@@ -44,10 +44,11 @@ fn reduce128(x: u128) -> u64
         rest + (P - top)
     };
     let more = middle * 0xffff_ffff;
-    if less >= P - more {
-        less - (P - more)
-    } else {
+    let room = P - more;
+    if less < room {
         less + more
+    } else {
+        less - room
     }
 }
 

@@ -1,1 +1,2 @@
 mod ExtensionOrder
+mod WrittenItems

@@ -24,7 +24,9 @@ pub fn trinomial_cubic_mul<R: PrimeCharacteristicRing>(a: &[R], b: &[R], res: &m
     let c0 = R::dot_product(&[a0, a1, a2], &[b0, b2, b1]);
     let c1 = R::dot_product(&[a0, a1, a2], &[b1, b0_plus_b2, b1_plus_b2]);
     let c2 = R::dot_product(&[a0, a1, a2], &[b2, b1, b0_plus_b2]);
-    res.copy_from_slice(&[c0, c1, c2]);
+    res[0] = c0;
+    res[1] = c1;
+    res[2] = c2;
 }
 
 /// The square of a list of three coefficients modulo `X^3 - X - 1`. Upstream's `cubic_square`.
@@ -42,7 +44,9 @@ pub fn cubic_square<R: PrimeCharacteristicRing>(a: &[R], res: &mut [R])
     let c0 = R::dot_product(&[a0, a1_2], &[a0, a2]);
     let c1 = R::dot_product(&[a0_2, a2], &[a1, two_a1_plus_a2]);
     let c2 = R::dot_product(&[a1, a2], &[a1, two_a0_plus_a2]);
-    res.copy_from_slice(&[c0, c1, c2]);
+    res[0] = c0;
+    res[1] = c1;
+    res[2] = c2;
 }
 
 /// The powers of the image of X, as columns of the matrix.

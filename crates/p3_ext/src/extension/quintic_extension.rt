@@ -36,7 +36,11 @@ pub fn trinomial_quintic_mul<R: PrimeCharacteristicRing>(a: &[R], b: &[R], res: 
     let rest3 = c3 - c6;
     let r3 = rest3 + c8;
     let r4 = c4 - c7;
-    res.copy_from_slice(&[r0, r1, r2, r3, r4]);
+    res[0] = r0;
+    res[1] = r1;
+    res[2] = r2;
+    res[3] = r3;
+    res[4] = r4;
 }
 
 /// The square of a list of five coefficients modulo `X^5 + X^2 - 1`. Upstream's `quintic_square`.
@@ -68,7 +72,11 @@ pub fn quintic_square<R: PrimeCharacteristicRing>(a: &[R], res: &mut [R])
     let rest3 = c3 - c6;
     let r3 = rest3 + c8;
     let r4 = c4 - c7;
-    res.copy_from_slice(&[r0, r1, r2, r3, r4]);
+    res[0] = r0;
+    res[1] = r1;
+    res[2] = r2;
+    res[3] = r3;
+    res[4] = r4;
 }
 
 /// The powers of the image of X, as the rows that the field gives.

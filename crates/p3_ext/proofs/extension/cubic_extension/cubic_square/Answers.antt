@@ -4,6 +4,7 @@ use Rattle.p3_theory.specs.Polynomial.{quotient_mul}
 use Rattle.p3_theory.specs.DotProduct.{dot}
 use Rattle.p3_theory.specs.ListItems.{items_are}
 use Rattle.p3_theory.specs.Trinomials.{cubic_trinomial, cubic_square}
+use Rattle.p3_ext.proofs.WrittenItems.{triple-set}
 use Rattle.p3_ext.proofs.extension.cubic_extension.cubic_square.Goals as goal
 
 pub returns : goal.returns
@@ -17,7 +18,7 @@ returns g c =
     let e0 = c.dot_product-c0.ensures ∙ (λ i. dot o (c.index-a-0.result ∷ a1_2 i ∷ []) (c.index-a-0.result ∷ c.index-a-2.result ∷ [])) in
     let e1 = c.dot_product-c1.ensures ∙ (λ i. dot o (a0_2 i ∷ c.index-a-2.result ∷ []) (c.index-a-1.result ∷ right i ∷ [])) in
     let e2 = c.dot_product-c2.ensures ∙ (λ i. dot o (c.index-a-1.result ∷ c.index-a-2.result ∷ []) (c.index-a-1.result ∷ left i ∷ [])) in
-    c.copy_from_slice.ensures.after
+    triple-set c.args.res.now c.dot_product-c0.result c.dot_product-c1.result c.dot_product-c2.result c.requires.room
     ∙ (λ i. e0 i ∷ e1 i ∷ e2 i ∷ [])
     ∙ cubic_square (ring_of m.ring) c.index-a-0.result c.index-a-1.result c.index-a-2.result
     ∙ ap (λ l. quotient_mul o 3 (cubic_trinomial o) l l) (sym (items_are c.args.a.now (c.index-a-0.result ∷ c.index-a-1.result ∷ c.index-a-2.result ∷ []) c.requires.input (c.index-a-0.is, (c.index-a-1.is, (c.index-a-2.is, tt)))))

@@ -3,6 +3,7 @@ use Rattle.p3_theory.specs.Ring.{ring_of, subtract}
 use Rattle.p3_theory.specs.Polynomial.{quotient_mul}
 use Rattle.p3_theory.specs.ListItems.{items_are}
 use Rattle.p3_theory.specs.Trinomials.{quintic_trinomial, quintic_product}
+use Rattle.p3_ext.proofs.WrittenItems.{quintuple-set}
 use Rattle.p3_ext.proofs.extension.quintic_extension.trinomial_quintic_mul.Goals as goal
 
 pub returns : goal.returns
@@ -17,7 +18,7 @@ returns g c =
     let e2 = m.adds.answer _ _ _ c.add-r2.ensures ∙ ap₂ o.add (m.subs.answer _ _ _ c.sub-rest2.ensures ∙ ap₂ (subtract o) c.dot_product-c2.ensures less) c.dot_product-c7.ensures in
     let e3 = m.adds.answer _ _ _ c.add-r3.ensures ∙ ap₂ o.add (m.subs.answer _ _ _ c.sub-rest3.ensures ∙ ap₂ (subtract o) c.dot_product-c3.ensures c.dot_product-c6.ensures) c8 in
     let e4 = m.subs.answer _ _ _ c.sub-r4.ensures ∙ ap₂ (subtract o) c.dot_product-c4.ensures c.dot_product-c7.ensures in
-    c.copy_from_slice.ensures.after
+    quintuple-set c.args.res.now c.add-r0.result c.add-r1.result c.add-r2.result c.add-r3.result c.sub-r4.result c.requires.room
     ∙ (λ i. e0 i ∷ e1 i ∷ e2 i ∷ e3 i ∷ e4 i ∷ [])
     ∙ quintic_product (ring_of m.ring) c.index-a-0.result c.index-a-1.result c.index-a-2.result c.index-a-3.result c.index-a-4.result c.index-b-0.result c.index-b-1.result c.index-b-2.result c.index-b-3.result c.index-b-4.result
     ∙ ap₂ (quotient_mul o 5 (quintic_trinomial o))

@@ -1,0 +1,20 @@
+//! The proved library beside plain Rust that does the same work, in one process and in turn.
+mod calculator;
+mod calculator_cases;
+mod calls;
+mod extension_cases;
+mod extensions;
+mod prime_cases;
+mod primes;
+mod residues;
+mod table;
+
+fn main() {
+    let word = std::env::args().nth(1).unwrap_or_default();
+    let mut cases = prime_cases::cases();
+    cases.extend(extension_cases::cases());
+    cases.extend(calculator_cases::cases());
+    if !table::print(&cases, &word) {
+        std::process::exit(1);
+    }
+}

@@ -1,0 +1,105 @@
+//! The rows of the prime types.
+use crate::calls::*;
+use crate::primes;
+use crate::residues::{BabyBear, F17, Goldilocks, Residue};
+use crate::table::Case;
+use std::hint::black_box;
+
+const LENGTH: usize = 1000;
+const POWERS: usize = 4096;
+const EXPONENT: u64 = 0xd1b5_4a32_d192_ed03;
+
+/// Numbers below the order, by a linear congruence.
+fn numbers(order: u64, seed: u64) -> Vec<u64> {
+    let mut state = seed;
+    let mut next = || {
+        state = state.wrapping_mul(6364136223846793005).wrapping_add(1442695040888963407);
+        (state >> 1) % order
+    };
+    (0..LENGTH).map(|_| next()).collect()
+}
+
+fn case<L, P>(type_name: &str, name: &str, operations: u64, library: L, plain: P) -> Case
+where
+    L: Fn(u64) -> u64 + 'static,
+    P: Fn(u64) -> u64 + 'static,
+{
+    Case {
+        name: format!("{type_name} {name}"),
+        operations,
+        library: Box::new(library),
+        plain: Box::new(plain),
+    }
+}
+
+/// Pairs of slices that both sides take.
+struct Inputs {
+    field: u32,
+    left: &'static [u64],
+    right: &'static [u64],
+}
+
+fn slice_cases<F: Residue>(name: &str, i: Inputs) -> Vec<Case> {
+    let Inputs { field, left, right } = i;
+    let point = black_box(3);
+    let (l, r, n) = (left.as_ptr() as usize, right.as_ptr() as usize, LENGTH);
+    let at = |p: usize| p as *const u64;
+    vec![
+        case(name, "slice products", 1000,
+            move |k| unsafe { p3_speed_multiplied_slices(field, at(l), n, at(r), n, k) },
+            move |k| primes::multiplied_slices::<F>(left, right, k)),
+        case(name, "slice sums in place", 1000,
+            move |k| unsafe { p3_speed_added_slices(field, at(l), n, at(r), n, k) },
+            move |k| primes::added_slices::<F>(left, right, k)),
+        case(name, "sum of a slice", 1000,
+            move |k| unsafe { p3_speed_sums(field, at(l), n, k as usize) },
+            move |k| primes::sums::<F>(left, k as usize)),
+        case(name, "dot product", 1000,
+            move |k| unsafe { p3_speed_dot_products(field, at(l), n, at(r), n, k as usize) },
+            move |k| primes::dot_products::<F>(left, right, k as usize)),
+        case(name, "Horner", 1000,
+            move |k| unsafe { p3_speed_horner_chain(field, at(l), n, point, k) },
+            move |k| primes::horner_chain::<F>(left, point, k)),
+    ]
+}
+
+fn chain_cases<F: Residue>(name: &str, field: u32) -> Vec<Case> {
+    // hidden from the compiler, so that no side is compiled for these numbers alone
+    let [start, factor, step, exponent] = black_box([5, 3, 7, EXPONENT]);
+    let length = black_box(POWERS);
+    vec![
+        case(name, "product chain", 1000,
+            move |k| p3_speed_product_chain(field, start, factor, 1000 * k),
+            move |k| primes::product_chain::<F>(start, factor, 1000 * k)),
+        case(name, "exp_u64", 1,
+            move |k| p3_speed_power_chain(field, start, step, exponent, k),
+            move |k| primes::power_chain::<F>(start, step, exponent, k)),
+        case(name, "list of 4096 powers", 4096,
+            move |k| p3_speed_power_lists(field, factor, length, k),
+            move |k| primes::power_lists::<F>(factor, length, k)),
+        case(name, "try_inverse", 1,
+            move |k| p3_speed_inverse_chain(field, start, step, k),
+            move |k| primes::inverse_chain::<F>(start, step, k)),
+        case(name, "tonelli_shanks", 1,
+            move |k| p3_speed_root_chain(field, start, step, k),
+            move |k| primes::root_chain::<F>(start, step, k)),
+    ]
+}
+
+fn cases_of<F: Residue>(name: &str, field: u32) -> Vec<Case> {
+    let inputs = Inputs {
+        field,
+        left: numbers(F::ORDER, black_box(1)).leak(),
+        right: numbers(F::ORDER, black_box(2)).leak(),
+    };
+    let mut cases = chain_cases::<F>(name, field);
+    cases.extend(slice_cases::<F>(name, inputs));
+    cases
+}
+
+pub fn cases() -> Vec<Case> {
+    let mut cases = cases_of::<F17>("f17", 0);
+    cases.extend(cases_of::<BabyBear>("babybear", 1));
+    cases.extend(cases_of::<Goldilocks>("goldilocks", 2));
+    cases
+}

@@ -1,0 +1,60 @@
+//! The calls from C at extensions. The argument `extension` numbers them from 0 on: f17x2, f17x4,
+//! f17x8, f31x6, f31t3, f17t5 and bbx4; at every other number nothing is done. A value is the slice
+//! of its coefficients, and what is computed is written over it.
+use crate::extensions;
+use p3_bench_prime::extensions::{BabyBearx4, F17t5, F17x2, F17x4, F17x8, F31t3, F31x6};
+
+/// Multiplies the value by the factor, `count` times.
+#[unsafe(no_mangle)]
+pub extern "C" fn p3_speed_extension_products(
+    extension: u32,
+    value: &mut [u64],
+    factor: &[u64],
+    count: u64,
+) {
+    match extension {
+        0 => extensions::products::<F17x2>(value, factor, count),
+        1 => extensions::products::<F17x4>(value, factor, count),
+        2 => extensions::products::<F17x8>(value, factor, count),
+        3 => extensions::products::<F31x6>(value, factor, count),
+        4 => extensions::products::<F31t3>(value, factor, count),
+        5 => extensions::products::<F17t5>(value, factor, count),
+        6 => extensions::products::<BabyBearx4>(value, factor, count),
+        _ => {}
+    }
+}
+
+/// Squares the value, `count` times.
+#[unsafe(no_mangle)]
+pub extern "C" fn p3_speed_extension_squares(extension: u32, value: &mut [u64], count: u64) {
+    match extension {
+        0 => extensions::squares::<F17x2>(value, count),
+        1 => extensions::squares::<F17x4>(value, count),
+        2 => extensions::squares::<F17x8>(value, count),
+        3 => extensions::squares::<F31x6>(value, count),
+        4 => extensions::squares::<F31t3>(value, count),
+        5 => extensions::squares::<F17t5>(value, count),
+        6 => extensions::squares::<BabyBearx4>(value, count),
+        _ => {}
+    }
+}
+
+/// Inverts the value and adds the step, `count` times; what has no inverse becomes the step.
+#[unsafe(no_mangle)]
+pub extern "C" fn p3_speed_extension_inverses(
+    extension: u32,
+    value: &mut [u64],
+    step: &[u64],
+    count: u64,
+) {
+    match extension {
+        0 => extensions::inverses::<F17x2>(value, step, count),
+        1 => extensions::inverses::<F17x4>(value, step, count),
+        2 => extensions::inverses::<F17x8>(value, step, count),
+        3 => extensions::inverses::<F31x6>(value, step, count),
+        4 => extensions::inverses::<F31t3>(value, step, count),
+        5 => extensions::inverses::<F17t5>(value, step, count),
+        6 => extensions::inverses::<BabyBearx4>(value, step, count),
+        _ => {}
+    }
+}

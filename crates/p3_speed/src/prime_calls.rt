@@ -1,0 +1,170 @@
+//! The calls from C at F17, BabyBear and Goldilocks. The argument `field` is 0, 1 or 2 for these; at
+//! every other number the answer is 0, and so it is where the memory is refused.
+use crate::primes;
+use p3_bench_prime::baby_bear::BabyBear;
+use p3_bench_prime::goldilocks::Goldilocks;
+use p3_bench_prime::small::F17;
+use std::alloc::Global;
+
+/// The product of `start` and `count` times `factor`.
+#[unsafe(no_mangle)]
+pub extern "C" fn p3_speed_product_chain(field: u32, start: u64, factor: u64, count: u64) -> u64 {
+    match field {
+        0 => primes::product_chain::<F17>(start, factor, count),
+        1 => primes::product_chain::<BabyBear>(start, factor, count),
+        2 => primes::product_chain::<Goldilocks>(start, factor, count),
+        _ => 0,
+    }
+}
+
+/// The left slice, multiplied place by place by the right one `rounds` times: its dot product with
+/// the right one.
+#[unsafe(no_mangle)]
+pub extern "C" fn p3_speed_multiplied_slices(
+    field: u32,
+    alloc: Global,
+    left: &[u64],
+    right: &[u64],
+    rounds: u64,
+) -> u64 {
+    if left.len() != right.len() {
+        return 0;
+    }
+    let answer = match field {
+        0 => primes::multiplied_slices::<F17>(alloc, left, right, rounds),
+        1 => primes::multiplied_slices::<BabyBear>(alloc, left, right, rounds),
+        2 => primes::multiplied_slices::<Goldilocks>(alloc, left, right, rounds),
+        _ => Ok(0),
+    };
+    answer.unwrap_or(0)
+}
+
+/// The left slice, to which the right one is added `rounds` times: its dot product with the right
+/// one.
+#[unsafe(no_mangle)]
+pub extern "C" fn p3_speed_added_slices(
+    field: u32,
+    alloc: Global,
+    left: &[u64],
+    right: &[u64],
+    rounds: u64,
+) -> u64 {
+    if left.len() != right.len() {
+        return 0;
+    }
+    let answer = match field {
+        0 => primes::added_slices::<F17>(alloc, left, right, rounds),
+        1 => primes::added_slices::<BabyBear>(alloc, left, right, rounds),
+        2 => primes::added_slices::<Goldilocks>(alloc, left, right, rounds),
+        _ => Ok(0),
+    };
+    answer.unwrap_or(0)
+}
+
+/// Sums of the slice, each written over a place of it: the last of `rounds`.
+#[unsafe(no_mangle)]
+pub extern "C" fn p3_speed_sums(field: u32, alloc: Global, numbers: &[u64], rounds: usize) -> u64 {
+    let answer = match field {
+        0 => primes::sums::<F17>(alloc, numbers, rounds),
+        1 => primes::sums::<BabyBear>(alloc, numbers, rounds),
+        2 => primes::sums::<Goldilocks>(alloc, numbers, rounds),
+        _ => Ok(0),
+    };
+    answer.unwrap_or(0)
+}
+
+/// The power `exponent` and `step` more, `count` times.
+#[unsafe(no_mangle)]
+pub extern "C" fn p3_speed_power_chain(
+    field: u32,
+    start: u64,
+    step: u64,
+    exponent: u64,
+    count: u64,
+) -> u64 {
+    match field {
+        0 => primes::power_chain::<F17>(start, step, exponent, count),
+        1 => primes::power_chain::<BabyBear>(start, step, exponent, count),
+        2 => primes::power_chain::<Goldilocks>(start, step, exponent, count),
+        _ => 0,
+    }
+}
+
+/// Dot products of the slices, each written over a place of the left one: the last of `rounds`.
+#[unsafe(no_mangle)]
+pub extern "C" fn p3_speed_dot_products(
+    field: u32,
+    alloc: Global,
+    left: &[u64],
+    right: &[u64],
+    rounds: usize,
+) -> u64 {
+    if left.len() != right.len() {
+        return 0;
+    }
+    let answer = match field {
+        0 => primes::dot_products::<F17>(alloc, left, right, rounds),
+        1 => primes::dot_products::<BabyBear>(alloc, left, right, rounds),
+        2 => primes::dot_products::<Goldilocks>(alloc, left, right, rounds),
+        _ => Ok(0),
+    };
+    answer.unwrap_or(0)
+}
+
+/// The value of the polynomial at `start`, at that value, and so on.
+#[unsafe(no_mangle)]
+pub extern "C" fn p3_speed_horner_chain(
+    field: u32,
+    alloc: Global,
+    numbers: &[u64],
+    start: u64,
+    rounds: u64,
+) -> u64 {
+    let answer = match field {
+        0 => primes::horner_chain::<F17>(alloc, numbers, start, rounds),
+        1 => primes::horner_chain::<BabyBear>(alloc, numbers, start, rounds),
+        2 => primes::horner_chain::<Goldilocks>(alloc, numbers, start, rounds),
+        _ => Ok(0),
+    };
+    answer.unwrap_or(0)
+}
+
+/// Lists of powers of `base`, each from the last item of the list before on: the last item.
+#[unsafe(no_mangle)]
+pub extern "C" fn p3_speed_power_lists(
+    field: u32,
+    alloc: Global,
+    base: u64,
+    length: usize,
+    rounds: u64,
+) -> u64 {
+    let answer = match field {
+        0 => primes::power_lists::<F17>(alloc, base, length, rounds),
+        1 => primes::power_lists::<BabyBear>(alloc, base, length, rounds),
+        2 => primes::power_lists::<Goldilocks>(alloc, base, length, rounds),
+        _ => Ok(0),
+    };
+    answer.unwrap_or(0)
+}
+
+/// The inverse and `step` more, `count` times.
+#[unsafe(no_mangle)]
+pub extern "C" fn p3_speed_inverse_chain(field: u32, start: u64, step: u64, count: u64) -> u64 {
+    match field {
+        0 => primes::inverse_chain::<F17>(start, step, count),
+        1 => primes::inverse_chain::<BabyBear>(start, step, count),
+        2 => primes::inverse_chain::<Goldilocks>(start, step, count),
+        _ => 0,
+    }
+}
+
+/// The root of the square and `step` more, `count` times.
+#[unsafe(no_mangle)]
+pub extern "C" fn p3_speed_root_chain(field: u32, start: u64, step: u64, count: u64) -> u64 {
+    match field {
+        0 => primes::root_chain::<F17>(start, step, count),
+        1 => primes::root_chain::<BabyBear>(start, step, count),
+        2 => primes::root_chain::<Goldilocks>(start, step, count),
+        _ => 0,
+    }
+}
