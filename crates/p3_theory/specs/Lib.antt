@@ -68,6 +68,7 @@ pub mod OrbitLists
 pub mod OrbitProducts
 pub mod PlaceProducts
 pub mod ZeroedProducts
+pub mod WrittenItems
 pub mod QuadraticTower
 pub mod ScaledPowers
 pub mod ParallelStreams

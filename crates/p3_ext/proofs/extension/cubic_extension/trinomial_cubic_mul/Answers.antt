@@ -4,7 +4,7 @@ use Rattle.p3_theory.specs.Polynomial.{quotient_mul}
 use Rattle.p3_theory.specs.DotProduct.{dot}
 use Rattle.p3_theory.specs.ListItems.{items_are}
 use Rattle.p3_theory.specs.Trinomials.{cubic_trinomial, cubic_product}
-use Rattle.p3_ext.proofs.WrittenItems.{triple-set}
+use Rattle.p3_theory.specs.WrittenItems.{triple-set}
 use Rattle.p3_ext.proofs.extension.cubic_extension.trinomial_cubic_mul.Goals as goal
 
 pub returns : goal.returns

@@ -4,7 +4,7 @@ use Rattle.p3_theory.specs.Polynomial.{quotient_mul}
 use Rattle.p3_theory.specs.DotProduct.{dot}
 use Rattle.p3_theory.specs.ListItems.{items_are}
 use Rattle.p3_theory.specs.Trinomials.{quintic_trinomial, quintic_square}
-use Rattle.p3_ext.proofs.WrittenItems.{quintuple-set}
+use Rattle.p3_theory.specs.WrittenItems.{quintuple-set}
 use Rattle.p3_ext.proofs.extension.quintic_extension.quintic_square.Goals as goal
 
 pub returns : goal.returns

@@ -3,7 +3,7 @@ use Rattle.p3_theory.specs.Ring.{ring_of, subtract}
 use Rattle.p3_theory.specs.Polynomial.{quotient_mul}
 use Rattle.p3_theory.specs.ListItems.{items_are}
 use Rattle.p3_theory.specs.Trinomials.{quintic_trinomial, quintic_product}
-use Rattle.p3_ext.proofs.WrittenItems.{quintuple-set}
+use Rattle.p3_theory.specs.WrittenItems.{quintuple-set}
 use Rattle.p3_ext.proofs.extension.quintic_extension.trinomial_quintic_mul.Goals as goal
 
 pub returns : goal.returns
