@@ -9,7 +9,7 @@ pub struct Case {
     pub plain: Box<dyn Fn(u64) -> u64>,
 }
 
-const RUNS: usize = 15;
+const RUNS: usize = 75;
 const NANOSECONDS_A_RUN: u64 = 3_000_000;
 
 /// Nanoseconds that the call takes, and its answer.
@@ -36,17 +36,19 @@ fn median(times: &mut [f64]) -> f64 {
     times[times.len() / 2]
 }
 
-/// Runs both sides in turn, checks that they answer the same, and prints the row.
+/// Runs both sides in turn, checks that they answer the same, and prints the row: the best of each
+/// side and their ratio, the median of each, and the median of the ratios of runs next to each other.
 fn print_row(case: &Case) -> bool {
     let rounds = rounds_of(case);
     let each = (rounds * case.operations) as f64;
-    let (mut library, mut plain) = (Vec::new(), Vec::new());
+    let (mut library, mut plain, mut ratios) = (Vec::new(), Vec::new(), Vec::new());
     let mut agree = true;
     for _ in 0..RUNS {
-        let (taken, answer) = time(&case.library, rounds);
-        library.push(taken / each);
-        let (taken, wanted) = time(&case.plain, rounds);
-        plain.push(taken / each);
+        let (proved, answer) = time(&case.library, rounds);
+        let (written, wanted) = time(&case.plain, rounds);
+        library.push(proved / each);
+        plain.push(written / each);
+        ratios.push(proved / written);
         agree &= answer == wanted;
     }
     let medians = (median(&mut library), median(&mut plain));
@@ -59,7 +61,7 @@ fn print_row(case: &Case) -> bool {
         bests.0 / bests.1,
         medians.0,
         medians.1,
-        medians.0 / medians.1,
+        median(&mut ratios),
         if agree { "" } else { " THE VALUES DIFFER" },
     );
     agree
@@ -67,7 +69,7 @@ fn print_row(case: &Case) -> bool {
 
 /// Prints the rows whose names have the word, and whether all values agree.
 pub fn print(cases: &[Case], word: &str) -> bool {
-    println!("| nanoseconds an operation           | library   | Rust      | ratio | median    | median    | ratio |");
+    println!("| nanoseconds an operation           | library   | Rust      | ratio | median    | median    | pairs |");
     println!("|------------------------------------|-----------|-----------|-------|-----------|-----------|-------|");
     let mut agree = true;
     for case in cases.iter().filter(|case| case.name.contains(word)) {

@@ -154,8 +154,8 @@ pub fn dispatch_chunked_mixed_dot_product<A: Algebra<F>, F: PrimeCharacteristicR
 }
 
 /// The sum of the products of values and elements of F, position by position: `mixed_dot_product`
-/// of each CHUNK positions, and one product at a time for the others. Upstream's
-/// `chunked_linear_combination`.
+/// of each CHUNK positions, and of the others. Upstream's `chunked_linear_combination`, which adds
+/// the products of the others one at a time.
 #[inline]
 pub fn chunked_linear_combination<const CHUNK: usize, A: Algebra<F>, F: PrimeCharacteristicRing>(
     values: &[A],
@@ -175,5 +175,10 @@ pub fn chunked_linear_combination<const CHUNK: usize, A: Algebra<F>, F: PrimeCha
         sum += chunk;
         start += CHUNK;
     }
-    add_products(sum, &values[start..], &coeffs[start..])
+    if start < values.len() {
+        let last = A::mixed_dot_product(&values[start..], &coeffs[start..]);
+        sum + last
+    } else {
+        sum
+    }
 }

@@ -2,3 +2,4 @@ pub mod Sums
 pub mod Euclid
 pub mod ArrayItems
 pub mod WordProducts
+pub mod Remainders

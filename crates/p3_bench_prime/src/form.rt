@@ -1,6 +1,7 @@
 ghost use Rattle.std.specs.Prelude.{◌≡◌, ◌<◌, ◌*◌, ◌%◌, ◌^◌, ℕ};
 ghost use Rattle.p3_bench_prime.specs.Forms.{IsForm};
 
+use crate::remainder::{remainder_by_reciprocal, remainder_of_words};
 use std::marker::PhantomData;
 
 /// How words of 32 bits stand for the residues modulo an order. A type that implements it is a
@@ -96,18 +97,25 @@ impl<M: Modulus> Form for Plain<M> {
         residue
     }
 
+    /// Where products fit 32 bits, their remainder there is the cheapest.
     #[inline]
     fn product(left: u32, right: u32) -> u32 {
-        (left as u64 * right as u64 % M::ORDER as u64) as u32
+        if M::ORDER < 0x1_0000 {
+            left * right % M::ORDER
+        } else {
+            remainder_by_reciprocal(left as u64 * right as u64, M::ORDER)
+        }
     }
 
-    /// Short sums fit 64 bits, where a remainder is cheaper.
+    /// Most short sums are one word.
     #[inline]
     fn reduce_products(sum: u128) -> u32 {
-        if sum <= 0xffff_ffff_ffff_ffff {
-            (sum as u64 % M::ORDER as u64) as u32
+        let low = (sum & 0xffff_ffff_ffff_ffff) as u64;
+        let high = (sum >> 64) as u64;
+        if high == 0 {
+            (low % M::ORDER as u64) as u32
         } else {
-            (sum % M::ORDER as u128) as u32
+            remainder_of_words(low, high, M::ORDER)
         }
     }
 }

@@ -52,15 +52,17 @@ fn reduce128(x: u128) -> u64
     }
 }
 
-/// The sum of two residues.
+/// The sum of two residues: the first less what the second lacks of the order, and the order more
+/// where that borrows. Written so, it is compiled without a jump, in loops too.
 #[inline]
 fn add_residues(a: u64, b: u64) -> u64
     requires left { a < P }
     requires right { b < P }
     ensures { result ≡ (a + b) % P }
 {
-    let room = P - b;
-    if a < room { a + b } else { a - room }
+    let (less, borrowed) = a.overflowing_sub(P - b);
+    let back = if borrowed { P } else { 0 };
+    less.wrapping_add(back)
 }
 
 /// The difference of two residues.

@@ -12,6 +12,7 @@ pub mod goldilocks;
 mod inverse;
 pub mod koala_bear;
 pub mod monomials;
+mod remainder;
 pub mod small;
 #[cfg(test)]
 mod tests;

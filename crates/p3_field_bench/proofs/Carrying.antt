@@ -18,7 +18,7 @@ use Rattle.p3_field_bench.proofs.LineLemmas.{lines_of-line, lines_of-lines, line
 
 -- the line that is pending
 abbrev pub pending_of : Machine → List ℕ
-pending_of m = take m.used m.line
+pending_of m = take m.line.used m.line.bytes
 
 -- whatever follows the pending bytes, the lines so far come first
 pub lines_so_far : (m : Machine) (before text : List ℕ) (st : Standing m before text) (more : List ℕ) → lines_of (before ++ more) ≡ st.lines ++ lines_of (pending_of m ++ more)
@@ -33,10 +33,10 @@ cut_line m before text st more =
     ∙ ap (λ l. st.lines ++ l) (lines_of-line (pending_of m) more st.pending)
 
 -- a line was carried out
-pub goes : (m after : Machine) (before text out : List ℕ) → Standing m before text → May (state_of m.bank) (pending_of m) (Continues (state_of after.bank) out) → after.number ≡ m.number + 1 → after.used ≡ 0 → Standing after (before ++ 10 ∷ []) (text ++ out)
+pub goes : (m after : Machine) (before text out : List ℕ) → Standing m before text → May (state_of m.bank) (pending_of m) (Continues (state_of after.bank) out) → after.number ≡ m.number + 1 → after.line.used ≡ 0 → Standing after (before ++ 10 ∷ []) (text ++ out)
 goes m after before text out st may number used =
     let line = pending_of m in
-    let none : pending_of after ≡ [] = ap (λ u. take u after.line) used in
+    let none : pending_of after ≡ [] = ap (λ u. take u after.line.bytes) used in
     record {
       lines = st.lines ++ line ∷ [];
       each = HaveNoEnd-append st.lines (line ∷ []) st.each (st.pending, tt);
@@ -160,9 +160,9 @@ pub lines_now : (m : Machine) (before text : List ℕ) (st : Standing m before t
 lines_now m before text st = ap lines_of (sym (append-nil before)) ∙ lines_so_far m before text st [] ∙ ap (λ l. st.lines ++ lines_of l) (append-nil (pending_of m))
 
 -- nothing is pending at the end
-pub nothing_left : (m : Machine) (before text : List ℕ) → Standing m before text → m.used ≡ 0 → IsText (lines_of before) (text ++ []) 0
+pub nothing_left : (m : Machine) (before text : List ℕ) → Standing m before text → m.line.used ≡ 0 → IsText (lines_of before) (text ++ []) 0
 nothing_left m before text st e =
-    let none : lines_of (pending_of m) ≡ [] = ap (λ u. lines_of (take u m.line)) e in
+    let none : lines_of (pending_of m) ≡ [] = ap (λ u. lines_of (take u m.line.bytes)) e in
     subst (λ (t : List ℕ). IsText (lines_of before) t 0) (sym (append-nil text))
     (subst (λ (l : List (List ℕ)). IsText l text 0) (sym (lines_now m before text st ∙ ap (λ l. st.lines ++ l) none ∙ append-nil st.lines)) (so_far m before text st))
 
@@ -176,5 +176,5 @@ last_line m before text out status st some h =
     subst (λ (l : List (List ℕ)). IsText l (text ++ out) status) (sym (lines_now m before text st ∙ ap (λ l. st.lines ++ l) (rest_line (pending_of m) st.pending some)))
     (st.goes_on (pending_of m ∷ []) out status h)
 
-pub some_pending : (m : Machine) → (m.used ≡ 0 → ⊥) → 0 < length (pending_of m)
-some_pending m h = let fits : m.used ≤ length m.line = omega (arith, m.full, m.within) in omega (arith, length-take-le m.used m.line fits)
+pub some_pending : (m : Machine) → (m.line.used ≡ 0 → ⊥) → 0 < length (pending_of m)
+some_pending m h = let fits : m.line.used ≤ length m.line.bytes = omega (arith, m.line.full, m.line.within) in omega (arith, length-take-le m.line.used m.line.bytes fits)

@@ -17,9 +17,9 @@ use Rattle.p3_field_bench.specs.Text.{IsTextFrom, IsText, rest_of, IsCutShort, R
 use Rattle.p3_field_bench.specs.Standing.{Standing, Carries, Ended, EndedAt, StopsAtFailure, Finishes, HasNoEnd, HaveNoEnd, ended}
 use Rattle.p3_field_bench.proofs.Carrying.{pending_of, so_far, lines_now, front_rest}
 
-pub begin : (m : Machine) → m.number ≡ 1 → m.used ≡ 0 → state_of m.bank ≡ no_field → Standing m [] []
+pub begin : (m : Machine) → m.number ≡ 1 → m.line.used ≡ 0 → state_of m.bank ≡ no_field → Standing m [] []
 begin m number used state =
-    let none : pending_of m ≡ [] = ap (λ u. take u m.line) used in
+    let none : pending_of m ≡ [] = ap (λ u. take u m.line.bytes) used in
     record {
       lines = [];
       each = tt;
@@ -66,7 +66,7 @@ cut_short m before text st =
     let e = ends_so_far m before text st in
     let first : take (ends before) (lines_of before) ≡ st.lines = ap (λ n. take n (lines_of before)) e ∙ ap (take (length st.lines)) (lines_now m before text st) ∙ take_at st.lines (lines_of (pending_of m)) (length st.lines) refl in
     let number : m.number ≡ ends before + 1 = omega (arith, st.number) in
-    let short : length (rest_of before) ≤ 256 = omega (arith, ap length (ap rest_of st.bytes_are ∙ rest_of-lines st.lines (pending_of m) st.pending), length-take m.used m.line, m.within) in
+    let short : length (rest_of before) ≤ 256 = omega (arith, ap length (ap rest_of st.bytes_are ∙ rest_of-lines st.lines (pending_of m) st.pending), length-take m.line.used m.line.bytes, m.line.within) in
     (text, subst (λ (l : List (List ℕ)). IsText l text 0) (sym first) (so_far m before text st), short, ap (λ n. text ++ fault_line n ReadFault) number)
 
 pub ends_so : (r w x y : Bool) (end : Type 0) (bytes text : List ℕ) (status : ℕ) → r ≡ x → w ≡ y → RunEnds x y end bytes text status → RunEnds r w end bytes text status

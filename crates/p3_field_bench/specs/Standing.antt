@@ -27,8 +27,8 @@ ended line = line ++ 10 ∷ []
 pub record Standing (machine : Machine) (bytes text : List ℕ) : Type 0 where
   pub lines : List (List ℕ)
   pub each : HaveNoEnd lines
-  pub bytes_are : bytes ≡ flat_map ended lines ++ take machine.used machine.line
-  pub pending : HasNoEnd (take machine.used machine.line)
+  pub bytes_are : bytes ≡ flat_map ended lines ++ take machine.line.used machine.line.bytes
+  pub pending : HasNoEnd (take machine.line.used machine.line.bytes)
   pub number : machine.number ≡ length lines + 1
   -- whatever the lines from here on make, is made behind this text
   pub goes_on : (ls : List (List ℕ)) (more : List ℕ) (status : ℕ) → IsTextFrom machine.number (state_of machine.bank) ls more status → IsText (lines ++ ls) (text ++ more) status

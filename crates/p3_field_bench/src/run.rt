@@ -21,14 +21,17 @@ fn carry_out<A: Allocator + Copy, W: Sink>(
     ensures number { machine.new.number ≤ machine.old.number + 1 }
     ensures failure { StopsAtFailure result (W.failed writer.old) (W.failed writer.new) }
 {
-    let line = machine.line;
-    match step(alloc, &mut machine.bank, &line[..machine.used]) {
+    match step(
+        alloc,
+        &mut machine.bank,
+        &machine.line.bytes[..machine.line.used],
+    ) {
         Err(fault) => Err(Stop::AtFault(fault)),
         Ok(text) => match write_all(writer, &text) {
             Err(_) => Err(Stop::AtWrite),
             Ok(()) => {
                 machine.number += 1;
-                machine.used = 0;
+                machine.line.used = 0;
                 Ok(())
             }
         },
@@ -48,11 +51,11 @@ fn take_byte<A: Allocator + Copy, W: Sink>(
     ensures failure { StopsAtFailure result (W.failed writer.old) (W.failed writer.new) }
 {
     if byte != b'\n' {
-        if machine.used == 256 {
+        if machine.line.used == 256 {
             return Err(Stop::AtFault(Fault::LongLine));
         }
-        machine.line[machine.used] = byte;
-        machine.used += 1;
+        machine.line.bytes[machine.line.used] = byte;
+        machine.line.used += 1;
         return Ok(());
     }
     carry_out(alloc, machine, writer)
@@ -104,11 +107,14 @@ fn end_at<W: Sink>(writer: &mut W, number: u128, stop: Stop) -> u8
 fn finish<A: Allocator + Copy, W: Sink>(alloc: A, machine: &mut Machine, writer: &mut W) -> u8
     ensures { Finishes machine.old (W.contents writer.old) (W.contents writer.new) (W.failed writer.old) (W.failed writer.new) result }
 {
-    if machine.used == 0 {
+    if machine.line.used == 0 {
         return 0;
     }
-    let line = machine.line;
-    match step(alloc, &mut machine.bank, &line[..machine.used]) {
+    match step(
+        alloc,
+        &mut machine.bank,
+        &machine.line.bytes[..machine.line.used],
+    ) {
         Err(fault) => end_with(writer, machine.number, fault),
         Ok(text) => match write_all(writer, &text) {
             Ok(()) => 0,

@@ -1,4 +1,4 @@
-use Rattle.std.proofs.Common.{arith}
+use Rattle.std.proofs.Common.{arith, ap, ◌∙◌}
 use Rattle.p3_theory.specs.MixedDotProduct.{mixed-chunk, mixed-rest}
 use Rattle.p3_base.proofs.linear_combination.chunked_linear_combination.Goals as goal
 
@@ -10,7 +10,9 @@ loop-start-preserved g c =
           c.add_assign.new.self _ c.mixed_dot_product-chunk.ensures (m.add_assigns.answer _ _ _ c.add_assign.ensures.after) c.loop-start.invariant.1,
     )
 
-pub returns : goal.returns
-returns g c =
-    mixed-rest g.met.A.PrimeCharacteristicRing.ring g.A.Algebra.embed c.args.values.now c.args.coeffs.now c.requires.lengths c.loop-start.start c.loop-start.sum c.add_products.result _
-    c.add_products.ensures c.loop-start.invariant.1
+pub returns-then-start-values : goal.returns-then-start-values
+returns-then-start-values g c =
+    let o = g.A.PrimeCharacteristicRing.ops in
+    let m = g.met.A.PrimeCharacteristicRing in
+    mixed-rest m.ring g.A.Algebra.embed c.args.values.now c.args.coeffs.now c.requires.lengths c.loop-start.start c.loop-start.sum c.add.result _
+    (m.adds.answer _ _ _ c.add.ensures ∙ ap (o.add c.loop-start.sum) c.mixed_dot_product-last.ensures) c.loop-start.invariant.1

@@ -1,4 +1,4 @@
-use Rattle.std.proofs.Common.{ℕ, List, Ok, ◌≢◌, inr, refl, subst, sym}
+use Rattle.std.proofs.Common.{ℕ, List, ◌≢◌, inr, refl, subst}
 use Rattle.p3_field_bench.specs.declared.faults.Fault.TheVariants.{NoRoot}
 use Rattle.p3_field_bench.specs.Bank.{state_at}
 use Rattle.p3_field_bench.specs.Effects.{At, Faults, TakesRoot, IsRoot, register_at}

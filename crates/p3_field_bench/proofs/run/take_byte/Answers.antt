@@ -7,13 +7,13 @@ use Rattle.p3_field_bench.proofs.run.take_byte.Goals as goal
 pub returns-then-machine-eq256-clause-carries : goal.returns-then-machine-eq256-clause-carries
 returns-then-machine-eq256-clause-carries g c =
     let m = c.args.machine.now in
-    let fits : m.used ≤ length m.line = omega (arith, m.full) in
-    λ before text st. ([], Appends-nil _, overlong m before text c.args.byte st c.if-byte-ne10.true (omega (arith, length-take-le m.used m.line fits)))
+    let fits : m.line.used ≤ length m.line.bytes = omega (arith, m.line.full) in
+    λ before text st. ([], Appends-nil _, overlong m before text c.args.byte st c.if-byte-ne10.true (omega (arith, length-take-le m.line.used m.line.bytes fits)))
 
 pub returns-then-byte-ne10-clause-carries : goal.returns-then-byte-ne10-clause-carries
 returns-then-byte-ne10-clause-carries g c =
     let m = c.args.machine.now in
-    λ before text st. ([], Appends-nil _, letter m _ before text c.args.byte st c.if-byte-ne10.true refl refl (take_more_set m.line m.used c.args.byte (omega (arith, m.full, m.within))))
+    λ before text st. ([], Appends-nil _, letter m _ before text c.args.byte st c.if-byte-ne10.true refl refl (take_more_set m.line.bytes m.line.used c.args.byte (omega (arith, m.line.full, m.line.within))))
 
 pub returns-clause-carries : goal.returns-clause-carries
 returns-clause-carries g c = rw c.if-byte-ne10.false c.carry_out.ensures.carries

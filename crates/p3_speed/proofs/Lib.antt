@@ -1,0 +1,4 @@
+mod ListSteps
+mod PlaceLaws
+mod RoundLaws
+mod WrittenPlaces

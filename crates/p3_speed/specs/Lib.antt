@@ -1,0 +1,4 @@
+pub mod Answers
+pub mod Overwriting
+pub mod Places
+pub mod Steps
