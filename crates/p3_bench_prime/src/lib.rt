@@ -14,8 +14,6 @@ pub mod koala_bear;
 pub mod monomials;
 mod remainder;
 pub mod small;
-#[cfg(test)]
-mod tests;
 pub mod trinomial_constants;
 pub mod two_adic;
 pub mod two_adic_constants;

@@ -13,19 +13,13 @@ pub mod laws;
 mod machine;
 mod memory;
 mod names;
-#[cfg(test)]
-mod outside_runs;
 mod primes;
-#[cfg(test)]
-mod refusing;
 mod registers;
 mod report;
 mod run;
 mod standard;
 mod step;
 mod streams;
-#[cfg(test)]
-mod tests;
 mod trinomial_names;
 mod words;
 

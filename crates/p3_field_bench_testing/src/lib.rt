@@ -1,0 +1,10 @@
+//! Tests of the calculator: runs over sources and sinks in memory, with outside texts, failing
+//! reads and writes, and refused growths.
+#![tactic(auto)]
+
+#[cfg(test)]
+#[cfg(test)]
+#[cfg(test)]
+mod outside_runs;
+#[cfg(test)]
+mod runs;
