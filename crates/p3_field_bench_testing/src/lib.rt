@@ -3,7 +3,9 @@
 #![tactic(auto)]
 
 #[cfg(test)]
+mod extensions;
 #[cfg(test)]
+mod laws;
 #[cfg(test)]
 mod outside_runs;
 #[cfg(test)]

@@ -24,8 +24,13 @@ use std::test::Fail;
 trait Tabled: Copy {
     type Row: Copy + PartialEq + Debug;
 
+    /// The type of the field's values.
+    type Value;
+
     /// The value with these canonical coefficients.
     fn of(row: Self::Row) -> Self;
+
+    fn value(self) -> Self::Value;
 
     /// The canonical coefficients.
     fn row(&self) -> Self::Row;
@@ -49,6 +54,12 @@ trait Tabled: Copy {
 
 impl<W: BinomialConstants<D>, const D: usize> Tabled for BinomialExtensionField<Fp<W>, D> {
     type Row = [u64; D];
+
+    type Value = Self;
+
+    fn value(self) -> Self {
+        self
+    }
 
     fn of(row: [u64; D]) -> Self {
         let mut coefficients = [Fp::<W>::zero(); D];
@@ -103,58 +114,79 @@ impl<W: BinomialConstants<D>, const D: usize> Tabled for BinomialExtensionField<
     }
 }
 
-impl Tabled for F31c {
+/// A complex value over `F31`: a type of this crate, since another crate could give `F31` the
+/// constants of degree 2, and so the impl above.
+#[derive(Clone, Copy)]
+struct ComplexValue(F31c);
+
+impl Tabled for ComplexValue {
     type Row = [u64; 2];
 
+    type Value = F31c;
+
     fn of(row: [u64; 2]) -> Self {
-        F31c::new_complex(F31::from_u64(row[0]), F31::from_u64(row[1]))
+        ComplexValue(F31c::new_complex(F31::from_u64(row[0]), F31::from_u64(row[1])))
+    }
+
+    fn value(self) -> F31c {
+        self.0
     }
 
     fn row(&self) -> [u64; 2] {
         [
-            self.real().as_canonical_u64(),
-            self.imag().as_canonical_u64(),
+            self.0.real().as_canonical_u64(),
+            self.0.imag().as_canonical_u64(),
         ]
     }
 
     fn squared(&self) -> Self {
-        self.square()
+        ComplexValue(self.0.square())
     }
 
     fn times(self, other: Self) -> Self {
-        self * other
+        ComplexValue(self.0 * other.0)
     }
 
     fn inverse(&self) -> Option<Self> {
-        self.try_inverse()
+        match self.0.try_inverse() {
+            Some(x) => Some(ComplexValue(x)),
+            None => None,
+        }
     }
 
     fn image(&self) -> Self {
-        self.frobenius()
+        ComplexValue(self.0.frobenius())
     }
 
     fn image_after(&self, count: usize) -> Self {
-        self.repeated_frobenius(count)
+        ComplexValue(self.0.repeated_frobenius(count))
     }
 
     fn base_value(&self) -> Option<u64> {
-        match ExtensionField::<F31>::as_base(self) {
+        match ExtensionField::<F31>::as_base(&self.0) {
             Some(c) => Some(c.as_canonical_u64()),
             None => None,
         }
     }
 
     fn orbit(self, alloc: Global) -> Result<Vec<Self>, AllocError> {
-        self.galois_orbit(alloc)
+        let orbit = self.0.galois_orbit(alloc)?;
+        orbit.iter().map(|x| ComplexValue(*x)).collect(alloc)
     }
 
     fn text(&self, alloc: Global) -> Result<String, AllocError> {
-        self.to_string(alloc)
+        self.0.to_string(alloc)
     }
 }
 
 impl<W: CubicConstants> Tabled for CubicTrinomialExtensionField<Fp<W>> {
     type Row = [u64; 3];
+
+    type Value = Self;
+
+    fn value(self) -> Self {
+        self
+    }
 
     fn of(row: [u64; 3]) -> Self {
         let mut coefficients = [Fp::<W>::zero(); 3];
@@ -211,6 +243,12 @@ impl<W: CubicConstants> Tabled for CubicTrinomialExtensionField<Fp<W>> {
 
 impl<W: QuinticConstants> Tabled for QuinticTrinomialExtensionField<Fp<W>> {
     type Row = [u64; 5];
+
+    type Value = Self;
+
+    fn value(self) -> Self {
+        self
+    }
 
     fn of(row: [u64; 5]) -> Self {
         let mut coefficients = [Fp::<W>::zero(); 5];
@@ -347,14 +385,14 @@ fn assert_base_values<T: Tabled>(rt: &impl Abort, rows: &[(T::Row, Option<u64>)]
 }
 
 /// Asserts that each row has values and the words of their bytes.
-fn assert_streams<T: RawDataSerializable + Tabled>(
+fn assert_streams<T: Tabled<Value: RawDataSerializable>>(
     rt: &(impl Abort + AllocGlobal),
     rows: &[(&[T::Row], &[u64])],
 ) -> Result<(), Fail> {
     for row in rows {
         let (items, words) = *row;
-        let values = items.iter().map(|x| T::of(*x));
-        let stream: Vec<u64> = T::into_u64_stream(values).collect(rt.alloc())?;
+        let values = items.iter().map(|x| T::of(*x).value());
+        let stream: Vec<u64> = T::Value::into_u64_stream(values).collect(rt.alloc())?;
         assert_eq!(rt; stream.as_slice(), words);
     }
     Ok(())
@@ -424,8 +462,8 @@ fn f31x6(rt: HostRuntime) -> Result<(), Fail> {
 
 #[test]
 fn f31c(rt: HostRuntime) -> Result<(), Fail> {
-    assert_streams::<F31c>(&rt, tables::F31C.streams)?;
-    assert_table::<F31c>(&rt, &tables::F31C)
+    assert_streams::<ComplexValue>(&rt, tables::F31C.streams)?;
+    assert_table::<ComplexValue>(&rt, &tables::F31C)
 }
 
 #[test]

@@ -2,11 +2,11 @@
 //! f17x8, f31x6, f31t3, f17t5 and bbx4; at every other number nothing is done. A value is the slice
 //! of its coefficients, and what is computed is written over it.
 ghost use Rattle.std.specs.Prelude.{◌≡◌, ◌<◌};
-ghost use Rattle.p3_speed.specs.Answers.{product_over, square_over, IsInverseOver};
+ghost use Rattle.p3_speed_loops.specs.Answers.{product_over, square_over, IsInverseOver};
 
-use crate::extensions;
-use crate::extensions::{Chains, Numbered};
 use p3_bench_prime::extensions::{BabyBearx4, F17t5, F17x2, F17x4, F17x8, F31t3, F31x6};
+use p3_speed_loops::extensions;
+use p3_speed_loops::extensions::{Chains, Numbered};
 
 /// Multiplies the value by the factor, `count` times.
 #[unsafe(no_mangle)]

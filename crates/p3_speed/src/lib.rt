@@ -1,10 +1,7 @@
-//! Loops over the types of the bench, to be called from C and timed: each runs the library's own
-//! code as often as it is told, and answers a number that depends on all of it.
+//! The calls from C of the loops that are timed, at the types of the bench, and one of the
+//! calculator.
 #![tactic(auto)]
 
 pub mod calculator_call;
 pub mod extension_calls;
-mod extensions;
 pub mod prime_calls;
-mod primes;
-mod residues;

@@ -5,15 +5,15 @@ ghost use Rattle.p3_theory.specs.Frobenius.{iterate};
 ghost use Rattle.p3_theory.specs.GeometricSequence.{geometric_term};
 ghost use Rattle.p3_theory.specs.Multiples.{of_nat};
 ghost use Rattle.p3_theory.specs.Powers.{power};
-ghost use Rattle.p3_speed.specs.Answers.{OrZero, multiplied, added, last_sum, last_dot, last_value};
-ghost use Rattle.p3_speed.specs.Steps.{Reaches, IsInverseAndMore, IsRootOfSquareAndMore};
+ghost use Rattle.p3_speed_loops.specs.Answers.{OrZero, multiplied, added, last_sum, last_dot, last_value};
+ghost use Rattle.p3_speed_loops.specs.Steps.{Reaches, IsInverseAndMore, IsRootOfSquareAndMore};
 
-use crate::primes;
 use p3_bench_prime::baby_bear::BabyBear;
 use p3_bench_prime::goldilocks::Goldilocks;
 use p3_bench_prime::small::F17;
 use p3_field::integers::Quotient;
 use p3_field::{Field, PrimeCharacteristicRing};
+use p3_speed_loops::primes;
 use std::alloc::Global;
 
 /// The product of `start` and `count` times `factor`.
