@@ -1,0 +1,30 @@
+//! Tests of extensions, and of square roots over prime fields and extensions: worked rows and
+//! outside values as tables.
+#![tactic(auto)]
+
+#[cfg(test)]
+mod complex_tower;
+#[cfg(test)]
+mod complex_values;
+#[cfg(test)]
+mod extension_constants;
+#[cfg(test)]
+mod extension_root_tables;
+#[cfg(test)]
+mod extension_roots;
+#[cfg(test)]
+mod extension_rows;
+#[cfg(test)]
+mod extension_tables;
+#[cfg(test)]
+mod extension_values;
+#[cfg(test)]
+mod extensions;
+#[cfg(test)]
+mod square_root_tables;
+#[cfg(test)]
+mod square_roots;
+#[cfg(test)]
+mod trinomial_tables;
+#[cfg(test)]
+mod two_adic_extensions;
