@@ -3,20 +3,8 @@
 use p3_bench_prime::complex_tower::F31cx2;
 use p3_bench_prime::extensions::F31c;
 use p3_bench_prime::small::F31;
-use p3_field::extension::{BinomialExtensionField, Complex, HasComplexBinomialExtension};
+use p3_field::extension::HasComplexBinomialExtension;
 use p3_field::{PrimeCharacteristicRing, RawDataSerializable};
-
-/// The extension of degree 2 over the complex values of F. The products on it stand in functions
-/// generic in F: at the concrete type the toolchain meets its limits.
-type Tower<F> = BinomialExtensionField<Complex<F>, 2>;
-
-fn square_of<F: HasComplexBinomialExtension<2>>(x: &Tower<F>) -> Tower<F> {
-    x.square()
-}
-
-fn product_of<F: HasComplexBinomialExtension<2>>(x: &Tower<F>, y: &Tower<F>) -> Tower<F> {
-    *x * *y
-}
 
 /// The complex value with these coefficients.
 fn complex(real: u32, imag: u32) -> F31c {
@@ -46,17 +34,6 @@ fn tower_constants(rt: HostRuntime) {
     assert_eq!(rt;
         <F as HasComplexBinomialExtension<2>>::complex_binomial_algebra_id(),
         "bench:f31cx2"
-    );
-}
-
-#[test]
-fn products_of_tower_values(rt: HostRuntime) {
-    let y = F31cx2::new_imag(F31c::one());
-    assert_eq!(rt; square_of::<F31>(&y), F31cx2::new_real(complex(3, 2)));
-    let inverse = F31cx2::new_imag(complex(5, 7));
-    assert_eq!(rt;
-        product_of::<F31>(&y, &inverse),
-        F31cx2::new_real(F31c::one())
     );
 }
 

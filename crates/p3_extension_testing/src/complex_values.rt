@@ -37,7 +37,14 @@ fn complex_values(rt: HostRuntime) {
 
 #[test]
 fn complex_constants(rt: HostRuntime) {
-    assert_eq!(rt; F31c::generator(), complex(3, 2));
+    assert_eq!(rt;
+        <F31 as BinomiallyExtendable<2>>::ext_generator(0),
+        F31::new(3)
+    );
+    assert_eq!(rt;
+        <F31 as BinomiallyExtendable<2>>::ext_generator(1),
+        F31::new(2)
+    );
     assert_eq!(rt; complex(3, 2).frobenius(), complex(3, 29));
     assert_eq!(rt; <F31 as BinomiallyExtendable<2>>::w(), F31::new(30));
     assert_eq!(rt; <F31 as BinomiallyExtendable<2>>::dth_root(), F31::new(30));

@@ -2,15 +2,13 @@
 
 use crate::extension_tables::Table;
 use crate::{extension_tables as tables, trinomial_tables};
-use p3_bench_prime::binomial_constants::BinomialConstants;
 use p3_bench_prime::extensions::{
     BabyBearx4, F2t5, F17bx2, F17t5, F17x2, F17x4, F17x8, F31c, F31t3, F31x3, F31x5, F31x6, Z15x2,
 };
 use p3_bench_prime::fp::Fp;
-use p3_bench_prime::small::F31;
 use p3_bench_prime::trinomial_constants::{CubicConstants, QuinticConstants};
 use p3_field::extension::{
-    BinomialExtensionField, CubicTrinomialExtensionField, HasFrobenius,
+    BinomialExtensionField, BinomiallyExtendable, CubicTrinomialExtensionField, HasFrobenius,
     QuinticTrinomialExtensionField,
 };
 use p3_field::{ExtensionField, Field, PrimeCharacteristicRing, PrimeField64, RawDataSerializable};
@@ -24,13 +22,8 @@ use std::test::Fail;
 trait Tabled: Copy {
     type Row: Copy + PartialEq + Debug;
 
-    /// The type of the field's values.
-    type Value;
-
     /// The value with these canonical coefficients.
     fn of(row: Self::Row) -> Self;
-
-    fn value(self) -> Self::Value;
 
     /// The canonical coefficients.
     fn row(&self) -> Self::Row;
@@ -52,21 +45,16 @@ trait Tabled: Copy {
     fn text(&self, alloc: Global) -> Result<String, AllocError>;
 }
 
-impl<W: BinomialConstants<D>, const D: usize> Tabled for BinomialExtensionField<Fp<W>, D> {
+impl<F: BinomiallyExtendable<D> + PrimeField64, const D: usize> Tabled
+    for BinomialExtensionField<F, D> {
     type Row = [u64; D];
 
-    type Value = Self;
-
-    fn value(self) -> Self {
-        self
-    }
-
     fn of(row: [u64; D]) -> Self {
-        let mut coefficients = [Fp::<W>::zero(); D];
+        let mut coefficients = [F::zero(); D];
         for i in 0..D {
-            coefficients[i] = Fp::<W>::from_u64(row[i]);
+            coefficients[i] = F::from_u64(row[i]);
         }
-        BinomialExtensionField::<Fp<W>, D>::new(coefficients)
+        BinomialExtensionField::<F, D>::new(coefficients)
     }
 
     fn row(&self) -> [u64; D] {
@@ -99,7 +87,7 @@ impl<W: BinomialConstants<D>, const D: usize> Tabled for BinomialExtensionField<
     }
 
     fn base_value(&self) -> Option<u64> {
-        match ExtensionField::<Fp<W>>::as_base(self) {
+        match ExtensionField::<F>::as_base(self) {
             Some(c) => Some(c.as_canonical_u64()),
             None => None,
         }
@@ -114,79 +102,8 @@ impl<W: BinomialConstants<D>, const D: usize> Tabled for BinomialExtensionField<
     }
 }
 
-/// A complex value over `F31`: a type of this crate, since another crate could give `F31` the
-/// constants of degree 2, and so the impl above.
-#[derive(Clone, Copy)]
-struct ComplexValue(F31c);
-
-impl Tabled for ComplexValue {
-    type Row = [u64; 2];
-
-    type Value = F31c;
-
-    fn of(row: [u64; 2]) -> Self {
-        ComplexValue(F31c::new_complex(F31::from_u64(row[0]), F31::from_u64(row[1])))
-    }
-
-    fn value(self) -> F31c {
-        self.0
-    }
-
-    fn row(&self) -> [u64; 2] {
-        [
-            self.0.real().as_canonical_u64(),
-            self.0.imag().as_canonical_u64(),
-        ]
-    }
-
-    fn squared(&self) -> Self {
-        ComplexValue(self.0.square())
-    }
-
-    fn times(self, other: Self) -> Self {
-        ComplexValue(self.0 * other.0)
-    }
-
-    fn inverse(&self) -> Option<Self> {
-        match self.0.try_inverse() {
-            Some(x) => Some(ComplexValue(x)),
-            None => None,
-        }
-    }
-
-    fn image(&self) -> Self {
-        ComplexValue(self.0.frobenius())
-    }
-
-    fn image_after(&self, count: usize) -> Self {
-        ComplexValue(self.0.repeated_frobenius(count))
-    }
-
-    fn base_value(&self) -> Option<u64> {
-        match ExtensionField::<F31>::as_base(&self.0) {
-            Some(c) => Some(c.as_canonical_u64()),
-            None => None,
-        }
-    }
-
-    fn orbit(self, alloc: Global) -> Result<Vec<Self>, AllocError> {
-        let orbit = self.0.galois_orbit(alloc)?;
-        orbit.iter().map(|x| ComplexValue(*x)).collect(alloc)
-    }
-
-    fn text(&self, alloc: Global) -> Result<String, AllocError> {
-        self.0.to_string(alloc)
-    }
-}
-
 impl<W: CubicConstants> Tabled for CubicTrinomialExtensionField<Fp<W>> {
     type Row = [u64; 3];
-
-    type Value = Self;
-
-    fn value(self) -> Self {
-        self
-    }
 
     fn of(row: [u64; 3]) -> Self {
         let mut coefficients = [Fp::<W>::zero(); 3];
@@ -243,12 +160,6 @@ impl<W: CubicConstants> Tabled for CubicTrinomialExtensionField<Fp<W>> {
 
 impl<W: QuinticConstants> Tabled for QuinticTrinomialExtensionField<Fp<W>> {
     type Row = [u64; 5];
-
-    type Value = Self;
-
-    fn value(self) -> Self {
-        self
-    }
 
     fn of(row: [u64; 5]) -> Self {
         let mut coefficients = [Fp::<W>::zero(); 5];
@@ -385,14 +296,14 @@ fn assert_base_values<T: Tabled>(rt: &impl Abort, rows: &[(T::Row, Option<u64>)]
 }
 
 /// Asserts that each row has values and the words of their bytes.
-fn assert_streams<T: Tabled<Value: RawDataSerializable>>(
+fn assert_streams<T: RawDataSerializable + Tabled>(
     rt: &(impl Abort + AllocGlobal),
     rows: &[(&[T::Row], &[u64])],
 ) -> Result<(), Fail> {
     for row in rows {
         let (items, words) = *row;
-        let values = items.iter().map(|x| T::of(*x).value());
-        let stream: Vec<u64> = T::Value::into_u64_stream(values).collect(rt.alloc())?;
+        let values = items.iter().map(|x| T::of(*x));
+        let stream: Vec<u64> = T::into_u64_stream(values).collect(rt.alloc())?;
         assert_eq!(rt; stream.as_slice(), words);
     }
     Ok(())
@@ -462,8 +373,8 @@ fn f31x6(rt: HostRuntime) -> Result<(), Fail> {
 
 #[test]
 fn f31c(rt: HostRuntime) -> Result<(), Fail> {
-    assert_streams::<ComplexValue>(&rt, tables::F31C.streams)?;
-    assert_table::<ComplexValue>(&rt, &tables::F31C)
+    assert_streams::<F31c>(&rt, tables::F31C.streams)?;
+    assert_table::<F31c>(&rt, &tables::F31C)
 }
 
 #[test]
