@@ -1,7 +1,8 @@
 //! Square roots of extension values and their turns, of the original Rust crate over fields written
 //! for the purpose, checked by a second program. Written by a script out of its list: a line of that
 //! list, `type value root turns`, is an entry here. Coefficients are canonical values, from X^0
-//! upward. `F17X2_TWO_ADIC` is of the search by the greatest two-adic generator.
+//! upward. `F17X2_TWO_ADIC` is of the search by the greatest two-adic generator. The first entries
+//! of the last two are worked by hand.
 
 use crate::square_root_tables::Root;
 
@@ -194,12 +195,14 @@ pub static F31C: &[Root<[u64; 2]>] = &[
 ];
 
 pub static F2T5: &[Root<[u64; 5]>] = &[
+    ([0, 1, 0, 0, 0], Some([1, 1, 0, 1, 1]), 0),
     ([0, 0, 1, 0, 0], Some([0, 1, 0, 0, 0]), 0),
     ([0, 1, 1, 1, 0], Some([0, 1, 0, 1, 0]), 0),
     ([0, 0, 0, 1, 1], Some([1, 1, 1, 0, 1]), 0),
 ];
 
 pub static F17X2_TWO_ADIC: &[Root<[u64; 2]>] = &[
+    ([3, 0], Some([0, 16]), 9),
     ([9, 0], Some([3, 0]), 6),
     ([2, 1], Some([14, 14]), 1),
     ([12, 1], None, 5),

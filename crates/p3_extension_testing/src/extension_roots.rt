@@ -1,5 +1,4 @@
-//! Counted square roots of extension values: worked examples by hand, and the values of
-//! `extension_root_tables`.
+//! Counted square roots of extension values: those of `extension_root_tables`.
 ghost use Rattle.std.specs.Prelude.{ℕ, Option, IsSome};
 
 use crate::extension_root_tables as tables;
@@ -106,19 +105,6 @@ fn assert_two_adic_roots<R: TwoAdicCountedRoots>(rt: &impl Abort, rows: &[Root<R
         let (x, root, turns) = *row;
         assert_eq!(rt; in_row(R::of(x).two_adic_counted()), (root, turns), "{x:?}");
     }
-}
-
-#[test]
-fn extension_residues(rt: HostRuntime) {
-    assert_eq!(rt; in_row(F31c::of([3, 2]).counted()), (None, 6));
-    assert_eq!(rt;
-        in_row(F2t5::of([0, 1, 0, 0, 0]).counted()),
-        (Some([1, 1, 0, 1, 1]), 0)
-    );
-    assert_eq!(rt;
-        in_row(F17x2::of([3, 0]).two_adic_counted()),
-        (Some([0, 16]), 9)
-    );
 }
 
 #[test]
