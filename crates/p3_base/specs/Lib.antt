@@ -1,2 +1,0 @@
-pub mod BoundedSequence
-pub mod ChunkLengths

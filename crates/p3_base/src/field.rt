@@ -8,9 +8,9 @@ ghost use Rattle.p3_theory.specs.ValueLists.{ValueList};
 ghost use Rattle.p3_theory.specs.SquareRoots.{IsSquareRoot, CountedByGenerator};
 ghost use Rattle.p3_theory.specs.TwoAdic.{AreTwoAdicGenerators, DividesOrder};
 
-use crate::integers::{Quotient, QuotientMap};
-use crate::ring::PrimeCharacteristicRing;
 use crate::sqrt::tonelli_shanks;
+use p3_integers::integers::{Quotient, QuotientMap};
+use p3_ring::ring::PrimeCharacteristicRing;
 use std::fmt::Display;
 use std::ops::{Div, DivAssign};
 
@@ -45,7 +45,7 @@ pub trait Field: PrimeCharacteristicRing + Eq + Display + Div<Output = Self> + D
 
     /// Whether the value is zero.
     #[inline]
-    fn is_zero(&self) -> bool
+    final fn is_zero(&self) -> bool
         ensures { IsTrue result ↔ (self.now ≡ Self.ops.zero) }
     {
         *self == Self::zero()
@@ -53,7 +53,7 @@ pub trait Field: PrimeCharacteristicRing + Eq + Display + Div<Output = Self> + D
 
     /// Whether the value is one.
     #[inline]
-    fn is_one(&self) -> bool
+    final fn is_one(&self) -> bool
         ensures { IsTrue result ↔ (self.now ≡ Self.ops.one) }
     {
         *self == Self::one()
@@ -65,7 +65,7 @@ pub trait Field: PrimeCharacteristicRing + Eq + Display + Div<Output = Self> + D
 
     /// The inverse of a value that has one.
     #[inline]
-    fn inverse(&self) -> Self
+    final fn inverse(&self) -> Self
         requires { Invertible Self.ops self.now }
         ensures { IsInverse Self.ops self.now result }
     {
@@ -74,7 +74,7 @@ pub trait Field: PrimeCharacteristicRing + Eq + Display + Div<Output = Self> + D
 
     /// The image of the index: one, taken as many times as `i` says.
     #[inline]
-    fn interpolation_node(i: usize) -> Self
+    final fn interpolation_node(i: usize) -> Self
         ensures { result ≡ of_nat Self.ops i }
     {
         Self::from_usize(i)
@@ -83,7 +83,7 @@ pub trait Field: PrimeCharacteristicRing + Eq + Display + Div<Output = Self> + D
     /// Adds each entry of the second slice to that of the first at its place. The slices have one
     /// length.
     #[inline]
-    fn add_slices(slice_1: &mut [Self], slice_2: &[Self])
+    final fn add_slices(slice_1: &mut [Self], slice_2: &[Self])
         requires { length slice_1.old ≡ length slice_2.now }
         ensures { slice_1.new ≡ zip_with Self.ops.add slice_1.old slice_2.now }
     {

@@ -1,5 +1,2 @@
-pub mod Sums
-pub mod Euclid
-pub mod ArrayItems
-pub mod WordProducts
-pub mod Remainders
+mod Sums
+mod WordProducts

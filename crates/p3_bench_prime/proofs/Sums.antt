@@ -3,7 +3,7 @@ use Rattle.std.proofs.Common.{◌≡◌, ◌<◌, ◌≤◌, ◌+◌, ◌-◌, �
 use Rattle.std.proofs.Math.Nat.{mod-eq_of_lt}
 use Rattle.std.proofs.lemmas.Bool.{cases_lt}
 use Rattle.p3_theory.specs.Modular.{reduce_once}
-use Rattle.p3_bench_prime.specs.Forms.{IsForm}
+use Rattle.p3_bench_residues.specs.Forms.{IsForm}
 
 -- what was added modulo n is taken off again
 taken_off : (a b c n : ℕ) → a < n → b < n → c ≡ (a + b) % n → a ≡ (c + (n - b)) % n

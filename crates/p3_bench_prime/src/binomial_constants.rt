@@ -4,8 +4,8 @@ ghost use Rattle.p3_theory.specs.RootsOfUnity.{is_root_of_unity};
 
 use crate::form::Form;
 use crate::fp::Fp;
-use p3_field::extension::binomial_extension::{binomial_product, binomial_square};
 use p3_field::extension::{Binomial, BinomiallyExtendable, ExtensionAlgebra, ExtensionProduct};
+use p3_products::binomial_extension::{ring_product, ring_square};
 
 /// The constants of the extension of `Fp` by `X^D = W`, as numbers, for the marker of a form. It
 /// stands for what upstream writes in each impl of `BinomiallyExtendable`.
@@ -56,7 +56,7 @@ impl<W: BinomialConstants<D>, const D: usize> ExtensionProduct<Fp<W>, D, Binomia
 
     #[inline]
     fn ext_product(a: &[Self], b: &[Self], res: &mut [Self]) {
-        binomial_product::<Self, Self, D>(a, b, res, Self::new(W::W));
+        ring_product::<Self, D>(a, b, res, Self::new(W::W));
     }
 }
 
@@ -70,13 +70,8 @@ impl<W: BinomialConstants<D>, const D: usize> ExtensionAlgebra<Fp<W>, D, Binomia
     ghost modulus = { binomial (ops W.Form) D (of W.Form W.W) };
 
     #[inline]
-    fn ext_mul(a: &[Self], b: &[Self], res: &mut [Self]) {
-        binomial_product::<Self, Self, D>(a, b, res, Self::new(W::W));
-    }
-
-    #[inline]
     fn ext_square(a: &[Self], res: &mut [Self]) {
-        binomial_square::<Self, Self, D>(a, res, Self::new(W::W));
+        ring_square::<Self, D>(a, res, Self::new(W::W));
     }
 
     ghost at_least_two = { W.at_least_two };

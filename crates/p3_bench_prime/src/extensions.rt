@@ -425,7 +425,7 @@ pub(crate) fn complex(real: u32, imag: u32) -> F31c
 impl ComplexExtendable for F31 {
     ghost use Rattle.std.specs.Prelude.{get_or};
     ghost use Rattle.p3_bench_prime.specs.Elements.{is};
-    ghost use Rattle.p3_bench_prime.specs.Halves.{two_has_inverse};
+    ghost use Rattle.p3_bench_residues.specs.Halves.{two_has_inverse};
 
     ghost complex_generator = { λ i. of ⟦<Plain<M31> as Form>⟧ (get_or (3 ∷ 2 ∷ []) i 0) };
 

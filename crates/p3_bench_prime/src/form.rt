@@ -1,7 +1,7 @@
 ghost use Rattle.std.specs.Prelude.{◌≡◌, ◌<◌, ◌*◌, ◌%◌, ◌^◌, ℕ};
-ghost use Rattle.p3_bench_prime.specs.Forms.{IsForm};
+ghost use Rattle.p3_bench_residues.specs.Forms.{IsForm};
 
-use crate::remainder::{remainder_by_reciprocal, remainder_of_words};
+use p3_bench_residues::remainder::{remainder_by_reciprocal, remainder_of_words};
 use std::marker::PhantomData;
 
 /// How words of 32 bits stand for the residues modulo an order. A type that implements it is a
@@ -71,7 +71,7 @@ pub trait Modulus {
 pub struct Plain<M>(PhantomData<M>);
 
 impl<M: Modulus> Form for Plain<M> {
-    ghost use Rattle.p3_bench_prime.specs.Forms.{plain};
+    ghost use Rattle.p3_bench_residues.specs.Forms.{plain};
 
     ghost ORDER = { M.ORDER };
 

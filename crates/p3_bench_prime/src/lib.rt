@@ -1,5 +1,5 @@
 //! Prime bench fields: residues modulo small orders, of which one is composite, and modulo the
-//! primes of BabyBear, KoalaBear and Goldilocks.
+//! primes of BabyBear, KoalaBear and Goldilocks, with the constants of their extensions.
 #![tactic(auto)]
 
 pub mod baby_bear;
@@ -8,13 +8,12 @@ pub mod complex_tower;
 pub mod extensions;
 pub mod form;
 pub mod fp;
-pub mod goldilocks;
-mod inverse;
 pub mod koala_bear;
 pub mod monomials;
-mod remainder;
 pub mod small;
 pub mod trinomial_constants;
 pub mod two_adic;
 pub mod two_adic_constants;
 mod two_adic_extensions;
+
+pub use p3_bench_residues::goldilocks as goldilocks;

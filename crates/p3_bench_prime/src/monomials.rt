@@ -6,11 +6,11 @@ ghost use Rattle.p3_theory.specs.Monomials.{AreInverseExponents};
 use crate::baby_bear::BabyBearModulus;
 use crate::form::{Form, Plain};
 use crate::fp::Fp;
-use crate::goldilocks::Goldilocks;
 use crate::koala_bear::KoalaBearModulus;
 use crate::small::{M17, M31};
-use p3_field::exponentiation::{exp_1420470955, exp_1725656503, exp_10540996611094048183};
-use p3_field::{InjectiveMonomial, PermutationMonomial, PrimeCharacteristicRing};
+use p3_ring::ring::PrimeCharacteristicRing;
+use p3_spaces::monomials::{InjectiveMonomial, PermutationMonomial};
+use p3_tools::exponentiation::{exp_1420470955, exp_1725656503};
 
 /// The power that undoes power N, for the marker of a form. It stands for what upstream writes in
 /// each impl of `PermutationMonomial`.
@@ -81,19 +81,4 @@ impl MonomialConstants<3> for Plain<KoalaBearModulus> {
     }
 
     ghost inverse_exponents = { (2, refl) };
-}
-
-impl InjectiveMonomial<7> for Goldilocks {
-    ghost use Rattle.std.specs.Prelude.{refl};
-    ghost use Rattle.p3_theory.specs.Monomials.{residue_injective_power};
-    ghost use Rattle.p3_bench_prime.specs.GoldilocksElements.{is};
-
-    ghost injective = { λ domain. residue_injective_power is domain 7 10540996611094048183 (4, refl) };
-}
-
-impl PermutationMonomial<7> for Goldilocks {
-    #[inline]
-    fn injective_exp_root_n(&self) -> Self {
-        exp_10540996611094048183(*self)
-    }
 }

@@ -67,11 +67,6 @@ impl<W: CubicConstants> ExtensionAlgebra<Fp<W>, 3, CubicTrinomial> for Fp<W> {
     ghost modulus = { cubic_trinomial (ops W.Form) };
 
     #[inline]
-    fn ext_mul(a: &[Self], b: &[Self], res: &mut [Self]) {
-        trinomial_cubic_mul(a, b, res);
-    }
-
-    #[inline]
     fn ext_square(a: &[Self], res: &mut [Self]) {
         cubic_square(a, res);
     }
@@ -162,11 +157,6 @@ impl<W: QuinticConstants> ExtensionAlgebra<Fp<W>, 5, QuinticTrinomial> for Fp<W>
     ghost use Rattle.p3_bench_prime.specs.Elements.{ops};
 
     ghost modulus = { quintic_trinomial (ops W.Form) };
-
-    #[inline]
-    fn ext_mul(a: &[Self], b: &[Self], res: &mut [Self]) {
-        trinomial_quintic_mul(a, b, res);
-    }
 
     #[inline]
     fn ext_square(a: &[Self], res: &mut [Self]) {

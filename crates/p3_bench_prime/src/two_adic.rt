@@ -1,13 +1,15 @@
 //! Two-adic generators of the prime fields: from the top generator as a number to all laws.
 ghost use Rattle.std.specs.Prelude.{◌≡◌, ℕ, true, refl};
-ghost use Rattle.p3_theory.specs.ResidueGenerators.{is_two_adic_generator, top_generator, ArePowersOf};
+ghost use Rattle.p3_theory.specs.ResidueGenerators.{is_two_adic_generator, top_generator};
 
 use crate::baby_bear::BabyBearModulus;
 use crate::form::{Form, Plain};
 use crate::fp::Fp;
 use crate::koala_bear::KoalaBearModulus;
 use crate::small::{M2, M15, M17, M17b, M31};
-use p3_field::{PrimeCharacteristicRing, TwoAdicField};
+use p3_base::field::TwoAdicField;
+pub use p3_bench_residues::two_adic_powers::TwoAdicPowers;
+use p3_ring::ring::PrimeCharacteristicRing;
 
 /// The two-adicity and the top generator, as numbers, for the marker of a form. It stands for what
 /// upstream writes in each impl of `TwoAdicField`.
@@ -31,12 +33,6 @@ pub trait TwoAdicConstants: Form {
 pub trait TopPowerConstants: TwoAdicConstants {
     /// It is the power `(order - 1) / 2^TWO_ADICITY`.
     ghost top_power: { Self.TOP_GENERATOR ≡ top_generator Self.ORDER Self.TWO_ADICITY Self.GENERATOR };
-}
-
-/// A two-adic field whose two-adic generators are powers of its `generator`. This project's own.
-pub trait TwoAdicPowers: TwoAdicField {
-    /// For n values the generator for so many bits is the power `(n - 1) / 2^bits`.
-    ghost powers: { ArePowersOf Self.ops Self.generator Self.size Self.TWO_ADICITY Self.two_adic };
 }
 
 impl<W: TwoAdicConstants> TwoAdicField for Fp<W> {
@@ -63,7 +59,7 @@ impl<W: TwoAdicConstants> TwoAdicField for Fp<W> {
 impl<W: TopPowerConstants> TwoAdicPowers for Fp<W> {
     ghost use Rattle.p3_theory.specs.ResidueGenerators.{generator_powers};
     ghost use Rattle.p3_bench_prime.specs.Elements.{is};
-    ghost use Rattle.p3_bench_prime.specs.Forms.{order_below};
+    ghost use Rattle.p3_bench_residues.specs.Forms.{order_below};
 
     ghost powers = { generator_powers (is W.Form) W.TWO_ADICITY W.GENERATOR W.TOP_GENERATOR W.generates (order_below W.ORDER W.is_form.fits) W.top_power };
 }

@@ -3,8 +3,6 @@ pub mod Bases
 pub mod Scalars
 pub mod Conjugates
 pub mod BinomialShape
-pub mod FixedFormulas
-pub mod Entries
 pub mod FrobeniusLaws
 pub mod Doublings
 pub mod Orders

@@ -6,13 +6,11 @@ ghost use Rattle.p3_theory.specs.Powers.{power};
 ghost use Rattle.p3_theory.specs.Trinomials.{cubic_trinomial, quintic_trinomial};
 ghost use Rattle.p3_theory.specs.FrobeniusTable.{frobenius_list, orbit_list, IsFrobeniusTable};
 ghost use Rattle.p3_theory.specs.Frobenius.{iterate};
-ghost use Rattle.p3_ext.specs.Entries.{entrywise_difference};
+ghost use Rattle.p3_products.specs.Entries.{entrywise_difference};
 
 pub mod algebra;
 pub mod basis;
 pub mod binomial_extension;
-mod binomial_inverses;
-mod binomial_products;
 pub mod complex_binomial;
 pub mod complex_extension;
 pub mod cubic_extension;
@@ -22,29 +20,31 @@ pub mod ext_field;
 pub mod frobenius;
 mod has_frobenius;
 mod order;
-mod power_table;
 pub mod quintic_extension;
 mod streams;
 mod two_adic;
 mod vectors;
 
-pub use binomial_extension::{binomial_mul, binomial_square, octic_mul, quartic_mul, quintic_mul};
 pub use complex_binomial::HasComplexBinomialExtension;
 pub use complex_extension::{Complex, ComplexExtendable};
-pub use cubic_extension::{cubic_square, trinomial_cubic_mul};
 pub use ext_field::ExtField;
 pub use has_frobenius::HasFrobenius;
 use p3_base::field::Field;
-use p3_base::ring::{Algebra, PrimeCharacteristicRing};
-pub use quintic_extension::{quintic_square, trinomial_quintic_mul};
+pub use p3_products::binomial_extension::{
+    binomial_mul, binomial_square, octic_mul, quartic_mul, quintic_mul,
+};
+pub use p3_products::binomial_inverses::InverseByFormula;
+pub use p3_products::cubic_extension::{cubic_square, trinomial_cubic_mul};
+pub use p3_products::quintic_extension::{quintic_square, trinomial_quintic_mul};
+use p3_products::vectors::{add_entries, scale_entries, sub_entries};
+pub use p3_products::vectors::{vector_add, vector_sub};
+use p3_ring::ring::{Algebra, PrimeCharacteristicRing};
 use std::marker::PhantomData;
 pub use streams::{ByteCountFits, NestedByteCountFits};
 pub use two_adic::{
     HasTwoAdicBinomialExtension, HasTwoAdicComplexBinomialExtension, HasTwoAdicCubicExtension,
     HasTwoAdicQuinticExtension, TwoAdicExtendable,
 };
-use vectors::{add_entries, scale_entries, sub_entries};
-pub use vectors::{vector_add, vector_sub};
 
 mod sealed {
     pub trait Sealed {}
@@ -110,11 +110,14 @@ pub trait ExtensionAlgebra<F: Copy, const D: usize, S: ExtensionShape>: PrimeCha
 
     /// The product of two lists, where `res` is all zero before.
     #[inline]
-    fn ext_mul(a: &[Self], b: &[Self], res: &mut [Self])
+    final fn ext_mul(a: &[Self], b: &[Self], res: &mut [Self])
         requires left { length a.now ≡ D }
         requires right { length b.now ≡ D }
         requires zeroed { res.old ≡ replicate D Self.ops.zero }
-        ensures { res.new ≡ quotient_mul Self.ops D modulus a.now b.now };
+        ensures { res.new ≡ quotient_mul Self.ops D modulus a.now b.now }
+    {
+        Self::ext_product(a, b, res);
+    }
 
     /// The square of a list, where `res` is all zero before.
     fn ext_square(a: &[Self], res: &mut [Self])
@@ -255,18 +258,6 @@ pub trait QuinticTrinomialExtendable: Field + ExtensionAlgebra<Self, 5, QuinticT
     /// The map keeps sums and products, fixes the base, is the identity after five times, and leaves
     /// only base values unchanged.
     ghost table_laws: { IsFrobeniusTable Self.ops 5 Self.modulus image };
-}
-
-/// What the fixed formula of a degree says of the inverse of a list of coefficients. This
-/// project's own.
-#[derive(Clone, Copy)]
-pub enum InverseByFormula {
-    /// The degree has no formula.
-    NoFormula,
-    /// There is an inverse, and the formula wrote it.
-    Found,
-    /// There is no inverse.
-    NoInverse,
 }
 
 /// A field whose extension has a Frobenius map: X becomes its image. It stands for what the

@@ -15,7 +15,7 @@ ghost use Rattle.p3_ext.specs.Conjugates.{frobenius_map, norm_of};
 use crate::extension::ext_field::ExtField;
 use crate::extension::{ByteCountFits, ExtensionAlgebra, ExtensionShape, FrobeniusExtendable};
 use p3_base::field::Field;
-use p3_base::streams::RawDataSerializable;
+use p3_spaces::streams::RawDataSerializable;
 use std::hash::Hash;
 
 /// The product of two values has the one remainder of the convolution of their coefficient lists

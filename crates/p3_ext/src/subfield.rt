@@ -3,9 +3,9 @@ ghost use Rattle.std.specs.List.{All};
 ghost use Rattle.p3_theory.specs.Subfields.{IsEmbedded};
 
 use crate::extension::{ExtField, ExtensionShape, FrobeniusExtendable};
-use p3_base::extension_field::ExtensionField;
 use p3_base::field::Field;
-use p3_base::ring::Algebra;
+use p3_ring::ring::Algebra;
+use p3_spaces::extension_field::ExtensionField;
 
 /// A field that tells which of its values lie in a field S below it. Upstream's `HasSubfield`.
 pub trait HasSubfield<S: Field>: Field + Algebra<S> {

@@ -3,36 +3,36 @@
 
 pub mod laws;
 
-pub use p3_base::basis::{AlgebraIdentity, BasedVectorSpace};
-pub use p3_base::columnwise::{
-    batched_columnwise_dot_product, generic_batched_columnwise_dot_product,
-};
-pub use p3_base::const_power::exp_const_u64;
-pub use p3_base::dup::Dup;
-pub use p3_base::extension_field::ExtensionField;
 pub use p3_base::field::{Field, PrimeField, PrimeField32, PrimeField64, TwoAdicField};
-pub use p3_base::integers as integers;
-pub use p3_base::linear_combination::{
-    chunked_linear_combination, chunked_mixed_dot_product, dispatch_chunked_mixed_dot_product,
-};
-pub use p3_base::monomials::{InjectiveMonomial, PermutationMonomial};
 pub use p3_base::packed_traits::Packable;
-pub use p3_base::parallel_streams::{
-    into_parallel_byte_streams, into_parallel_u32_streams, into_parallel_u64_streams,
-};
-pub use p3_base::powers::{BoundedPowers, Powers};
-pub use p3_base::ring::{Algebra, PrimeCharacteristicRing};
-pub use p3_base::sampling::UniformSamplingField;
-pub use p3_base::sponge::SpongePaddingValue;
 pub use p3_base::sqrt::{
     Turns, tonelli_shanks, tonelli_shanks_counted, tonelli_shanks_two_adic,
     tonelli_shanks_two_adic_counted,
 };
-pub use p3_base::streams::{ByteStream, RawDataSerializable, U32Stream, U64Stream};
-pub use p3_base::sums::sum_array;
 pub use p3_ext::extension as extension;
 pub use p3_ext::subfield::HasSubfield;
+pub use p3_integers::dup::Dup;
+pub use p3_integers::integers as integers;
+pub use p3_ring::const_power::exp_const_u64;
+pub use p3_ring::linear_combination::{
+    chunked_linear_combination, chunked_mixed_dot_product, dispatch_chunked_mixed_dot_product,
+};
+pub use p3_ring::powers::{BoundedPowers, Powers};
+pub use p3_ring::ring::{Algebra, PrimeCharacteristicRing, RingSums};
+pub use p3_ring::sponge::SpongePaddingValue;
+pub use p3_ring::sums::sum_array;
 pub use p3_runs::steps as steps;
+pub use p3_spaces::basis::{AlgebraIdentity, BasedVectorSpace};
+pub use p3_spaces::columnwise::{
+    batched_columnwise_dot_product, generic_batched_columnwise_dot_product,
+};
+pub use p3_spaces::extension_field::ExtensionField;
+pub use p3_spaces::monomials::{InjectiveMonomial, PermutationMonomial};
+pub use p3_spaces::parallel_streams::{
+    into_parallel_byte_streams, into_parallel_u32_streams, into_parallel_u64_streams,
+};
+pub use p3_spaces::sampling::UniformSamplingField;
+pub use p3_spaces::streams::{ByteStream, RawDataSerializable, U32Stream, U64Stream};
 pub use p3_tools::helpers::{
     HornerIter, add_scaled_slice_in_place, cyclic_subgroup_coset_known_order,
     cyclic_subgroup_known_order, dot_product, field_to_array, halve_u32, halve_u64,

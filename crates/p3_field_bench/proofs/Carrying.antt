@@ -9,8 +9,9 @@ use Rattle.p3_field_bench.specs.declared.machine.Stop.{Stop}
 use Rattle.p3_field_bench.specs.declared.machine.Stop.TheVariants.{AtFault, AtWrite}
 use Rattle.std.proofs.KnownBytes.{Appends-nil, Appends-trans}
 use Rattle.p3_field_bench.specs.Lines.{lines_of}
-use Rattle.p3_field_bench.specs.Bank.{state_of}
-use Rattle.p3_field_bench.specs.Effects.{State, Continues, Faults, May}
+use Rattle.p3_calculator_fields.specs.Bank.{state_of}
+use Rattle.p3_field_bench.specs.Effects.{Continues, Faults, May}
+use Rattle.p3_calculator_fields.specs.States.{State}
 use Rattle.p3_field_bench.specs.Text.{IsTextFrom, IsText, BeginsText, fault_line}
 use Rattle.p3_field_bench.proofs.Totality.{every_text, may_sound, bank_sound}
 use Rattle.p3_field_bench.specs.Standing.{Standing, Carried, Carries, HasNoEnd, ended}

@@ -10,8 +10,8 @@ use Rattle.p3_field_bench.specs.declared.machine.Stop.{Stop}
 use Rattle.p3_field_bench.specs.declared.machine.Stop.TheVariants.{AtFault, AtWrite}
 use Rattle.p3_field_bench.specs.declared.faults.Fault.{Fault}
 use Rattle.p3_field_bench.specs.declared.faults.Fault.TheVariants.{ReadFault}
-use Rattle.p3_field_bench.specs.Bank.{state_of}
-use Rattle.p3_field_bench.specs.Effects.{State, no_field}
+use Rattle.p3_calculator_fields.specs.Bank.{state_of}
+use Rattle.p3_calculator_fields.specs.States.{State, no_field}
 use Rattle.p3_field_bench.specs.Lines.{lines_of}
 use Rattle.p3_field_bench.specs.Text.{IsTextFrom, IsText, rest_of, IsCutShort, RunEnds, fault_line, ends}
 use Rattle.p3_field_bench.specs.Standing.{Standing, Carries, Ended, EndedAt, StopsAtFailure, Finishes, HasNoEnd, HaveNoEnd, ended}

@@ -3,9 +3,9 @@ use Rattle.std.proofs.Common.{◌≡◌, ◌<◌, ℕ, ◌+◌, zero, suc, Bool,
 use Rattle.std.specs.Str.{bytes_eq}
 use Rattle.std.proofs.lemmas.Bool.{cases_eq, eqb-true, ltb-true}
 use Rattle.p3_theory.specs.SolverSound.{and_true}
-use Rattle.p3_field_bench.specs.declared.bank.Bank.{Bank}
-use Rattle.p3_field_bench.specs.declared.bank.Bank.TheVariants.{Empty, F2, F17, F17b, F31, Z15, BabyBear, KoalaBear, Goldilocks, F17x2, F17x4, F17x8, F17bx2, Z15x2, F31x3, F31x5, F31x6, F31c, BabyBearx4, F31t3, F17t5, F2t5}
-use Rattle.p3_field_bench.specs.Bank.{state_of}
+use Rattle.p3_calculator_fields.specs.declared.bank.Bank.{Bank}
+use Rattle.p3_calculator_fields.specs.declared.bank.Bank.TheVariants.{Empty, F2, F17, F17b, F31, Z15, BabyBear, KoalaBear, Goldilocks, F17x2, F17x4, F17x8, F17bx2, Z15x2, F31x3, F31x5, F31x6, F31c, BabyBearx4, F31t3, F17t5, F2t5}
+use Rattle.p3_calculator_fields.specs.Bank.{state_of}
 use Rattle.p3_field_bench.specs.declared.commands.Command.{Command}
 use Rattle.p3_field_bench.specs.declared.commands.Command.TheVariants.{Field, Compute}
 use Rattle.p3_field_bench.specs.declared.commands.Operation.{Operation}
@@ -13,12 +13,15 @@ use Rattle.p3_field_bench.specs.declared.commands.Operation.TheVariants.{Put, Bi
 use Rattle.p3_field_bench.specs.declared.faults.Fault.{Fault}
 use Rattle.p3_field_bench.specs.declared.faults.Fault.TheVariants.{UnknownCommand, WordCount, NoInverse, NoRoot, NoField, NoMemory, LongLine}
 use Rattle.p3_theory.specs.Powers.{power}
-use Rattle.p3_field_bench.specs.Display.{display}
-use Rattle.p3_field_bench.specs.Effects.{State, Outcome, Continues, Faults, At, Inverts, IsInverse, IsRoot, TakesRoot, Shows, Computes, ComputesAt, Chooses, Commands, Does, May, sets, puts, chosen, at_field, numbers_below, register_at, binary, unary}
-use Rattle.p3_field_bench.specs.Fields.{FieldSpec, AllBelow, order, dimension, ops, named_fields, field_named}
+use Rattle.p3_calculator_fields.specs.Display.{display}
+use Rattle.p3_field_bench.specs.Effects.{Outcome, Continues, Faults, At, Inverts, IsInverse, IsRoot, TakesRoot, Shows, Computes, ComputesAt, Chooses, Commands, Does, May, sets, puts, chosen, numbers_below, binary, unary}
+use Rattle.p3_calculator_fields.specs.States.{State, at_field, register_at}
+use Rattle.p3_calculator_fields.specs.Fields.{FieldSpec, AllBelow, order, dimension, ops}
+use Rattle.p3_calculator_fields.specs.Names.{named_fields, field_named}
 use Rattle.p3_field_bench.specs.Lines.{words}
 use Rattle.p3_field_bench.specs.Text.{IsTextFrom, After, fault_line}
-use Rattle.p3_field_bench.specs.Words.{command_of, lookup, register, two_registers, three_registers, one_register, registers_and_number}
+use Rattle.p3_field_bench.specs.Words.{command_of, register, two_registers, three_registers, one_register, registers_and_number}
+use Rattle.p3_calculator_fields.specs.Tables.{lookup}
 
 -- P holds, or it does not
 abbrev Decided : Type 0 → Type 0

@@ -1,6 +1,6 @@
 -- Coefficients, read from the front.
-use Rattle.std.proofs.Common.{◌≡◌, ◌∙◌, ℕ, ◌+◌, ◌-◌, ◌<◌, ◌≤◌, zero, suc, List, [], ◌∷◌, ◌++◌, length, take, sym, ap, refl, arith, append_assoc, append-nil, Option, Some, None, set, map, add-one}
-use Rattle.std.proofs.lemmas.List.{take_all, map-set}
+use Rattle.std.proofs.Common.{◌≡◌, ◌∙◌, ℕ, ◌+◌, ◌-◌, ◌<◌, ◌≤◌, zero, suc, List, [], ◌∷◌, ◌++◌, length, take, sym, ap, refl, arith, append_assoc, append-nil, Option, Some, None, set, add-one}
+use Rattle.std.proofs.lemmas.List.{take_all}
 use Rattle.p3_field_bench.specs.Effects.{numbers_below, onto}
 use Rattle.p3_field_bench.specs.Words.{number}
 
@@ -35,7 +35,3 @@ value_more n b l m i c w rest ws all order split h read s so_far =
 pub prefixed-end : (n : ℕ) (l : List ℕ) (i : ℕ) (ws : List (List ℕ)) → length ws ≡ 0 → length l ≤ i → prefixed (take i l) (numbers_below n ws) ≡ Some l
 prefixed-end n l i [] e h = ap Some (append-nil (take i l) ∙ take_all i l h)
 prefixed-end n l i (w ∷ ws) e h = absurd (omega (arith, e))
-
--- a value that stands for c is set at place i
-pub map-set_value : {A : Type 0} (canon : A → ℕ) (old new : List A) (i : ℕ) (x : A) (c : ℕ) → new ≡ set old i x → canon x ≡ c → map canon new ≡ set (map canon old) i c
-map-set_value canon old new i x c e value = ap (map canon) e ∙ map-set canon old i x ∙ ap (set (map canon old) i) value

@@ -12,35 +12,18 @@ use Rattle.p3_field_bench.specs.declared.faults.Fault.{Fault}
 use Rattle.p3_field_bench.specs.declared.faults.Fault.TheVariants.{UnknownCommand, WordCount, BadRegister, BadNumber, NoInverse, NoRoot, NoField, NoMemory, LongLine}
 use Rattle.p3_theory.specs.Ring.{Ops, subtract}
 use Rattle.p3_theory.specs.Powers.{power}
-use Rattle.p3_field_bench.specs.Display.{display}
-use Rattle.p3_field_bench.specs.Fields.{FieldSpec, order, dimension, ops, IsValue, field_named}
+use Rattle.p3_calculator_fields.specs.Display.{display}
+use Rattle.p3_calculator_fields.specs.States.{State, at_field, all_zero, register_at}
+use Rattle.p3_calculator_fields.specs.Fields.{FieldSpec, order, dimension, ops, IsValue}
+use Rattle.p3_calculator_fields.specs.Names.{field_named}
 use Rattle.p3_field_bench.specs.Lines.{words}
-use Rattle.p3_field_bench.specs.Premise.{MeetsPremise}
+use Rattle.p3_calculator_fields.specs.Premise.{MeetsPremise}
 use Rattle.p3_field_bench.specs.Words.{command_of, number, register, one_register, two_registers, three_registers, registers_and_number}
-
--- a field or none, and 16 registers, each with the coefficient list of a value
-pub record State : Type 0 where
-  pub field : Option FieldSpec
-  pub registers : List (List ℕ)
 
 -- a line goes on from a new state after some text, or ends the run with a fault
 pub data Outcome : Type 0 where
   Continues : State → List ℕ → Outcome
   Faults : Fault → Outcome
-
--- before the first line
-abbrev pub no_field : State
-no_field = record { field = None; registers = replicate 16 [] }
-
-abbrev pub at_field : FieldSpec → List (List ℕ) → State
-at_field s regs = record { field = Some s; registers = regs }
-
--- all registers are zero
-abbrev pub all_zero : FieldSpec → State
-all_zero s = at_field s (replicate 16 (ops s).zero)
-
-abbrev pub register_at : List (List ℕ) → ℕ → List ℕ
-register_at regs r = get_or regs r []
 
 -- register r becomes the value v, and nothing is written
 abbrev pub sets : FieldSpec → List (List ℕ) → ℕ → List ℕ → Outcome

@@ -1,14 +1,8 @@
-pub mod Bank
-pub mod Coefficients
-pub mod Display
 pub mod Effects
 pub mod Faults
-pub mod Fields
 pub mod Lines
 pub mod Memory
 pub mod Outcomes
-pub mod Premise
-pub mod Representation
 pub mod Standing
 pub mod Streams
 pub mod Text

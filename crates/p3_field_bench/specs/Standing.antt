@@ -5,7 +5,7 @@ use Rattle.std.specs.Io.KnownBytes.{Appends}
 use Rattle.p3_field_bench.specs.declared.machine.Machine.{Machine}
 use Rattle.p3_field_bench.specs.declared.machine.Stop.{Stop}
 use Rattle.p3_field_bench.specs.declared.machine.Stop.TheVariants.{AtFault, AtWrite}
-use Rattle.p3_field_bench.specs.Bank.{state_of}
+use Rattle.p3_calculator_fields.specs.Bank.{state_of}
 use Rattle.p3_field_bench.specs.Lines.{lines_of}
 use Rattle.p3_field_bench.specs.Streams.{AppendsFront}
 use Rattle.p3_field_bench.specs.Text.{IsTextFrom, IsText, BeginsText, fault_line}

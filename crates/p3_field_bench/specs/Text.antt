@@ -2,7 +2,8 @@
 use Rattle.std.specs.Prelude.{◌≡◌, ℕ, ◌+◌, ◌≤◌, ◌⊎◌, ◌==◌, Bool, true, false, if◌then◌else◌, List, [], ◌∷◌, ◌++◌, length, take, codes, decimal}
 use Rattle.p3_field_bench.specs.declared.faults.Fault.{Fault}
 use Rattle.p3_field_bench.specs.declared.faults.Fault.TheVariants.{ReadFault}
-use Rattle.p3_field_bench.specs.Effects.{State, Outcome, Continues, Faults, May, no_field}
+use Rattle.p3_field_bench.specs.Effects.{Outcome, Continues, Faults, May}
+use Rattle.p3_calculator_fields.specs.States.{State, no_field}
 use Rattle.p3_field_bench.specs.Faults.{fault_code}
 use Rattle.p3_field_bench.specs.Lines.{lines_of}
 

@@ -1,6 +1,6 @@
 -- What a word says.
 use Rattle.std.specs.Prelude.{ℕ, ◌+◌, ◌-◌, ◌*◌, ◌&&◌, nat_lt, nat_le, if◌then◌else◌, List, [], ◌∷◌, length, Option, Some, None, Result, Ok, Err, codes}
-use Rattle.std.specs.Str.{bytes_eq}
+use Rattle.p3_calculator_fields.specs.Tables.{lookup}
 use Rattle.p3_field_bench.specs.declared.commands.Command.{Command}
 use Rattle.p3_field_bench.specs.declared.commands.Command.TheVariants.{Field, Compute}
 use Rattle.p3_field_bench.specs.declared.commands.Operation.TheVariants.{Put, Binary, Unary, Pow, Inv, Sqrt, Show}
@@ -8,11 +8,6 @@ use Rattle.p3_field_bench.specs.declared.commands.BinaryOperation.TheVariants.{A
 use Rattle.p3_field_bench.specs.declared.commands.UnaryOperation.TheVariants.{Neg, Sq, Dbl}
 use Rattle.p3_field_bench.specs.declared.faults.Fault.{Fault}
 use Rattle.p3_field_bench.specs.declared.faults.Fault.TheVariants.{WordCount, BadRegister, BadNumber}
-
--- what stands beside a word in a table, where the word is there
-abbrev pub lookup : {A : Type 0} → List (List ℕ × A) → List ℕ → Option A
-lookup [] word = None
-lookup (entry ∷ entries) word = if bytes_eq word entry.0 then Some entry.1 else lookup entries word
 
 abbrev pub command_of : List ℕ → Option Command
 command_of word = lookup (

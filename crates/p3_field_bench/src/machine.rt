@@ -1,7 +1,7 @@
 ghost use Rattle.std.specs.Prelude.{◌≡◌, ◌≤◌, length};
 
-use crate::bank::Bank;
 use crate::faults::Fault;
+use p3_calculator_fields::bank::Bank;
 
 /// The bytes of a line so far.
 #[derive(Drop)]
@@ -35,8 +35,8 @@ pub struct Machine {
 }
 
 impl Machine {
-    ghost use Rattle.p3_field_bench.specs.Bank.{state_of};
-    ghost use Rattle.p3_field_bench.specs.Effects.{no_field};
+    ghost use Rattle.p3_calculator_fields.specs.Bank.{state_of};
+    ghost use Rattle.p3_calculator_fields.specs.States.{no_field};
 
     /// Before the first line.
     pub fn new() -> Self

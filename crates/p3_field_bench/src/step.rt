@@ -1,16 +1,17 @@
 ghost use Rattle.std.specs.Prelude.{◌≡◌};
-ghost use Rattle.p3_field_bench.specs.Bank.{state_of, opened};
+ghost use Rattle.p3_calculator_fields.specs.Bank.{state_of};
+ghost use Rattle.p3_field_bench.specs.Outcomes.{opened};
 ghost use Rattle.p3_field_bench.specs.Effects.{May, ComputesAt, Chooses, chosen};
-ghost use Rattle.p3_field_bench.specs.Fields.{field_named};
+ghost use Rattle.p3_calculator_fields.specs.Names.{field_named};
 ghost use Rattle.p3_field_bench.specs.Lines.{words};
 ghost use Rattle.p3_field_bench.specs.Outcomes.{outcome, silent};
 
 use crate::act::{act, without_text};
-use crate::bank::Bank;
 use crate::commands::{Command, Operation, parse_command};
 use crate::faults::Fault;
-use crate::registers::Registers;
 use crate::words::{next_word, one_word};
+use p3_calculator_fields::bank::Bank;
+use p3_calculator_fields::registers::Registers;
 use std::alloc::Allocator;
 
 /// The registers of a field, all zero, by the field's name.

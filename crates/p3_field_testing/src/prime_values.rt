@@ -5,7 +5,9 @@ use p3_bench_prime::goldilocks::Goldilocks;
 use p3_bench_prime::koala_bear::KoalaBear;
 use p3_bench_prime::small::{F2, F17, F17b, F31, Z15};
 use p3_field::integers::QuotientMap;
-use p3_field::{Algebra, Field, PrimeCharacteristicRing, PrimeField, PrimeField32, PrimeField64};
+use p3_field::{
+    Algebra, Field, PrimeCharacteristicRing, PrimeField, PrimeField32, PrimeField64, RingSums,
+};
 use std::collections::hash_map::DefaultHasher;
 use std::hash::{Hash, Hasher};
 use std::test::Fail;
@@ -26,7 +28,7 @@ fn results<F: PrimeField64>(x: F, y: F) -> [u64; 4] {
 }
 
 /// The canonical values of the sum and product of a list.
-fn totals<F: PrimeField64>(items: &[F]) -> [u64; 2] {
+fn totals<F: PrimeField64 + RingSums>(items: &[F]) -> [u64; 2] {
     let sum: F = items.iter().copied().sum();
     let product: F = items.iter().copied().product();
     [sum.as_canonical_u64(), product.as_canonical_u64()]

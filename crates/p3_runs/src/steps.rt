@@ -5,7 +5,7 @@ ghost use Rattle.std.specs.Prelude.{◌≡◌, ◌↔◌, ℕ, All, IsTrue, leng
 ghost use Rattle.p3_runs.specs.Runs.{StepFits, Fit, after_step, run};
 
 pub use field_steps::{FieldStep, StepFault, StepRefused, run_field_steps};
-use p3_base::ring::PrimeCharacteristicRing;
+use p3_ring::ring::PrimeCharacteristicRing;
 
 /// One step over registers: register `d` becomes the named operation on registers `a` and `b` as
 /// they stand. This project's own.

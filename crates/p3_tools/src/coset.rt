@@ -3,7 +3,7 @@ ghost use Rattle.std.specs.Prelude.{◌≤◌};
 ghost use Rattle.p3_theory.specs.Ring.{IsInverse};
 
 use p3_base::field::TwoAdicField;
-use p3_base::powers::BoundedPowers;
+use p3_ring::powers::BoundedPowers;
 use std::alloc::AllocError;
 
 /// A coset `shift * g^j`, for j below `2^log_size`, of the subgroup that the two-adic generator g
@@ -38,7 +38,7 @@ impl<F: TwoAdicField> TwoAdicMultiplicativeCoset<F> {
     ghost use Rattle.p3_theory.specs.Ring.{Invertible};
     ghost use Rattle.p3_theory.specs.Powers.{power};
     ghost use Rattle.p3_theory.specs.ZeroDivisors.{HasNoZeroDivisors};
-    ghost use Rattle.p3_base.specs.BoundedSequence.{terms};
+    ghost use Rattle.p3_ring.specs.BoundedSequence.{terms};
     ghost use Rattle.p3_theory.specs.Cosets.{coset};
 
     /// The coset of the shift and the size `2^log_size`, and `None` where the shift has no inverse
@@ -259,7 +259,7 @@ impl<F: TwoAdicField> TwoAdicMultiplicativeCoset<F> {
 
 impl<F: TwoAdicField> IntoIterator for TwoAdicMultiplicativeCoset<F> {
     ghost use Rattle.std.specs.Prelude.{◌≡◌, ◌<◌};
-    ghost use Rattle.p3_base.specs.BoundedSequence.{terms};
+    ghost use Rattle.p3_ring.specs.BoundedSequence.{terms};
     ghost use Rattle.p3_theory.specs.Cosets.{coset};
 
     type Item = F;
@@ -278,7 +278,7 @@ impl<F: TwoAdicField> IntoIterator for TwoAdicMultiplicativeCoset<F> {
 
 impl<F: TwoAdicField> IntoIterator for &TwoAdicMultiplicativeCoset<F> {
     ghost use Rattle.std.specs.Prelude.{◌≡◌, ◌<◌};
-    ghost use Rattle.p3_base.specs.BoundedSequence.{terms};
+    ghost use Rattle.p3_ring.specs.BoundedSequence.{terms};
     ghost use Rattle.p3_theory.specs.Cosets.{coset};
 
     type Item = F;

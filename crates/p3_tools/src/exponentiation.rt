@@ -3,7 +3,7 @@
 ghost use Rattle.std.specs.Prelude.{◌≡◌};
 ghost use Rattle.p3_theory.specs.Powers.{power};
 
-use p3_base::ring::PrimeCharacteristicRing;
+use p3_ring::ring::PrimeCharacteristicRing;
 
 /// The value to the power 1717986917, by 30 squarings and 7 products; each variable is named by its
 /// exponent in binary. Upstream's `exp_1717986917`.

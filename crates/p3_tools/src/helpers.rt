@@ -2,7 +2,7 @@
 
 ghost use Rattle.std.specs.Prelude.{◌≡◌, ◌+◌, ◌-◌, ◌*◌, ◌/◌, ◌%◌, ◌^◌, ◌<◌, ◌∷◌, length, map, replicate};
 ghost use Rattle.std.specs.Iterator.{IsFinite, count_min};
-ghost use Rattle.p3_base.specs.BoundedSequence.{terms};
+ghost use Rattle.p3_ring.specs.BoundedSequence.{terms};
 ghost use Rattle.p3_theory.specs.DotProduct.{dot};
 ghost use Rattle.p3_theory.specs.GeometricSequence.{geometric_sequence};
 ghost use Rattle.p3_theory.specs.HornerFold.{eval_from};
@@ -12,8 +12,8 @@ ghost use Rattle.p3_tools.specs.BackwardRuns.{RunsBackward, IfYieldsBackward};
 ghost use Rattle.p3_tools.specs.PairedRuns.{RunInPairs, IfBothYield};
 
 use p3_base::field::Field;
-use p3_base::powers::BoundedPowers;
-use p3_base::ring::{Algebra, PrimeCharacteristicRing};
+use p3_ring::powers::BoundedPowers;
+use p3_ring::ring::{Algebra, PrimeCharacteristicRing, RingSums};
 
 /// The powers of `generator` from one on, `order` of them. Where the order is that of the generator
 /// they are the subgroup that it generates. Upstream's `cyclic_subgroup_known_order`.
@@ -128,7 +128,7 @@ where
     LI: Iterator<Item = S>,
     RI: Iterator,
     RI::Item: PrimeCharacteristicRing,
-    S: Algebra<RI::Item>,
+    S: Algebra<RI::Item> + RingSums,
     requires left { LI.can_next li }
     requires right { RI.can_next ri }
     requires ends { IsFinite (count_min (LI.remaining li) (RI.remaining ri)) }

@@ -3,7 +3,7 @@ ghost use Rattle.p3_ext.specs.Scalars.{ChangesFirst};
 
 use super::ext_field::ExtField;
 use super::{ExtensionAlgebra, ExtensionShape};
-use p3_base::ring::{Algebra, PrimeCharacteristicRing};
+use p3_ring::ring::{Algebra, PrimeCharacteristicRing};
 use std::ops::{Add, AddAssign, Mul, MulAssign, Sub, SubAssign};
 
 /// An element of the coefficient ring as a value: x, 0, .., 0.

@@ -2,11 +2,11 @@ ghost use Rattle.std.specs.Prelude.{◌≡◌, ℕ};
 
 use super::ext_field::ExtField;
 use super::{ExtensionAlgebra, ExtensionShape, FrobeniusExtendable};
-use p3_base::array_chunks::take_up_to;
-use p3_base::basis::{AlgebraIdentity, BasedVectorSpace};
-use p3_base::extension_field::ExtensionField;
 use p3_base::field::Field;
-use p3_base::ring::PrimeCharacteristicRing;
+use p3_ring::ring::PrimeCharacteristicRing;
+use p3_spaces::array_chunks::take_up_to;
+use p3_spaces::basis::{AlgebraIdentity, BasedVectorSpace};
+use p3_spaces::extension_field::ExtensionField;
 use std::alloc::{AllocError, Allocator};
 
 /// The basis is 1, X, .., X^(D-1).

@@ -4,9 +4,9 @@ ghost use Rattle.p3_theory.specs.Powers.{power};
 ghost use Rattle.p3_theory.specs.Polynomial.{binomial, quotient_mul};
 ghost use Rattle.p3_ext.specs.ComplexValues.{complex_ops, ArePowersApart};
 
-use super::binomial_extension::{binomial_product, binomial_square};
 use super::complex_extension::{Complex, ComplexExtendable};
 use super::{Binomial, BinomiallyExtendable, ExtensionAlgebra, ExtensionProduct};
+use p3_products::binomial_extension::{ring_product, ring_square};
 
 /// A field whose extension by `X^2 = -1` has an extension of degree D by `Y^D = W`. Upstream's
 /// `HasComplexBinomialExtension`.
@@ -69,7 +69,7 @@ impl<F: HasComplexBinomialExtension<D>, const D: usize> ExtensionProduct<
     #[inline]
     fn ext_product(a: &[Complex<F>], b: &[Complex<F>], res: &mut [Complex<F>]) {
         let w = <F as HasComplexBinomialExtension<D>>::w();
-        binomial_product::<Complex<F>, Complex<F>, D>(a, b, res, w);
+        ring_product::<Complex<F>, D>(a, b, res, w);
     }
 }
 
@@ -84,15 +84,9 @@ impl<F: HasComplexBinomialExtension<D>, const D: usize> ExtensionAlgebra<
     ghost modulus = { binomial (complex_ops F.ops) D F.HasComplexBinomialExtension.w };
 
     #[inline]
-    fn ext_mul(a: &[Complex<F>], b: &[Complex<F>], res: &mut [Complex<F>]) {
-        let w = <F as HasComplexBinomialExtension<D>>::w();
-        binomial_product::<Complex<F>, Complex<F>, D>(a, b, res, w);
-    }
-
-    #[inline]
     fn ext_square(a: &[Complex<F>], res: &mut [Complex<F>]) {
         let w = <F as HasComplexBinomialExtension<D>>::w();
-        binomial_square::<Complex<F>, Complex<F>, D>(a, res, w);
+        ring_square::<Complex<F>, D>(a, res, w);
     }
 
     ghost at_least_two = { F.HasComplexBinomialExtension.at_least_two };

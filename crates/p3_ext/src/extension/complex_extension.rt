@@ -4,12 +4,12 @@ ghost use Rattle.p3_theory.specs.Ring.{Ops, Invertible};
 ghost use Rattle.p3_theory.specs.Multiples.{two};
 ghost use Rattle.p3_theory.specs.ComplexExtensions.{real_part, imaginary_part, conjugated, complex_norm, rotated};
 
-use super::binomial_extension::{binomial_product, binomial_square};
 use super::{
     Binomial, BinomialExtensionField, BinomiallyExtendable, ExtensionAlgebra, ExtensionProduct,
 };
 use p3_base::field::Field;
-use p3_base::ring::{Algebra, PrimeCharacteristicRing};
+use p3_products::binomial_extension::{ring_product, ring_square};
+use p3_ring::ring::{Algebra, PrimeCharacteristicRing};
 
 /// The extension of F by `X^2 = -1`. Upstream's `Complex`.
 pub type Complex<F> = BinomialExtensionField<F, 2>;
@@ -53,7 +53,7 @@ impl<F: ComplexExtendable> ExtensionProduct<F, 2, Binomial<F>> for F {
 
     #[inline]
     fn ext_product(a: &[F], b: &[F], res: &mut [F]) {
-        binomial_product::<F, F, 2>(a, b, res, F::neg_one());
+        ring_product::<F, 2>(a, b, res, F::neg_one());
     }
 }
 
@@ -65,13 +65,8 @@ impl<F: ComplexExtendable> ExtensionAlgebra<F, 2, Binomial<F>> for F {
     ghost modulus = { binomial F.ops 2 (F.ops.neg F.ops.one) };
 
     #[inline]
-    fn ext_mul(a: &[F], b: &[F], res: &mut [F]) {
-        binomial_product::<F, F, 2>(a, b, res, F::neg_one());
-    }
-
-    #[inline]
     fn ext_square(a: &[F], res: &mut [F]) {
-        binomial_square::<F, F, 2>(a, res, F::neg_one());
+        ring_square::<F, 2>(a, res, F::neg_one());
     }
 
     ghost at_least_two = { lit≤ tt };

@@ -3,7 +3,7 @@ ghost use Rattle.std.specs.Prelude.{◌≡◌, replicate};
 
 use super::ext_field::ExtField;
 use p3_base::packed_traits::Packable;
-use p3_base::ring::PrimeCharacteristicRing;
+use p3_ring::ring::PrimeCharacteristicRing;
 use std::fmt;
 
 /// Zero. Upstream's `Default` of its extension types.

@@ -3,8 +3,8 @@ ghost use Rattle.p3_theory.specs.Ring.{Ops};
 ghost use Rattle.p3_theory.specs.Polynomial.{embed};
 
 use super::{ExtensionAlgebra, ExtensionProduct, ExtensionShape};
-use p3_base::accumulate::{product_from, sum_from};
-use p3_base::ring::PrimeCharacteristicRing;
+use p3_ring::accumulate::{product_from, sum_from};
+use p3_ring::ring::{PrimeCharacteristicRing, RingSums};
 use std::alloc::AllocError;
 use std::iter::{Product, Sum};
 use std::marker::PhantomData;
@@ -288,7 +288,10 @@ impl<
     ghost muls = { record { called = λ _ _. tt; answer = λ x y r h. same_value r ((ext_ops A.ops A.modulus).mul x y) (A.ext_products _ _ _ h) } };
 
     ghost mul_assigns = { record { called = λ _ _. tt; answer = λ x y r h. same_value r ((ext_ops A.ops A.modulus).mul x y) (A.ext_products _ _ _ h) } };
+}
 
+impl<F: Copy, const D: usize, S: ExtensionShape, A: ExtensionAlgebra<F, D, S>> RingSums
+    for ExtField<F, D, S, A> {
     ghost sums = { record { called = λ _. tt; answer = λ _ _ h. h; whole = λ _. tt } };
 
     ghost products = { record { called = λ _. tt; answer = λ _ _ h. h; whole = λ _. tt } };

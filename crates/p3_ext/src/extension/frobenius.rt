@@ -7,7 +7,7 @@ ghost use Rattle.p3_ext.specs.Conjugates.{frobenius_map, conjugate_product};
 use super::ext_field::ExtField;
 use super::{ExtensionShape, FrobeniusExtendable, InverseByFormula};
 use p3_base::field::Field;
-use p3_base::ring::PrimeCharacteristicRing;
+use p3_ring::ring::PrimeCharacteristicRing;
 use std::ops::{Div, DivAssign};
 
 impl<F: FrobeniusExtendable<D, S>, const D: usize, S: ExtensionShape> ExtField<F, D, S, F> {

@@ -5,9 +5,9 @@ ghost use Rattle.p3_theory.specs.FrobeniusTable.{orbit_list};
 
 use super::ext_field::ExtField;
 use super::{ExtensionShape, FrobeniusExtendable};
-use p3_base::extension_field::ExtensionField;
 use p3_base::field::Field;
-use p3_base::ring::PrimeCharacteristicRing;
+use p3_ring::ring::PrimeCharacteristicRing;
+use p3_spaces::extension_field::ExtensionField;
 use std::alloc::{AllocError, Allocator, Global};
 
 /// An extension of F with its Frobenius map. Upstream's `HasFrobenius`.

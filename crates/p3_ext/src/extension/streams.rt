@@ -1,7 +1,7 @@
 ghost use Rattle.std.specs.Prelude.{◌*◌, ◌<◌, ◌^◌};
 
 use super::ext_field::ExtField;
-use p3_base::streams::{ByteStream, RawDataSerializable};
+use p3_spaces::streams::{ByteStream, RawDataSerializable};
 use std::array::IntoIter;
 
 /// A base over which the bytes of D coefficients are counted by a `usize`: what an extension of

@@ -14,7 +14,7 @@ use super::{
     FrobeniusExtendable, QuinticTrinomial, QuinticTrinomialExtendable,
 };
 use p3_base::field::TwoAdicField;
-use p3_base::ring::PrimeCharacteristicRing;
+use p3_ring::ring::PrimeCharacteristicRing;
 
 /// A field with two-adic generators of its extension of degree D by `X^D = W`. Upstream's
 /// `HasTwoAdicBinomialExtension`.

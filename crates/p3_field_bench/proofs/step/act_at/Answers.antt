@@ -1,7 +1,7 @@
 use Rattle.std.proofs.Common.{subst, sym}
-use Rattle.p3_field_bench.specs.declared.bank.Bank.{Bank}
-use Rattle.p3_field_bench.specs.declared.bank.Bank.TheVariants.{F17x8}
-use Rattle.p3_field_bench.specs.Bank.{state_of}
+use Rattle.p3_calculator_fields.specs.declared.bank.Bank.{Bank}
+use Rattle.p3_calculator_fields.specs.declared.bank.Bank.TheVariants.{F17x8}
+use Rattle.p3_calculator_fields.specs.Bank.{state_of}
 use Rattle.p3_field_bench.specs.Effects.{ComputesAt}
 use Rattle.p3_field_bench.specs.Lines.{words}
 use Rattle.p3_field_bench.specs.Outcomes.{outcome}

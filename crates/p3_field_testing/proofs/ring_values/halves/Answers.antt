@@ -1,6 +1,6 @@
 use Rattle.std.proofs.Common.{refl}
 use Rattle.p3_bench_prime.specs.Elements.{is}
-use Rattle.p3_bench_prime.specs.Halves.{two_has_inverse}
+use Rattle.p3_bench_residues.specs.Halves.{two_has_inverse}
 use Rattle.p3_field_testing.proofs.ring_values.halves.Goals as goal
 
 pub halve-requires : goal.halve-requires

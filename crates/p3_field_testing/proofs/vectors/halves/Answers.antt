@@ -1,7 +1,7 @@
 use Rattle.std.proofs.Common.{refl}
 use Rattle.p3_bench_prime.specs.Elements.{is}
-use Rattle.p3_bench_prime.specs.GoldilocksElements as goldilocks
-use Rattle.p3_bench_prime.specs.Halves.{two_has_inverse}
+use Rattle.p3_bench_residues.specs.GoldilocksElements as goldilocks
+use Rattle.p3_bench_residues.specs.Halves.{two_has_inverse}
 use Rattle.p3_field_testing.proofs.vectors.halves.Goals as goal
 
 pub assert_halves-requires : goal.assert_halves-requires

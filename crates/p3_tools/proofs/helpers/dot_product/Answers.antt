@@ -8,7 +8,7 @@ use Rattle.p3_tools.proofs.helpers.dot_product.Goals as goal
 
 pub returns : goal.returns
 returns g c =
-    let m = g.met.S.PrimeCharacteristicRing in
+    let m = g.met.S.RingSums in
     let mixed = g.met.S.Algebra.mixed_muls.answer in
     let o = g.S.PrimeCharacteristicRing.ops in
     let embed = g.S.Algebra.embed in

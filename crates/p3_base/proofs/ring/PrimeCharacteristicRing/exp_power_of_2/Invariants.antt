@@ -1,6 +1,0 @@
-use Rattle.std.proofs.Common.{◌≡◌, ◌^◌}
-use Rattle.p3_theory.specs.Powers.{power}
-use Rattle.p3_base.proofs.ring.PrimeCharacteristicRing.exp_power_of_2.Given as goal
-
-abbrev pub invariant-loop : goal.invariant-loop
-invariant-loop g l = l.power ≡ power g.Self.PrimeCharacteristicRing.ops l.self (2 ^ l.counter)

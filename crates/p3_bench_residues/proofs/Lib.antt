@@ -1,0 +1,4 @@
+pub mod Euclid
+pub mod ArrayItems
+pub mod Remainders
+pub mod SplitRemainders

@@ -1,0 +1,5 @@
+pub mod Forms
+pub mod ResidueMultiples
+pub mod Inverses
+pub mod Halves
+pub mod GoldilocksElements

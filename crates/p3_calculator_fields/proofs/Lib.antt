@@ -1,0 +1,3 @@
+pub mod RootSearches
+pub mod SetCoefficients
+pub mod TextLemmas

@@ -1,0 +1,10 @@
+use Rattle.std.specs.Prelude.{◌≡◌, ℕ, List, IfOk, string_bytes, decimal}
+use Rattle.std.proofs.Common.{subst, sym, rules}
+use Rattle.p3_bench_residues.specs.GoldilocksElements.{canon}
+use Rattle.p3_calculator_fields.specs.Coefficients.{display-one}
+use Rattle.p3_calculator_fields.proofs.primes.GoldilocksCalculatorField.text.Goals as goal
+
+pub returns : goal.returns
+returns g c =
+    let written : IfOk c.to_string.result (λ t. string_bytes t ≡ decimal (canon c.args.self)) = search rules in
+    subst (λ (l : List ℕ). IfOk c.to_string.result (λ t. string_bytes t ≡ l)) (sym (display-one (canon c.args.self))) written

@@ -1,0 +1,9 @@
+pub mod Bank
+pub mod Coefficients
+pub mod Display
+pub mod Fields
+pub mod Names
+pub mod Premise
+pub mod Representation
+pub mod States
+pub mod Tables

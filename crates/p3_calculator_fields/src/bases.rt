@@ -1,0 +1,31 @@
+//! The bases of the calculator's extensions: residues by their canonical values.
+ghost use Rattle.std.specs.Prelude.{◌≡◌, ◌<◌};
+
+use crate::field::Base;
+use p3_bench_prime::form::Form;
+use p3_bench_prime::fp::Fp;
+use p3_field::integers::QuotientMap;
+
+impl<W: Form> Base for Fp<W> {
+    ghost use Rattle.std.specs.Prelude.{refl};
+    ghost use Rattle.p3_theory.specs.Residues.{are_residues};
+    ghost use Rattle.p3_bench_prime.specs.Elements.{canon, is};
+
+    ghost base_order = { W.ORDER };
+
+    ghost canon = { canon W.Form };
+
+    fn base_order() -> u64 {
+        W::ORDER as u64
+    }
+
+    fn residue(canonical: u64) -> Self {
+        Self::from_canonical_unchecked(canonical)
+    }
+
+    ghost residues = { are_residues (is W.Form) };
+
+    ghost size_is = { refl };
+
+    ghost texts = { λ x. refl };
+}

@@ -1,0 +1,209 @@
+ghost use Rattle.std.specs.Prelude.{◌≡◌, ◌<◌, ◌^◌, ℕ, List, Option, Some, map, decimal, slice_set, string_bytes, IfOk};
+ghost use Rattle.p3_theory.specs.Ring.{Ops, subtract};
+ghost use Rattle.p3_theory.specs.Powers.{power};
+ghost use Rattle.p3_theory.specs.Polynomial.{tabulate};
+ghost use Rattle.p3_theory.specs.Residues.{AreResidues};
+ghost use Rattle.p3_calculator_fields.specs.Display.{display};
+ghost use Rattle.p3_calculator_fields.specs.Fields.{FieldSpec, PolynomialsModulo, order, dimension, value_count, generator_of};
+ghost use Rattle.p3_calculator_fields.specs.Representation.{Represents, InverseOrNone, RootOrNone};
+
+use p3_field::extension::{ExtField, ExtensionShape, FrobeniusExtendable};
+use p3_field::{Field, PrimeCharacteristicRing, tonelli_shanks};
+use std::alloc::{AllocError, Allocator};
+
+/// A field of the calculator: its values are known by their canonical coefficients. It has just
+/// what the lines ask for.
+pub trait CalculatorField: Copy {
+    /// The field by numbers.
+    ghost spec: { FieldSpec };
+
+    /// The canonical coefficients of a value, from X^0 upward.
+    ghost coefficients: { Self → List ℕ };
+
+    /// The operations of the type.
+    ghost ops: { Ops Self };
+
+    /// The element by which square roots are looked for.
+    ghost generator: { Self };
+
+    /// The order of the base.
+    fn base_order() -> u64
+        ensures { result ≡ order spec };
+
+    /// How many coefficients a value has.
+    fn coefficient_count() -> usize
+        ensures { result ≡ dimension spec };
+
+    /// Zero.
+    fn zero() -> Self
+        ensures { result ≡ ops.zero };
+
+    /// The value with one coefficient changed.
+    fn with_coefficient(self, i: usize, c: u64) -> Self
+        requires place { i < dimension spec }
+        requires below { c < order spec }
+        ensures { coefficients result ≡ slice_set (coefficients self) i c };
+
+    /// The sum of two values.
+    fn sum(self, other: Self) -> Self
+        ensures { result ≡ ops.add self other };
+
+    /// The value less the other one.
+    fn difference(self, other: Self) -> Self
+        ensures { result ≡ subtract ops self other };
+
+    /// The product of two values.
+    fn product(self, other: Self) -> Self
+        ensures { result ≡ ops.mul self other };
+
+    /// The negation.
+    fn negation(self) -> Self
+        ensures { result ≡ ops.neg self };
+
+    /// The square.
+    fn squared(self) -> Self
+        ensures { result ≡ ops.mul self self };
+
+    /// The double.
+    fn doubled(self) -> Self
+        ensures { result ≡ ops.add self self };
+
+    /// The product of `exponent` copies of the value.
+    fn power(self, exponent: u64) -> Self
+        ensures { result ≡ power ops self exponent };
+
+    /// An inverse, and `None` exactly where there is none.
+    fn inverse(self) -> Option<Self>
+        ensures { InverseOrNone ops self result };
+
+    /// A square root. `None` says of a value but zero that it has none, where the premise of a
+    /// finite field holds.
+    fn root(self) -> Option<Self>
+        ensures { RootOrNone ops (value_count spec) generator self result };
+
+    /// The text that `Display` writes.
+    fn text<A: Allocator + Copy>(self, alloc: A) -> Result<String<A>, AllocError>
+        ensures { IfOk result (λ text. string_bytes text ≡ display (coefficients self)) };
+
+    /// The operations are those of the field on coefficient lists.
+    ghost represents: { Represents spec ops coefficients };
+
+    /// The element is that of the field.
+    ghost generator_is: { coefficients generator ≡ generator_of spec };
+}
+
+/// A base of the calculator's extensions: residues by their canonical values.
+pub trait Base: Field {
+    /// The order.
+    ghost base_order: { ℕ };
+
+    /// The canonical value of a residue.
+    ghost canon: { Self → ℕ };
+
+    /// The order.
+    fn base_order() -> u64
+        ensures { result ≡ base_order };
+
+    /// The residue with this canonical value.
+    fn residue(canonical: u64) -> Self
+        requires { canonical < base_order }
+        ensures { canon result ≡ canonical };
+
+    /// The canonical values are one to one onto the numbers below the order, and the operations
+    /// are those of residues.
+    ghost residues: { AreResidues base_order Self.ops canon };
+
+    /// There are as many values as the order says.
+    ghost size_is: { Self.size ≡ Some base_order };
+
+    /// A value is written as its canonical value.
+    ghost texts: { (x : Self) → Self.text x ≡ decimal (canon x) };
+}
+
+/// A base whose extension of degree D by the shape S has a name in the calculator: what a name adds.
+pub trait Named<const D: usize, S: ExtensionShape>: Base + FrobeniusExtendable<D, S> {
+    /// The field by numbers.
+    ghost spec: { FieldSpec };
+
+    /// The numbers are those of the order, of the polynomial and of the chosen element.
+    ghost is_spec: { spec ≡ PolynomialsModulo Self.base_order D (map Self.canon Self.modulus) (map Self.canon (tabulate D Self.generator_coefficients)) };
+
+    /// The order of the extension is below 2^128, so that it is given.
+    ghost order_fits: { Self.base_order ^ D < 2 ^ 128 };
+}
+
+impl<F: Named<D, S>, const D: usize, S: ExtensionShape> CalculatorField for ExtField<F, D, S, F> {
+    ghost use Rattle.p3_theory.specs.Coefficients.{length-tabulate};
+    ghost use Rattle.p3_ext.specs.Values.{ext_ops, value_of};
+    ghost use Rattle.p3_calculator_fields.specs.Coefficients.{all_coefficients, spec_represented, spec_generator};
+
+    ghost spec = { F.spec };
+
+    ghost coefficients = { all_coefficients F.canon };
+
+    ghost ops = { ext_ops F.ops F.modulus };
+
+    ghost generator = { value_of (tabulate D F.generator_coefficients) (length-tabulate D F.generator_coefficients) };
+
+    fn base_order() -> u64 {
+        F::base_order()
+    }
+
+    fn coefficient_count() -> usize {
+        D
+    }
+
+    fn zero() -> Self {
+        <Self as PrimeCharacteristicRing>::zero()
+    }
+
+    fn with_coefficient(self, i: usize, c: u64) -> Self {
+        let mut value = self.value;
+        value[i] = F::residue(c);
+        Self::new(value)
+    }
+
+    fn sum(self, other: Self) -> Self {
+        self + other
+    }
+
+    fn difference(self, other: Self) -> Self {
+        self - other
+    }
+
+    fn product(self, other: Self) -> Self {
+        self * other
+    }
+
+    fn negation(self) -> Self {
+        -self
+    }
+
+    fn squared(self) -> Self {
+        self.square()
+    }
+
+    fn doubled(self) -> Self {
+        self.double()
+    }
+
+    fn power(self, exponent: u64) -> Self {
+        self.exp_u64(exponent)
+    }
+
+    fn inverse(self) -> Option<Self> {
+        self.try_inverse()
+    }
+
+    fn root(self) -> Option<Self> {
+        tonelli_shanks(self)
+    }
+
+    fn text<A: Allocator + Copy>(self, alloc: A) -> Result<String<A>, AllocError> {
+        self.to_string(alloc)
+    }
+
+    ghost represents = { spec_represented F.base_order F.ops F.canon F.residues D F.modulus (map F.canon (tabulate D F.generator_coefficients)) F.spec F.is_spec };
+
+    ghost generator_is = { spec_generator F.spec F.is_spec };
+}

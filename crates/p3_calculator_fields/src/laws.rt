@@ -1,0 +1,62 @@
+//! Laws of the fields that the calculator's premises speak of.
+ghost use Rattle.std.specs.Prelude.{◌≡◌, Some};
+ghost use Rattle.p3_theory.specs.Powers.{power};
+ghost use Rattle.p3_theory.specs.SquareRoots.{FiniteFieldPremise};
+ghost use Rattle.p3_theory.specs.ZeroDivisors.{HasNoZeroDivisors};
+
+use p3_bench_prime::extensions::{F17x2, F31c};
+use p3_bench_prime::small::{F2, F17, F31};
+use p3_field::{Field, PrimeCharacteristicRing, TwoAdicField};
+
+/// A product in the prime field of order 17 is zero only where a factor is.
+pub fn domain_f17()
+    ensures { HasNoZeroDivisors ⟦<F17 as PrimeCharacteristicRing>⟧.ops }
+{}
+
+/// A product in the prime field of order 31 is zero only where a factor is.
+pub fn domain_f31()
+    ensures { HasNoZeroDivisors ⟦<F31 as PrimeCharacteristicRing>⟧.ops }
+{}
+
+/// The finite-field premise of the prime field of order 2, at the generator to the power 1: the order less one is
+/// `2^0 * 1`. The same at the greatest two-adic generator.
+pub fn premise_f2()
+    ensures order { ⟦<F2 as Field>⟧.size ≡ Some 2 }
+    ensures premise { FiniteFieldPremise ⟦<F2 as PrimeCharacteristicRing>⟧.ops 2 0 1 (power ⟦<F2 as PrimeCharacteristicRing>⟧.ops ⟦<F2 as Field>⟧.generator 1) }
+    ensures two_adicity { ⟦<F2 as TwoAdicField>⟧.TWO_ADICITY ≡ 0 }
+    ensures two_adic { FiniteFieldPremise ⟦<F2 as PrimeCharacteristicRing>⟧.ops 2 0 1 (⟦<F2 as TwoAdicField>⟧.two_adic 0) }
+{}
+
+/// The finite-field premise of the prime field of order 17, at the generator to the power 1: the order less one is
+/// `2^4 * 1`. The same at the greatest two-adic generator.
+pub fn premise_f17()
+    ensures order { ⟦<F17 as Field>⟧.size ≡ Some 17 }
+    ensures premise { FiniteFieldPremise ⟦<F17 as PrimeCharacteristicRing>⟧.ops 17 4 1 (power ⟦<F17 as PrimeCharacteristicRing>⟧.ops ⟦<F17 as Field>⟧.generator 1) }
+    ensures two_adicity { ⟦<F17 as TwoAdicField>⟧.TWO_ADICITY ≡ 4 }
+    ensures two_adic { FiniteFieldPremise ⟦<F17 as PrimeCharacteristicRing>⟧.ops 17 4 1 (⟦<F17 as TwoAdicField>⟧.two_adic 4) }
+{}
+
+/// The finite-field premise of the prime field of order 31, at the generator to the power 15: the order less one is
+/// `2^1 * 15`. The same at the greatest two-adic generator.
+pub fn premise_f31()
+    ensures order { ⟦<F31 as Field>⟧.size ≡ Some 31 }
+    ensures premise { FiniteFieldPremise ⟦<F31 as PrimeCharacteristicRing>⟧.ops 31 1 15 (power ⟦<F31 as PrimeCharacteristicRing>⟧.ops ⟦<F31 as Field>⟧.generator 15) }
+    ensures two_adicity { ⟦<F31 as TwoAdicField>⟧.TWO_ADICITY ≡ 1 }
+    ensures two_adic { FiniteFieldPremise ⟦<F31 as PrimeCharacteristicRing>⟧.ops 31 1 15 (⟦<F31 as TwoAdicField>⟧.two_adic 1) }
+{}
+
+/// The finite-field premise of the extension of `F17` by `X^2 = 3`, at the generator to the power 9: the order less one is
+/// `2^5 * 9`. The same at the greatest two-adic generator.
+pub fn premise_f17x2()
+    ensures order { ⟦<F17x2 as Field>⟧.size ≡ Some 289 }
+    ensures premise { FiniteFieldPremise ⟦<F17x2 as PrimeCharacteristicRing>⟧.ops 289 5 9 (power ⟦<F17x2 as PrimeCharacteristicRing>⟧.ops ⟦<F17x2 as Field>⟧.generator 9) }
+    ensures two_adicity { ⟦<F17x2 as TwoAdicField>⟧.TWO_ADICITY ≡ 5 }
+    ensures two_adic { FiniteFieldPremise ⟦<F17x2 as PrimeCharacteristicRing>⟧.ops 289 5 9 (⟦<F17x2 as TwoAdicField>⟧.two_adic 5) }
+{}
+
+/// The finite-field premise of the complex values over `F31`, at the generator to the power 15: the order less one is
+/// `2^6 * 15`.
+pub fn premise_f31c()
+    ensures order { ⟦<F31c as Field>⟧.size ≡ Some 961 }
+    ensures premise { FiniteFieldPremise ⟦<F31c as PrimeCharacteristicRing>⟧.ops 961 6 15 (power ⟦<F31c as PrimeCharacteristicRing>⟧.ops ⟦<F31c as Field>⟧.generator 15) }
+{}

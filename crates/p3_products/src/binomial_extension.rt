@@ -1,0 +1,168 @@
+ghost use Rattle.std.specs.Prelude.{◌≡◌, ◌≤◌, length, replicate, IsTrue, IsFalse};
+ghost use Rattle.p3_theory.specs.Polynomial.{quotient_mul, quotient_add, binomial};
+ghost use Rattle.p3_theory.specs.Powers.{scale_powers};
+ghost use Rattle.p3_products.specs.FixedFormulas.{has_fixed_formula};
+
+pub use crate::binomial_products::{octic_mul, quartic_mul, quintic_mul};
+use crate::binomial_products::{
+    compute_coefficient, cubic_mul, cubic_square, octic_square, quadratic_mul, quadratic_square,
+    quartic_square, quintic_square,
+};
+use p3_ring::ring::{Algebra, PrimeCharacteristicRing};
+
+/// The product modulo `X^D - W` for any D, added to what `res` holds.
+#[inline]
+fn general_mul<F: PrimeCharacteristicRing, A: Algebra<F>, const D: usize>(
+    a: &[A],
+    b: &[A],
+    res: &mut [A],
+    w: F,
+)
+    requires degree { 1 ≤ D }
+    requires left { length a.now ≡ D }
+    requires right { length b.now ≡ D }
+    requires room { length res.old ≡ D }
+    ensures { res.new ≡ quotient_add A.ops D res.old (quotient_mul A.ops D (binomial A.ops D (A.embed w)) a.now b.now) }
+{
+    for k in 0..D {
+        let place = compute_coefficient(a, b, D, k, w);
+        let sum = res[k] + place;
+        res[k] = sum;
+    }
+}
+
+/// Whether products of this degree have a formula of their own.
+#[inline]
+fn is_fixed(degree: usize) -> bool
+    ensures { result ≡ has_fixed_formula degree }
+{
+    degree == 2 || degree == 3 || degree == 4 || degree == 5 || degree == 8
+}
+
+/// The product of two lists of D coefficients modulo `X^D - W`. At degrees 2, 3, 4, 5 and 8 `res`
+/// becomes the product, by a fixed formula; at every other degree the product is added to what
+/// `res` holds. Upstream's `binomial_mul`.
+#[inline]
+pub fn binomial_mul<F: PrimeCharacteristicRing, A: Algebra<F>, const D: usize>(
+    a: &[A],
+    b: &[A],
+    res: &mut [A],
+    w: F,
+)
+    requires degree { 1 ≤ D }
+    requires left { length a.now ≡ D }
+    requires right { length b.now ≡ D }
+    requires room { length res.old ≡ D }
+    ensures becomes { IsTrue (has_fixed_formula D) → res.new ≡ quotient_mul A.ops D (binomial A.ops D (A.embed w)) a.now b.now }
+    ensures added { IsFalse (has_fixed_formula D) → res.new ≡ quotient_add A.ops D res.old (quotient_mul A.ops D (binomial A.ops D (A.embed w)) a.now b.now) }
+{
+    match D {
+        2 => quadratic_mul(a, b, res, w),
+        3 => cubic_mul(a, b, res, w),
+        4 => quartic_mul(a, b, res, w),
+        5 => quintic_mul(a, b, res, w),
+        8 => octic_mul(a, b, res, w),
+        _ => general_mul::<F, A, D>(a, b, res, w),
+    }
+}
+
+/// The square of a list of D coefficients modulo `X^D - W`, in the place of `binomial_mul` with
+/// itself. Upstream's `binomial_square`.
+#[inline]
+pub fn binomial_square<F: PrimeCharacteristicRing, A: Algebra<F>, const D: usize>(
+    a: &[A],
+    res: &mut [A],
+    w: F,
+)
+    requires degree { 1 ≤ D }
+    requires input { length a.now ≡ D }
+    requires room { length res.old ≡ D }
+    ensures becomes { IsTrue (has_fixed_formula D) → res.new ≡ quotient_mul A.ops D (binomial A.ops D (A.embed w)) a.now a.now }
+    ensures added { IsFalse (has_fixed_formula D) → res.new ≡ quotient_add A.ops D res.old (quotient_mul A.ops D (binomial A.ops D (A.embed w)) a.now a.now) }
+{
+    match D {
+        2 => quadratic_square(a, res, w),
+        3 => cubic_square(a, res, w),
+        4 => quartic_square(a, res, w),
+        5 => quintic_square(a, res, w),
+        8 => octic_square(a, res, w),
+        _ => general_mul::<F, A, D>(a, a, res, w),
+    }
+}
+
+/// Writes zero at each place.
+#[inline]
+fn clear<A: PrimeCharacteristicRing>(res: &mut [A])
+    ensures { res.new ≡ replicate (length res.old) A.ops.zero }
+{
+    for i in 0..res.len() {
+        res[i] = A::zero();
+    }
+}
+
+/// The product modulo `X^D - W`, whatever `res` held: what an `ext_product` of a binomial shape
+/// is. This project's own.
+#[inline]
+pub fn binomial_product<F: PrimeCharacteristicRing, A: Algebra<F>, const D: usize>(
+    a: &[A],
+    b: &[A],
+    res: &mut [A],
+    w: F,
+)
+    requires degree { 1 ≤ D }
+    requires left { length a.now ≡ D }
+    requires right { length b.now ≡ D }
+    requires room { length res.old ≡ D }
+    ensures { res.new ≡ quotient_mul A.ops D (binomial A.ops D (A.embed w)) a.now b.now }
+{
+    if is_fixed(D) {
+        binomial_mul::<F, A, D>(a, b, res, w);
+    } else {
+        clear(res);
+        binomial_mul::<F, A, D>(a, b, res, w);
+    }
+}
+
+/// `binomial_product` by an element W of the ring itself: one bound in place of two, since each
+/// bound costs a check at the type of an extension. This project's own.
+#[inline]
+pub fn ring_product<R: PrimeCharacteristicRing, const D: usize>(
+    a: &[R],
+    b: &[R],
+    res: &mut [R],
+    w: R,
+)
+    requires degree { 1 ≤ D }
+    requires left { length a.now ≡ D }
+    requires right { length b.now ≡ D }
+    requires room { length res.old ≡ D }
+    ensures { res.new ≡ quotient_mul R.ops D (binomial R.ops D w) a.now b.now }
+{
+    binomial_product::<R, R, D>(a, b, res, w);
+}
+
+/// `binomial_square` by an element W of the ring itself, where `res` is all zero before. This
+/// project's own.
+#[inline]
+pub fn ring_square<R: PrimeCharacteristicRing, const D: usize>(a: &[R], res: &mut [R], w: R)
+    requires degree { 1 ≤ D }
+    requires input { length a.now ≡ D }
+    requires zeroed { res.old ≡ replicate D R.ops.zero }
+    ensures { res.new ≡ quotient_mul R.ops D (binomial R.ops D w) a.now a.now }
+{
+    binomial_square::<R, R, D>(a, res, w);
+}
+
+/// Each coefficient times its power of `root`.
+#[inline]
+pub fn scale_by_powers<F: PrimeCharacteristicRing>(a: &[F], root: F, res: &mut [F])
+    requires { length res.old ≡ length a.now }
+    ensures { res.new ≡ scale_powers F.ops (length a.now) root a.now }
+{
+    let mut power = F::one();
+    for i in 0..res.len() {
+        let scaled = a[i] * power;
+        res[i] = scaled;
+        power = power * root;
+    }
+}

@@ -1,0 +1,291 @@
+ghost use Rattle.std.specs.Prelude.{◌≡◌, ◌≤◌, ◌<◌, ◌+◌, ◌-◌, length, get_or};
+ghost use Rattle.p3_theory.specs.Polynomial.{quotient_mul, binomial};
+ghost use Rattle.p3_theory.specs.ConvolutionSums.{first_sum};
+ghost use Rattle.p3_theory.specs.ProductPlaces.{product_place};
+
+use p3_ring::ring::{Algebra, PrimeCharacteristicRing};
+
+/// The sum of `a[skip + i] * b[top - i]` for i below `count`.
+#[inline]
+pub fn products_at<A: PrimeCharacteristicRing>(
+    a: &[A],
+    b: &[A],
+    skip: usize,
+    top: usize,
+    count: usize,
+) -> A
+    requires some { 1 ≤ count }
+    requires first { skip + count ≤ length a.now }
+    requires second { top < length b.now }
+    requires places { count ≤ top + 1 }
+    ensures { result ≡ first_sum A.ops.zero A.ops.add count (λ i. A.ops.mul (get_or a.now (skip + i) A.ops.zero) (get_or b.now (top - i) A.ops.zero)) }
+{
+    let mut sum = a[skip] * b[top];
+    for i in 1..count {
+        let product = a[skip + i] * b[top - i];
+        sum = sum + product;
+    }
+    sum
+}
+
+/// The coefficient at `X^k` of the product of two lists of `degree` coefficients modulo
+/// `X^degree - W`. Upstream's `compute_coefficient`.
+#[inline]
+pub fn compute_coefficient<F: PrimeCharacteristicRing, A: Algebra<F>>(
+    a: &[A],
+    b: &[A],
+    degree: usize,
+    k: usize,
+    w: F,
+) -> A
+    requires place { k < degree }
+    requires left { length a.now ≡ degree }
+    requires right { length b.now ≡ degree }
+    ensures { result ≡ product_place A.ops degree (A.embed w) a.now b.now k }
+{
+    let low = products_at(a, b, 0, k, k + 1);
+    let above = degree - 1 - k;
+    if above == 0 {
+        return low;
+    }
+    let high = products_at(a, b, k + 1, degree - 1, above);
+    let folded = high * w;
+    low + folded
+}
+
+/// The sum `x * t + y * z` from the products `x * z` and `y * t`, by one product more: Karatsuba's
+/// method.
+#[inline]
+fn cross_sum<A: PrimeCharacteristicRing>(x: A, y: A, z: A, t: A, outer: A, inner: A) -> A
+    requires outer { outer ≡ A.ops.mul x z }
+    requires inner { inner ≡ A.ops.mul y t }
+    ensures { result ≡ A.ops.add (A.ops.mul x t) (A.ops.mul y z) }
+{
+    let left = x + y;
+    let right = z + t;
+    let whole = left * right;
+    let rest = whole - outer;
+    rest - inner
+}
+
+/// The product of two linear polynomials modulo `X^2 - W`.
+#[inline]
+pub fn quadratic_mul<F: PrimeCharacteristicRing, A: Algebra<F>>(
+    a: &[A],
+    b: &[A],
+    res: &mut [A],
+    w: F,
+)
+    requires left { length a.now ≡ 2 }
+    requires right { length b.now ≡ 2 }
+    requires room { length res.old ≡ 2 }
+    ensures { res.new ≡ quotient_mul A.ops 2 (binomial A.ops 2 (A.embed w)) a.now b.now }
+{
+    let a0 = a[0];
+    let a1 = a[1];
+    let b0 = b[0];
+    let b1 = b[1];
+    let b1_w = b1 * w;
+    let constant = a0 * b0;
+    let folded = a1 * b1_w;
+    let outer = a0 * b1;
+    let inner = a1 * b0;
+    let low = constant + folded;
+    let high = outer + inner;
+    res[0] = low;
+    res[1] = high;
+}
+
+/// The square of a linear polynomial modulo `X^2 - W`.
+#[inline]
+pub fn quadratic_square<F: PrimeCharacteristicRing, A: Algebra<F>>(a: &[A], res: &mut [A], w: F)
+    requires input { length a.now ≡ 2 }
+    requires room { length res.old ≡ 2 }
+    ensures { res.new ≡ quotient_mul A.ops 2 (binomial A.ops 2 (A.embed w)) a.now a.now }
+{
+    A::quadratic_extension_square(a, w, res);
+}
+
+/// The product of two lists of three coefficients modulo `X^3 - W`, by Karatsuba's method.
+#[inline]
+pub fn cubic_mul<F: PrimeCharacteristicRing, A: Algebra<F>>(a: &[A], b: &[A], res: &mut [A], w: F)
+    requires left { length a.now ≡ 3 }
+    requires right { length b.now ≡ 3 }
+    requires room { length res.old ≡ 3 }
+    ensures { res.new ≡ quotient_mul A.ops 3 (binomial A.ops 3 (A.embed w)) a.now b.now }
+{
+    let a0 = a[0];
+    let a1 = a[1];
+    let a2 = a[2];
+    let b0 = b[0];
+    let b1 = b[1];
+    let b2 = b[2];
+    let a0_b0 = a0 * b0;
+    let a1_b1 = a1 * b1;
+    let a2_b2 = a2 * b2;
+    let cross_12 = cross_sum(a1, a2, b1, b2, a1_b1, a2_b2);
+    let cross_01 = cross_sum(a0, a1, b0, b1, a0_b0, a1_b1);
+    let cross_02 = cross_sum(a0, a2, b0, b2, a0_b0, a2_b2);
+    let cross_12_w = cross_12 * w;
+    let a2_b2_w = a2_b2 * w;
+    let c0 = a0_b0 + cross_12_w;
+    let c1 = cross_01 + a2_b2_w;
+    let c2 = cross_02 + a1_b1;
+    res.copy_from_slice(&[c0, c1, c2]);
+}
+
+/// The square of a list of three coefficients modulo `X^3 - W`.
+#[inline]
+pub fn cubic_square<F: PrimeCharacteristicRing, A: Algebra<F>>(a: &[A], res: &mut [A], w: F)
+    requires input { length a.now ≡ 3 }
+    requires room { length res.old ≡ 3 }
+    ensures { res.new ≡ quotient_mul A.ops 3 (binomial A.ops 3 (A.embed w)) a.now a.now }
+{
+    let a0 = a[0];
+    let a1 = a[1];
+    let a2 = a[2];
+    let a2_w = a2 * w;
+    let a0_a0 = a0.square();
+    let a1_a1 = a1.square();
+    let a1_a2_w = a1 * a2_w;
+    let a2_a2_w = a2_w * a2;
+    let a0_a1 = a0 * a1;
+    let a0_a2 = a0 * a2;
+    let two_a1_a2_w = a1_a2_w.double();
+    let two_a0_a1 = a0_a1.double();
+    let two_a0_a2 = a0_a2.double();
+    let c0 = a0_a0 + two_a1_a2_w;
+    let c1 = a2_a2_w + two_a0_a1;
+    let c2 = a1_a1 + two_a0_a2;
+    res.copy_from_slice(&[c0, c1, c2]);
+}
+
+/// The product of two lists of four coefficients modulo `X^4 - W`. Upstream's `quartic_mul`.
+#[inline]
+pub fn quartic_mul<F: PrimeCharacteristicRing, A: Algebra<F>>(a: &[A], b: &[A], res: &mut [A], w: F)
+    requires left { length a.now ≡ 4 }
+    requires right { length b.now ≡ 4 }
+    requires room { length res.old ≡ 4 }
+    ensures { res.new ≡ quotient_mul A.ops 4 (binomial A.ops 4 (A.embed w)) a.now b.now }
+{
+    let c0 = compute_coefficient(a, b, 4, 0, w);
+    let c1 = compute_coefficient(a, b, 4, 1, w);
+    let c2 = compute_coefficient(a, b, 4, 2, w);
+    let c3 = compute_coefficient(a, b, 4, 3, w);
+    res.copy_from_slice(&[c0, c1, c2, c3]);
+}
+
+/// The square of a list of four coefficients modulo `X^4 - W`.
+#[inline]
+pub fn quartic_square<F: PrimeCharacteristicRing, A: Algebra<F>>(a: &[A], res: &mut [A], w: F)
+    requires input { length a.now ≡ 4 }
+    requires room { length res.old ≡ 4 }
+    ensures { res.new ≡ quotient_mul A.ops 4 (binomial A.ops 4 (A.embed w)) a.now a.now }
+{
+    let a0 = a[0];
+    let a1 = a[1];
+    let a2 = a[2];
+    let a3 = a[3];
+    let two_a0 = a0.double();
+    let two_a1 = a1.double();
+    let two_a2 = a2.double();
+    let a2_w = a2 * w;
+    let a3_w = a3 * w;
+    let c0 = A::dot_product(&[a0, a2_w, two_a1], &[a0, a2, a3_w]);
+    let c1 = A::dot_product(&[two_a0, two_a2], &[a1, a3_w]);
+    let c2 = A::dot_product(&[a1, a3_w, two_a0], &[a1, a3, a2]);
+    let c3 = A::dot_product(&[two_a0, two_a2], &[a3, a1]);
+    res.copy_from_slice(&[c0, c1, c2, c3]);
+}
+
+/// The product of two lists of five coefficients modulo `X^5 - W`. Upstream's `quintic_mul`.
+#[inline]
+pub fn quintic_mul<F: PrimeCharacteristicRing, A: Algebra<F>>(a: &[A], b: &[A], res: &mut [A], w: F)
+    requires left { length a.now ≡ 5 }
+    requires right { length b.now ≡ 5 }
+    requires room { length res.old ≡ 5 }
+    ensures { res.new ≡ quotient_mul A.ops 5 (binomial A.ops 5 (A.embed w)) a.now b.now }
+{
+    let c0 = compute_coefficient(a, b, 5, 0, w);
+    let c1 = compute_coefficient(a, b, 5, 1, w);
+    let c2 = compute_coefficient(a, b, 5, 2, w);
+    let c3 = compute_coefficient(a, b, 5, 3, w);
+    let c4 = compute_coefficient(a, b, 5, 4, w);
+    res.copy_from_slice(&[c0, c1, c2, c3, c4]);
+}
+
+/// The square of a list of five coefficients modulo `X^5 - W`.
+#[inline]
+pub fn quintic_square<F: PrimeCharacteristicRing, A: Algebra<F>>(a: &[A], res: &mut [A], w: F)
+    requires input { length a.now ≡ 5 }
+    requires room { length res.old ≡ 5 }
+    ensures { res.new ≡ quotient_mul A.ops 5 (binomial A.ops 5 (A.embed w)) a.now a.now }
+{
+    let a0 = a[0];
+    let a1 = a[1];
+    let a2 = a[2];
+    let a3 = a[3];
+    let a4 = a[4];
+    let two_a0 = a0.double();
+    let two_a1 = a1.double();
+    let two_a2 = a2.double();
+    let two_a3 = a3.double();
+    let w_a3 = a3 * w;
+    let w_a4 = a4 * w;
+    let c0 = A::dot_product(&[a0, w_a4, w_a3], &[a0, two_a1, two_a2]);
+    let c1 = A::dot_product(&[w_a3, two_a0, w_a4], &[a3, a1, two_a2]);
+    let c2 = A::dot_product(&[a1, two_a0, w_a4], &[a1, a2, two_a3]);
+    let c3 = A::dot_product(&[w_a4, two_a0, two_a1], &[a4, a3, a2]);
+    let c4 = A::dot_product(&[a2, two_a0, two_a1], &[a2, a4, a3]);
+    res.copy_from_slice(&[c0, c1, c2, c3, c4]);
+}
+
+/// The product of two lists of eight coefficients modulo `X^8 - W`. Upstream's `octic_mul`.
+#[inline]
+pub fn octic_mul<F: PrimeCharacteristicRing, A: Algebra<F>>(a: &[A], b: &[A], res: &mut [A], w: F)
+    requires left { length a.now ≡ 8 }
+    requires right { length b.now ≡ 8 }
+    requires room { length res.old ≡ 8 }
+    ensures { res.new ≡ quotient_mul A.ops 8 (binomial A.ops 8 (A.embed w)) a.now b.now }
+{
+    let c0 = compute_coefficient(a, b, 8, 0, w);
+    let c1 = compute_coefficient(a, b, 8, 1, w);
+    let c2 = compute_coefficient(a, b, 8, 2, w);
+    let c3 = compute_coefficient(a, b, 8, 3, w);
+    let c4 = compute_coefficient(a, b, 8, 4, w);
+    let c5 = compute_coefficient(a, b, 8, 5, w);
+    let c6 = compute_coefficient(a, b, 8, 6, w);
+    let c7 = compute_coefficient(a, b, 8, 7, w);
+    res.copy_from_slice(&[c0, c1, c2, c3, c4, c5, c6, c7]);
+}
+
+/// The square of a list of eight coefficients modulo `X^8 - W`.
+#[inline]
+pub fn octic_square<F: PrimeCharacteristicRing, A: Algebra<F>>(a: &[A], res: &mut [A], w: F)
+    requires input { length a.now ≡ 8 }
+    requires room { length res.old ≡ 8 }
+    ensures { res.new ≡ quotient_mul A.ops 8 (binomial A.ops 8 (A.embed w)) a.now a.now }
+{
+    let (a0, a1, a2, a3) = (a[0], a[1], a[2], a[3]);
+    let (a4, a5, a6, a7) = (a[4], a[5], a[6], a[7]);
+    let a0_2 = a0.double();
+    let a1_2 = a1.double();
+    let a2_2 = a2.double();
+    let a3_2 = a3.double();
+    let w_a4 = a4 * w;
+    let w_a5 = a5 * w;
+    let w_a6 = a6 * w;
+    let w_a7 = a7 * w;
+    let w_a5_2 = w_a5.double();
+    let w_a6_2 = w_a6.double();
+    let w_a7_2 = w_a7.double();
+    let c0 = A::dot_product(&[a0, a1, a2, a3, a4], &[a0, w_a7_2, w_a6_2, w_a5_2, w_a4]);
+    let c1 = A::dot_product(&[a0_2, a2, a3, a4], &[a1, w_a7_2, w_a6_2, w_a5_2]);
+    let c2 = A::dot_product(&[a0_2, a1, a3, a4, a5], &[a2, a1, w_a7_2, w_a6_2, w_a5]);
+    let c3 = A::dot_product(&[a0_2, a1_2, a4, a5], &[a3, a2, w_a7_2, w_a6_2]);
+    let c4 = A::dot_product(&[a0_2, a1_2, a2, a5, a6], &[a4, a3, a2, w_a7_2, w_a6]);
+    let c5 = A::dot_product(&[a0_2, a1_2, a2_2, a6], &[a5, a4, a3, w_a7_2]);
+    let c6 = A::dot_product(&[a0_2, a1_2, a2_2, a3, a7], &[a6, a5, a4, a3, w_a7]);
+    let c7 = A::dot_product(&[a0_2, a1_2, a2_2, a3_2], &[a7, a6, a5, a4]);
+    res.copy_from_slice(&[c0, c1, c2, c3, c4, c5, c6, c7]);
+}

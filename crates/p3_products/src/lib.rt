@@ -1,0 +1,10 @@
+//! Products, squares and fixed inverses of coefficient lists, over slices.
+#![tactic(auto)]
+
+pub mod binomial_extension;
+pub mod binomial_inverses;
+pub mod binomial_products;
+pub mod cubic_extension;
+pub mod power_table;
+pub mod quintic_extension;
+pub mod vectors;

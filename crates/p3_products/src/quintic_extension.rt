@@ -1,0 +1,76 @@
+ghost use Rattle.std.specs.Prelude.{◌≡◌, length};
+ghost use Rattle.p3_theory.specs.Polynomial.{quotient_mul};
+ghost use Rattle.p3_theory.specs.Trinomials.{quintic_trinomial};
+
+use p3_ring::ring::PrimeCharacteristicRing;
+
+/// The product of two lists of five coefficients modulo `X^5 + X^2 - 1`. Upstream's
+/// `trinomial_quintic_mul`.
+#[inline]
+pub fn trinomial_quintic_mul<R: PrimeCharacteristicRing>(a: &[R], b: &[R], res: &mut [R])
+    requires left { length a.now ≡ 5 }
+    requires right { length b.now ≡ 5 }
+    requires room { length res.old ≡ 5 }
+    ensures { res.new ≡ quotient_mul R.ops 5 (quintic_trinomial R.ops) a.now b.now }
+{
+    let (a0, a1, a2, a3, a4) = (a[0], a[1], a[2], a[3], a[4]);
+    let (b0, b1, b2, b3, b4) = (b[0], b[1], b[2], b[3], b[4]);
+    let c0 = a0 * b0;
+    let c1 = R::dot_product(&[a0, a1], &[b1, b0]);
+    let c2 = R::dot_product(&[a0, a1, a2], &[b2, b1, b0]);
+    let c3 = R::dot_product(&[a0, a1, a2, a3], &[b3, b2, b1, b0]);
+    let c4 = R::dot_product(&[a0, a1, a2, a3, a4], &[b4, b3, b2, b1, b0]);
+    let c5 = R::dot_product(&[a1, a2, a3, a4], &[b4, b3, b2, b1]);
+    let c6 = R::dot_product(&[a2, a3, a4], &[b4, b3, b2]);
+    let c7 = R::dot_product(&[a3, a4], &[b4, b3]);
+    let c8 = a4 * b4;
+    let c5_minus_c8 = c5 - c8;
+    let r0 = c0 + c5_minus_c8;
+    let r1 = c1 + c6;
+    let rest2 = c2 - c5_minus_c8;
+    let r2 = rest2 + c7;
+    let rest3 = c3 - c6;
+    let r3 = rest3 + c8;
+    let r4 = c4 - c7;
+    res[0] = r0;
+    res[1] = r1;
+    res[2] = r2;
+    res[3] = r3;
+    res[4] = r4;
+}
+
+/// The square of a list of five coefficients modulo `X^5 + X^2 - 1`. Upstream's `quintic_square`.
+#[inline]
+pub fn quintic_square<R: PrimeCharacteristicRing>(a: &[R], res: &mut [R])
+    requires input { length a.now ≡ 5 }
+    requires room { length res.old ≡ 5 }
+    ensures { res.new ≡ quotient_mul R.ops 5 (quintic_trinomial R.ops) a.now a.now }
+{
+    let (a0, a1, a2, a3, a4) = (a[0], a[1], a[2], a[3], a[4]);
+    let a0_2 = a0.double();
+    let a1_2 = a1.double();
+    let a2_2 = a2.double();
+    let a3_2 = a3.double();
+    let c0 = a0.square();
+    let c1 = a0_2 * a1;
+    let c2 = R::dot_product(&[a0_2, a1], &[a2, a1]);
+    let c3 = R::dot_product(&[a0_2, a1_2], &[a3, a2]);
+    let c4 = R::dot_product(&[a0_2, a1_2, a2], &[a4, a3, a2]);
+    let c5 = R::dot_product(&[a1_2, a2_2], &[a4, a3]);
+    let c6 = R::dot_product(&[a2_2, a3], &[a4, a3]);
+    let c7 = a3_2 * a4;
+    let c8 = a4.square();
+    let c5_minus_c8 = c5 - c8;
+    let r0 = c0 + c5_minus_c8;
+    let r1 = c1 + c6;
+    let rest2 = c2 - c5_minus_c8;
+    let r2 = rest2 + c7;
+    let rest3 = c3 - c6;
+    let r3 = rest3 + c8;
+    let r4 = c4 - c7;
+    res[0] = r0;
+    res[1] = r1;
+    res[2] = r2;
+    res[3] = r3;
+    res[4] = r4;
+}

@@ -1,0 +1,72 @@
+ghost use Rattle.std.specs.Prelude.{◌≡◌, ◌<◌, length, map, List};
+ghost use Rattle.p3_theory.specs.Polynomial.{quotient_add, embed};
+ghost use Rattle.p3_theory.specs.BaseProduct.{scaled};
+ghost use Rattle.p3_products.specs.Entries.{entrywise_difference};
+
+use p3_ring::ring::{Algebra, PrimeCharacteristicRing};
+
+/// Writes the sums entry by entry.
+#[inline]
+pub fn add_entries<R: Algebra<R2>, R2: PrimeCharacteristicRing>(a: &[R], b: &[R2], res: &mut [R])
+    requires lengths { length a.now ≡ length b.now }
+    requires room { length res.old ≡ length a.now }
+    ensures { res.new ≡ quotient_add R.ops (length a.now) a.now (map R.embed b.now) }
+{
+    for i in 0..res.len() {
+        let sum = a[i] + b[i];
+        res[i] = sum;
+    }
+}
+
+/// Writes the differences entry by entry.
+#[inline]
+pub fn sub_entries<R: Algebra<R2>, R2: PrimeCharacteristicRing>(a: &[R], b: &[R2], res: &mut [R])
+    requires lengths { length a.now ≡ length b.now }
+    requires room { length res.old ≡ length a.now }
+    ensures { res.new ≡ entrywise_difference R.ops (length a.now) a.now (map R.embed b.now) }
+{
+    for i in 0..res.len() {
+        let difference = a[i] - b[i];
+        res[i] = difference;
+    }
+}
+
+/// Writes each entry times one factor.
+#[inline]
+pub fn scale_entries<R: PrimeCharacteristicRing>(a: &[R], factor: R, res: &mut [R])
+    requires room { length res.old ≡ length a.now }
+    ensures { res.new ≡ scaled R.ops (length a.now) a.now factor }
+{
+    for i in 0..res.len() {
+        let product = a[i] * factor;
+        res[i] = product;
+    }
+}
+
+/// The sum of two lists of D coefficients, entry by entry, the second ones embedded. Upstream's
+/// `vector_add`.
+#[inline]
+pub fn vector_add<R: Algebra<R2>, R2: PrimeCharacteristicRing, const D: usize>(
+    a: &[R; D],
+    b: &[R2; D],
+) -> [R; D]
+    ensures { result ≡ quotient_add R.ops D a.now (map R.embed b.now) }
+{
+    let mut res = *a;
+    add_entries(a, b, &mut res);
+    res
+}
+
+/// The difference of two lists of D coefficients, entry by entry, the second ones embedded.
+/// Upstream's `vector_sub`.
+#[inline]
+pub fn vector_sub<R: Algebra<R2>, R2: PrimeCharacteristicRing, const D: usize>(
+    a: &[R; D],
+    b: &[R2; D],
+) -> [R; D]
+    ensures { result ≡ entrywise_difference R.ops D a.now (map R.embed b.now) }
+{
+    let mut res = *a;
+    sub_entries(a, b, &mut res);
+    res
+}

@@ -1,0 +1,11 @@
+use Rattle.std.proofs.Common.{◌≡◌}
+use Rattle.p3_theory.specs.Powers.{power}
+use Rattle.p3_ring.proofs.ring.PrimeCharacteristicRing.exp_u64.Given as goal
+
+abbrev pub invariant-loop-rest : goal.invariant-loop-rest
+invariant-loop-rest g l =
+    let o = g.Self.PrimeCharacteristicRing.ops in
+    o.mul l.product (power o l.current l.rest) ≡ power o l.self l.exponent
+
+abbrev pub decreases-loop-rest : goal.decreases-loop-rest
+decreases-loop-rest g l = l.rest

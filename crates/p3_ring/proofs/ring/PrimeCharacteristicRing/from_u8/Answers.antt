@@ -1,0 +1,10 @@
+use Rattle.std.specs.Prelude.{pos}
+use Rattle.p3_theory.specs.Multiples.{multiple_of_residue}
+use Rattle.p3_ring.proofs.ring.PrimeCharacteristicRing.from_u8.Goals as goal
+
+pub returns : goal.returns
+returns g c =
+    let m = g.met.Self.PrimeCharacteristicRing in
+    let f = c.of_u8-residue.result in
+    multiple_of_residue m.ring g.Self.PrimeSubfield.Quotient.order m.characteristic (pos c.args.int) _ c.of_u8-residue.ensures
+    (g.Self.PrimeSubfield.Quotient.below f) _ c.from_prime_subfield.ensures

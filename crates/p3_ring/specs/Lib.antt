@@ -1,0 +1,2 @@
+pub mod BoundedSequence
+pub mod ChunkLengths

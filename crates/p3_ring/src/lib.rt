@@ -1,0 +1,12 @@
+//! Rings and algebras, powers, sums and linear combinations, over the integer maps of `p3_integers`.
+#![tactic(auto)]
+
+pub mod accumulate;
+pub mod const_power;
+pub mod linear_combination;
+pub mod powers;
+pub mod ring;
+pub mod sponge;
+pub mod sums;
+
+pub use p3_integers::{dup as dup, integers as integers};

@@ -1,0 +1,12 @@
+//! Spaces over a ring: basis calls, extension fields, streams of bytes and words, columnwise products
+//! and monomials.
+#![tactic(auto)]
+
+pub mod array_chunks;
+pub mod basis;
+pub mod columnwise;
+pub mod extension_field;
+pub mod monomials;
+pub mod parallel_streams;
+pub mod sampling;
+pub mod streams;
