@@ -1,12 +1,12 @@
 ghost use Rattle.std.specs.Prelude.{◌≡◌, ◌≢◌, ◌↔◌, ◌≤◌, ℕ, IsTrue, IsSome, IfSome, MatchOption, Option, Some, Decides, List, length};
-ghost use Rattle.p3_theory.specs.Ring.{Ops, Invertible, IsInverse};
-ghost use Rattle.p3_theory.specs.Multiples.{of_nat};
-ghost use Rattle.p3_theory.specs.PairedLists.{zip_with};
-ghost use Rattle.p3_theory.specs.BitLength.{IsBitLength};
-ghost use Rattle.p3_theory.specs.Residues.{AreResidues};
-ghost use Rattle.p3_theory.specs.ValueLists.{ValueList};
-ghost use Rattle.p3_theory.specs.SquareRoots.{IsSquareRoot, CountedByGenerator};
-ghost use Rattle.p3_theory.specs.TwoAdic.{AreTwoAdicGenerators, DividesOrder};
+ghost use Rattle.p3_theory.specs.Rings.Ring.{Ops, Invertible, IsInverse};
+ghost use Rattle.p3_theory.specs.Rings.Multiples.{of_nat};
+ghost use Rattle.p3_theory.specs.Lists.PairedLists.{zip_with};
+ghost use Rattle.p3_theory.specs.ResidueRings.BitLength.{IsBitLength};
+ghost use Rattle.p3_theory.specs.ResidueRings.Residues.{AreResidues};
+ghost use Rattle.p3_theory.specs.Roots.ValueLists.{ValueList};
+ghost use Rattle.p3_theory.specs.Roots.SquareRoots.{IsSquareRoot, CountedByGenerator};
+ghost use Rattle.p3_theory.specs.Roots.TwoAdic.{AreTwoAdicGenerators, DividesOrder};
 
 use crate::sqrt::tonelli_shanks;
 use p3_integers::integers::{Quotient, QuotientMap};

@@ -1,7 +1,7 @@
 //! Laws of fields, as contracts for other crates to stand on.
 ghost use Rattle.std.specs.Prelude.{◌≡◌, ◌≢◌, ◌-◌, IsSome, IfSome};
-ghost use Rattle.p3_theory.specs.Powers.{power};
-ghost use Rattle.p3_theory.specs.ZeroDivisors.{HasNoZeroDivisors};
+ghost use Rattle.p3_theory.specs.Rings.Powers.{power};
+ghost use Rattle.p3_theory.specs.Rings.ZeroDivisors.{HasNoZeroDivisors};
 
 use crate::field::Field;
 

@@ -2,7 +2,7 @@
 use Rattle.std.proofs.Common.{◌≡◌, ◌<◌, ◌≤◌, ◌+◌, ◌-◌, ◌%◌, ℕ, ap, arith, ◌∙◌, sym, inl, inr}
 use Rattle.std.proofs.Math.Nat.{mod-eq_of_lt}
 use Rattle.std.proofs.lemmas.Bool.{cases_lt}
-use Rattle.p3_theory.specs.Modular.{reduce_once}
+use Rattle.p3_theory.specs.ResidueRings.Modular.{reduce_once}
 use Rattle.p3_bench_residues.specs.Forms.{IsForm}
 
 -- what was added modulo n is taken off again

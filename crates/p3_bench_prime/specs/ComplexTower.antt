@@ -1,12 +1,12 @@
 -- Two-adic generators of the extension of degree 2 over complex values modulo 31, by Y^2 = 3 + 2 X: from numbers to residues in any form.
 use Rattle.std.specs.Prelude.{◌≡◌, ℕ, List, [], ◌∷◌, map, get_or, refl}
 use Rattle.std.proofs.Common.{ap, ◌∙◌, subst}
-use Rattle.p3_theory.specs.Ring.{Ops, Hom}
-use Rattle.p3_theory.specs.Polynomial.{binomial, quotient_ops}
-use Rattle.p3_theory.specs.Residues.{residues, IsResidues, residue_ops, of_keeps}
-use Rattle.p3_theory.specs.Homomorphism.{quotient-map}
-use Rattle.p3_theory.specs.TableEntries.{binomial-along}
-use Rattle.p3_theory.specs.TwoAdicCoefficients.{AreExtensionGenerators, GeneratorEquations, equations_generate, coefficients-along}
+use Rattle.p3_theory.specs.Rings.Ring.{Ops, Hom}
+use Rattle.p3_theory.specs.Polynomials.Polynomial.{binomial, quotient_ops}
+use Rattle.p3_theory.specs.ResidueRings.Residues.{residues, IsResidues, residue_ops, of_keeps}
+use Rattle.p3_theory.specs.Rings.Homomorphism.{quotient-map}
+use Rattle.p3_theory.specs.FrobeniusMaps.TableEntries.{binomial-along}
+use Rattle.p3_theory.specs.Roots.TwoAdicCoefficients.{AreExtensionGenerators, GeneratorEquations, equations_generate, coefficients-along}
 use Rattle.p3_ext.specs.ComplexValues.{complex_ops}
 use Rattle.p3_ext.specs.ExtensionGenerators.{generators_over_values}
 use Rattle.p3_bench_prime.specs.ComplexNumbers.{complex_of}

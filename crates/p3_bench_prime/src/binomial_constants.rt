@@ -1,6 +1,6 @@
 //! Extensions of `Fp` by `X^D = W`: from W, a root of unity and the chosen element to all laws.
 ghost use Rattle.std.specs.Prelude.{◌≡◌, ◌<◌, ◌≤◌, ℕ, List, true, get_or};
-ghost use Rattle.p3_theory.specs.RootsOfUnity.{is_root_of_unity};
+ghost use Rattle.p3_theory.specs.ResidueRings.RootsOfUnity.{is_root_of_unity};
 
 use crate::form::Form;
 use crate::fp::Fp;
@@ -49,7 +49,7 @@ pub trait BinomialConstants<const D: usize>: Form {
 
 impl<W: BinomialConstants<D>, const D: usize> ExtensionProduct<Fp<W>, D, Binomial<Fp<W>>>
     for Fp<W> {
-    ghost use Rattle.p3_theory.specs.Polynomial.{quotient_mul, binomial};
+    ghost use Rattle.p3_theory.specs.Polynomials.Polynomial.{quotient_mul, binomial};
     ghost use Rattle.p3_bench_prime.specs.Elements.{of, ops};
 
     ghost ext_product_gives = { λ a b r. r ≡ quotient_mul (ops W.Form) D (binomial (ops W.Form) D (of W.Form W.W)) a b };
@@ -63,8 +63,8 @@ impl<W: BinomialConstants<D>, const D: usize> ExtensionProduct<Fp<W>, D, Binomia
 impl<W: BinomialConstants<D>, const D: usize> ExtensionAlgebra<Fp<W>, D, Binomial<Fp<W>>>
     for Fp<W> {
     ghost use Rattle.std.proofs.Common.{arith};
-    ghost use Rattle.p3_theory.specs.Polynomial.{binomial};
-    ghost use Rattle.p3_theory.specs.BinomialFrobenius.{binomial_is_monic};
+    ghost use Rattle.p3_theory.specs.Polynomials.Polynomial.{binomial};
+    ghost use Rattle.p3_theory.specs.FrobeniusMaps.BinomialFrobenius.{binomial_is_monic};
     ghost use Rattle.p3_bench_prime.specs.Elements.{of, ops};
 
     ghost modulus = { binomial (ops W.Form) D (of W.Form W.W) };
@@ -83,7 +83,7 @@ impl<W: BinomialConstants<D>, const D: usize> ExtensionAlgebra<Fp<W>, D, Binomia
 
 impl<W: BinomialConstants<D>, const D: usize> BinomiallyExtendable<D> for Fp<W> {
     ghost use Rattle.std.specs.Prelude.{refl};
-    ghost use Rattle.p3_theory.specs.RootsOfUnity.{root_power, root_apart};
+    ghost use Rattle.p3_theory.specs.ResidueRings.RootsOfUnity.{root_power, root_apart};
     ghost use Rattle.p3_bench_prime.specs.Elements.{of, is};
 
     ghost w = { of W.Form W.W };

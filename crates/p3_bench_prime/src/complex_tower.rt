@@ -1,8 +1,8 @@
 //! The extension of degree 2 over the complex values of `F31`.
 ghost use Rattle.std.specs.Prelude.{[], ◌∷◌, codes, refl, get_or};
 ghost use Rattle.std.proofs.Common.{lit≤};
-ghost use Rattle.p3_theory.specs.Residues.{residue_laws};
-ghost use Rattle.p3_theory.specs.Ring.{ring_of};
+ghost use Rattle.p3_theory.specs.ResidueRings.Residues.{residue_laws};
+ghost use Rattle.p3_theory.specs.Rings.Ring.{ring_of};
 ghost use Rattle.p3_ext.specs.ComplexTowers.{complex_root_power, complex_root_apart};
 ghost use Rattle.p3_ext.specs.ComplexValues.{complex_ops};
 ghost use Rattle.p3_bench_prime.specs.ComplexNumbers.{complex_of};

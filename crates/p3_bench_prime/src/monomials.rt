@@ -1,7 +1,7 @@
 //! Powers that permute the values of prime fields: from the exponent that undoes each to all laws.
 ghost use Rattle.std.specs.Prelude.{◌≡◌, ℕ, refl};
-ghost use Rattle.p3_theory.specs.Powers.{power};
-ghost use Rattle.p3_theory.specs.Monomials.{AreInverseExponents};
+ghost use Rattle.p3_theory.specs.Rings.Powers.{power};
+ghost use Rattle.p3_theory.specs.Roots.Monomials.{AreInverseExponents};
 
 use crate::baby_bear::BabyBearModulus;
 use crate::form::{Form, Plain};
@@ -26,7 +26,7 @@ pub trait MonomialConstants<const N: u64>: Form {
 }
 
 impl<W: MonomialConstants<N>, const N: u64> InjectiveMonomial<N> for Fp<W> {
-    ghost use Rattle.p3_theory.specs.Monomials.{residue_injective_power};
+    ghost use Rattle.p3_theory.specs.Roots.Monomials.{residue_injective_power};
     ghost use Rattle.p3_bench_prime.specs.Elements.{is};
 
     ghost injective = { λ domain. residue_injective_power (is W.Form) domain N W.ROOT_EXPONENT W.inverse_exponents };

@@ -1,8 +1,8 @@
 //! Extensions of `Fp` by `X^3 = X + 1` and `X^5 = 1 - X^2`: from a table of numbers to all laws.
 ghost use Rattle.std.specs.Prelude.{◌≡◌, ◌<◌, ℕ, List, [], get_or};
-ghost use Rattle.p3_theory.specs.FrobeniusTable.{TableProof, matrix_of, coeffs_of};
-ghost use Rattle.p3_theory.specs.Residues.{residues};
-ghost use Rattle.p3_theory.specs.Trinomials.{cubic_trinomial, quintic_trinomial};
+ghost use Rattle.p3_theory.specs.FrobeniusMaps.FrobeniusTable.{TableProof, matrix_of, coeffs_of};
+ghost use Rattle.p3_theory.specs.ResidueRings.Residues.{residues};
+ghost use Rattle.p3_theory.specs.Products.Trinomials.{cubic_trinomial, quintic_trinomial};
 
 use crate::form::Form;
 use crate::fp::Fp;
@@ -48,7 +48,7 @@ pub trait CubicConstants: Form {
 }
 
 impl<W: CubicConstants> ExtensionProduct<Fp<W>, 3, CubicTrinomial> for Fp<W> {
-    ghost use Rattle.p3_theory.specs.Polynomial.{quotient_mul};
+    ghost use Rattle.p3_theory.specs.Polynomials.Polynomial.{quotient_mul};
     ghost use Rattle.p3_bench_prime.specs.Elements.{ops};
 
     ghost ext_product_gives = { λ a b r. r ≡ quotient_mul (ops W.Form) 3 (cubic_trinomial (ops W.Form)) a b };
@@ -61,7 +61,7 @@ impl<W: CubicConstants> ExtensionProduct<Fp<W>, 3, CubicTrinomial> for Fp<W> {
 
 impl<W: CubicConstants> ExtensionAlgebra<Fp<W>, 3, CubicTrinomial> for Fp<W> {
     ghost use Rattle.std.proofs.Common.{lit≤};
-    ghost use Rattle.p3_theory.specs.Trinomials.{cubic_trinomial_is_monic};
+    ghost use Rattle.p3_theory.specs.Products.Trinomials.{cubic_trinomial_is_monic};
     ghost use Rattle.p3_bench_prime.specs.Elements.{ops};
 
     ghost modulus = { cubic_trinomial (ops W.Form) };
@@ -80,9 +80,9 @@ impl<W: CubicConstants> ExtensionAlgebra<Fp<W>, 3, CubicTrinomial> for Fp<W> {
 
 impl<W: CubicConstants> CubicTrinomialExtendable for Fp<W> {
     ghost use Rattle.std.specs.Prelude.{map, refl};
-    ghost use Rattle.p3_theory.specs.TableEntries.{table_laws_of, cubic-along};
-    ghost use Rattle.p3_theory.specs.Residues.{of_keeps};
-    ghost use Rattle.p3_theory.specs.Trinomials.{cubic_trinomial_is_monic};
+    ghost use Rattle.p3_theory.specs.FrobeniusMaps.TableEntries.{table_laws_of, cubic-along};
+    ghost use Rattle.p3_theory.specs.ResidueRings.Residues.{of_keeps};
+    ghost use Rattle.p3_theory.specs.Products.Trinomials.{cubic_trinomial_is_monic};
     ghost use Rattle.p3_bench_prime.specs.Elements.{of, is};
 
     ghost image = { map (of W.Form) W.CubicConstants.image };
@@ -140,7 +140,7 @@ pub trait QuinticConstants: Form {
 }
 
 impl<W: QuinticConstants> ExtensionProduct<Fp<W>, 5, QuinticTrinomial> for Fp<W> {
-    ghost use Rattle.p3_theory.specs.Polynomial.{quotient_mul};
+    ghost use Rattle.p3_theory.specs.Polynomials.Polynomial.{quotient_mul};
     ghost use Rattle.p3_bench_prime.specs.Elements.{ops};
 
     ghost ext_product_gives = { λ a b r. r ≡ quotient_mul (ops W.Form) 5 (quintic_trinomial (ops W.Form)) a b };
@@ -153,7 +153,7 @@ impl<W: QuinticConstants> ExtensionProduct<Fp<W>, 5, QuinticTrinomial> for Fp<W>
 
 impl<W: QuinticConstants> ExtensionAlgebra<Fp<W>, 5, QuinticTrinomial> for Fp<W> {
     ghost use Rattle.std.proofs.Common.{lit≤};
-    ghost use Rattle.p3_theory.specs.Trinomials.{quintic_trinomial_is_monic};
+    ghost use Rattle.p3_theory.specs.Products.Trinomials.{quintic_trinomial_is_monic};
     ghost use Rattle.p3_bench_prime.specs.Elements.{ops};
 
     ghost modulus = { quintic_trinomial (ops W.Form) };
@@ -172,9 +172,9 @@ impl<W: QuinticConstants> ExtensionAlgebra<Fp<W>, 5, QuinticTrinomial> for Fp<W>
 
 impl<W: QuinticConstants> QuinticTrinomialExtendable for Fp<W> {
     ghost use Rattle.std.specs.Prelude.{map, refl};
-    ghost use Rattle.p3_theory.specs.TableEntries.{table_laws_of, quintic-along};
-    ghost use Rattle.p3_theory.specs.Residues.{of_keeps};
-    ghost use Rattle.p3_theory.specs.Trinomials.{quintic_trinomial_is_monic};
+    ghost use Rattle.p3_theory.specs.FrobeniusMaps.TableEntries.{table_laws_of, quintic-along};
+    ghost use Rattle.p3_theory.specs.ResidueRings.Residues.{of_keeps};
+    ghost use Rattle.p3_theory.specs.Products.Trinomials.{quintic_trinomial_is_monic};
     ghost use Rattle.p3_bench_prime.specs.Elements.{of, is};
 
     ghost image = { map (of W.Form) W.QuinticConstants.image };

@@ -1,6 +1,6 @@
 //! Two-adic generators of the prime fields: from the top generator as a number to all laws.
 ghost use Rattle.std.specs.Prelude.{◌≡◌, ℕ, true, refl};
-ghost use Rattle.p3_theory.specs.ResidueGenerators.{is_two_adic_generator, top_generator};
+ghost use Rattle.p3_theory.specs.ResidueRings.ResidueGenerators.{is_two_adic_generator, top_generator};
 
 use crate::baby_bear::BabyBearModulus;
 use crate::form::{Form, Plain};
@@ -36,8 +36,8 @@ pub trait TopPowerConstants: TwoAdicConstants {
 }
 
 impl<W: TwoAdicConstants> TwoAdicField for Fp<W> {
-    ghost use Rattle.p3_theory.specs.TwoAdic.{repeated_squares};
-    ghost use Rattle.p3_theory.specs.ResidueGenerators.{residue_generators, divides_residue_order};
+    ghost use Rattle.p3_theory.specs.Roots.TwoAdic.{repeated_squares};
+    ghost use Rattle.p3_theory.specs.ResidueRings.ResidueGenerators.{residue_generators, divides_residue_order};
     ghost use Rattle.p3_bench_prime.specs.Elements.{of, ops, is};
 
     ghost two_adic = { repeated_squares (ops W.Form) W.TWO_ADICITY (of W.Form W.TOP_GENERATOR) };
@@ -57,7 +57,7 @@ impl<W: TwoAdicConstants> TwoAdicField for Fp<W> {
 }
 
 impl<W: TopPowerConstants> TwoAdicPowers for Fp<W> {
-    ghost use Rattle.p3_theory.specs.ResidueGenerators.{generator_powers};
+    ghost use Rattle.p3_theory.specs.ResidueRings.ResidueGenerators.{generator_powers};
     ghost use Rattle.p3_bench_prime.specs.Elements.{is};
     ghost use Rattle.p3_bench_residues.specs.Forms.{order_below};
 

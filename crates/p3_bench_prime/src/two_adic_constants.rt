@@ -1,10 +1,10 @@
 //! Two-adic generators of extensions of `Fp`: from a table of coefficients to all laws.
 ghost use Rattle.std.specs.Prelude.{◌≡◌, ◌<◌, ◌≤◌, ℕ, List, Some};
-ghost use Rattle.p3_theory.specs.Polynomial.{binomial};
-ghost use Rattle.p3_theory.specs.Residues.{residues};
-ghost use Rattle.p3_theory.specs.Trinomials.{cubic_trinomial, quintic_trinomial};
-ghost use Rattle.p3_theory.specs.TwoAdic.{DividesOrder};
-ghost use Rattle.p3_theory.specs.TwoAdicCoefficients.{entry, GeneratorEquations};
+ghost use Rattle.p3_theory.specs.Polynomials.Polynomial.{binomial};
+ghost use Rattle.p3_theory.specs.ResidueRings.Residues.{residues};
+ghost use Rattle.p3_theory.specs.Products.Trinomials.{cubic_trinomial, quintic_trinomial};
+ghost use Rattle.p3_theory.specs.Roots.TwoAdic.{DividesOrder};
+ghost use Rattle.p3_theory.specs.Roots.TwoAdicCoefficients.{entry, GeneratorEquations};
 ghost use Rattle.p3_ext.specs.Orders.{extension_size};
 
 use crate::binomial_constants::BinomialConstants;
@@ -39,9 +39,9 @@ pub trait TwoAdicBinomialConstants<const D: usize>: BinomialConstants<D> {
 }
 
 impl<W: TwoAdicBinomialConstants<D>, const D: usize> HasTwoAdicBinomialExtension<D> for Fp<W> {
-    ghost use Rattle.p3_theory.specs.Residues.{of_keeps};
-    ghost use Rattle.p3_theory.specs.TableEntries.{binomial-along};
-    ghost use Rattle.p3_theory.specs.TwoAdicCoefficients.{coefficients-along, equations_generate};
+    ghost use Rattle.p3_theory.specs.ResidueRings.Residues.{of_keeps};
+    ghost use Rattle.p3_theory.specs.FrobeniusMaps.TableEntries.{binomial-along};
+    ghost use Rattle.p3_theory.specs.Roots.TwoAdicCoefficients.{coefficients-along, equations_generate};
     ghost use Rattle.p3_bench_prime.specs.Elements.{of, is};
 
     ghost ext_two_adic = { λ bits i. of W.Form (entry W.generator_table bits i) };
@@ -85,9 +85,9 @@ pub trait TwoAdicCubicConstants: CubicConstants {
 }
 
 impl<W: TwoAdicCubicConstants> HasTwoAdicCubicExtension for Fp<W> {
-    ghost use Rattle.p3_theory.specs.Residues.{of_keeps};
-    ghost use Rattle.p3_theory.specs.TableEntries.{cubic-along};
-    ghost use Rattle.p3_theory.specs.TwoAdicCoefficients.{coefficients-along, equations_generate};
+    ghost use Rattle.p3_theory.specs.ResidueRings.Residues.{of_keeps};
+    ghost use Rattle.p3_theory.specs.FrobeniusMaps.TableEntries.{cubic-along};
+    ghost use Rattle.p3_theory.specs.Roots.TwoAdicCoefficients.{coefficients-along, equations_generate};
     ghost use Rattle.p3_bench_prime.specs.Elements.{of, is};
 
     ghost ext_two_adic = { λ bits i. of W.Form (entry W.generator_table bits i) };
@@ -131,9 +131,9 @@ pub trait TwoAdicQuinticConstants: QuinticConstants {
 }
 
 impl<W: TwoAdicQuinticConstants> HasTwoAdicQuinticExtension for Fp<W> {
-    ghost use Rattle.p3_theory.specs.Residues.{of_keeps};
-    ghost use Rattle.p3_theory.specs.TableEntries.{quintic-along};
-    ghost use Rattle.p3_theory.specs.TwoAdicCoefficients.{coefficients-along, equations_generate};
+    ghost use Rattle.p3_theory.specs.ResidueRings.Residues.{of_keeps};
+    ghost use Rattle.p3_theory.specs.FrobeniusMaps.TableEntries.{quintic-along};
+    ghost use Rattle.p3_theory.specs.Roots.TwoAdicCoefficients.{coefficients-along, equations_generate};
     ghost use Rattle.p3_bench_prime.specs.Elements.{of, is};
 
     ghost ext_two_adic = { λ bits i. of W.Form (entry W.generator_table bits i) };

@@ -3,7 +3,7 @@ use Rattle.std.proofs.Common.{◌≡◌, ◌≢◌, ◌<◌, ◌+◌, ◌-◌, �
 use Rattle.std.specs.Int.{◌∣◌}
 use Rattle.std.proofs.Math.Nat.{mod-eq_of_lt, mod-lt, mod-add-div, zero-mod, add-mul-mod_self_left, mul_comm, dvd-mul_right_of_dvd, dvd-add_iff_right, eq-one_of_dvd-one}
 use Rattle.std.proofs.lemmas.Nat.{mul-mod_first, mul-mod_second}
-use Rattle.p3_theory.specs.Modular.{add-mod_first, add-mod_second}
+use Rattle.p3_theory.specs.ResidueRings.Modular.{add-mod_first, add-mod_second}
 use Rattle.p3_bench_residues.specs.Inverses.{IsInverseModulo}
 
 -- each of two remainders is its coefficient times the value modulo n, one of them negated

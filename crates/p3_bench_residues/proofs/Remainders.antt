@@ -18,7 +18,7 @@ use Rattle.std.proofs.Math.Nat.{
 }
 use Rattle.std.proofs.lemmas.Nat.{pow-add, mul-mod_first}
 use Rattle.std.proofs.lemmas.Grind.{div_ceil_times}
-use Rattle.p3_theory.specs.Modular.{add-mod_first, add-mod_second}
+use Rattle.p3_theory.specs.ResidueRings.Modular.{add-mod_first, add-mod_second}
 
 -- the product with the reciprocal has the quotient above the point
 quotient_by : (x n N M : ℕ) → 0 < n → N ≤ M * n → M * n < N + n → x * n < N → x * M / N ≡ x / n

@@ -2,7 +2,7 @@
 use Rattle.std.proofs.Common.{◌≡◌, ◌+◌, ◌*◌, ◌%◌, ℕ, ap, arith, ◌∙◌, sym}
 use Rattle.std.proofs.Math.Nat.{add-mul-mod_self_left}
 use Rattle.std.proofs.lemmas.Nat.{mul-mod_first}
-use Rattle.p3_theory.specs.Modular.{add-mod_first, add-mod_second}
+use Rattle.p3_theory.specs.ResidueRings.Modular.{add-mod_first, add-mod_second}
 
 -- two sums that are reduced apart, of which the second counts b times; modulo n, b is m
 pub halves_reduced : (n m b low high : ℕ) → b ≡ m + n → (low % n + (high % n * m) % n) % n ≡ (low + b * high) % n

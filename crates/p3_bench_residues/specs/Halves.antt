@@ -4,9 +4,9 @@ use Rattle.std.proofs.Common.{ap, ap₂, sym, ◌∙◌, arith, inl, inr}
 use Rattle.std.proofs.Math.Nat.{add-mul-mod_self_left, mod-add-div, mod-eq_of_lt, mul_assoc}
 use Rattle.std.proofs.lemmas.Bool.{cases_lt}
 use Rattle.std.proofs.lemmas.Nat.{mul-mod_first, mul-mod_second}
-use Rattle.p3_theory.specs.Multiples.{two}
-use Rattle.p3_theory.specs.Ring.{Invertible}
-use Rattle.p3_theory.specs.Residues.{IsResidues, residue_ops}
+use Rattle.p3_theory.specs.Rings.Multiples.{two}
+use Rattle.p3_theory.specs.Rings.Ring.{Invertible}
+use Rattle.p3_theory.specs.ResidueRings.Residues.{IsResidues, residue_ops}
 use Rattle.p3_bench_residues.specs.Inverses.{inverse_of_modulo, modulo_of_inverse}
 
 -- modulo an even number no multiple of two is one

@@ -4,8 +4,8 @@ use Rattle.std.specs.Ordering.{on}
 use Rattle.std.proofs.Common.{ap, sym, arith, ◌∙◌}
 use Rattle.std.proofs.Math.Nat.{mod-eq_of_lt}
 use Rattle.std.proofs.lemmas.Bool.Decides.{Decides-eqb}
-use Rattle.p3_theory.specs.Ring.{IsInverse}
-use Rattle.p3_theory.specs.Residues.{IsResidues, residue_ops, is_of, same_canon, residue_laws}
+use Rattle.p3_theory.specs.Rings.Ring.{IsInverse}
+use Rattle.p3_theory.specs.ResidueRings.Residues.{IsResidues, residue_ops, is_of, same_canon, residue_laws}
 
 -- y is an inverse of x modulo n
 abbrev pub IsInverseModulo : ℕ → ℕ → ℕ → Type 0

@@ -2,8 +2,8 @@
 use Rattle.std.specs.Prelude.{◌≡◌, ℕ, zero, suc, ◌+◌, ◌%◌, refl}
 use Rattle.std.proofs.Common.{ap, sym, ◌∙◌, arith}
 use Rattle.std.proofs.Math.Nat.{mod_self}
-use Rattle.p3_theory.specs.Multiples.{of_nat}
-use Rattle.p3_theory.specs.Residues.{IsResidues, residue_ops, of_keeps}
+use Rattle.p3_theory.specs.Rings.Multiples.{of_nat}
+use Rattle.p3_theory.specs.ResidueRings.Residues.{IsResidues, residue_ops, of_keeps}
 
 module _ {A : Type 0} {n : ℕ} {canon : A → ℕ} {of : ℕ → A} (is : IsResidues n canon of) where
   remainder_is : (m : ℕ) → of (m % n) ≡ of m

@@ -96,9 +96,9 @@ impl Clone for Goldilocks {
 impl Copy for Goldilocks {}
 
 impl Goldilocks {
-    ghost use Rattle.p3_theory.specs.Ring.{IsInverse};
+    ghost use Rattle.p3_theory.specs.Rings.Ring.{IsInverse};
     ghost use Rattle.p3_bench_residues.specs.GoldilocksElements.{canon, of, ops};
-    ghost use Rattle.p3_theory.specs.SumsOfProducts.{sum_of_products};
+    ghost use Rattle.p3_theory.specs.ResidueRings.SumsOfProducts.{sum_of_products};
     ghost use Rattle.p3_bench_residues.specs.declared.goldilocks.Goldilocks.{Goldilocks};
 
     /// The residue of a number. Upstream's `new`.
@@ -247,7 +247,7 @@ impl MulAssign for Goldilocks {
 }
 
 impl Div for Goldilocks {
-    ghost use Rattle.p3_theory.specs.Ring.{Invertible};
+    ghost use Rattle.p3_theory.specs.Rings.Ring.{Invertible};
     ghost use Rattle.p3_bench_residues.specs.GoldilocksElements.{ops};
 
     type Output = Self;
@@ -263,7 +263,7 @@ impl Div for Goldilocks {
 }
 
 impl DivAssign for Goldilocks {
-    ghost use Rattle.p3_theory.specs.Ring.{Invertible};
+    ghost use Rattle.p3_theory.specs.Rings.Ring.{Invertible};
     ghost use Rattle.p3_bench_residues.specs.GoldilocksElements.{ops};
 
     ghost can_div_assign = { λ x y. Invertible ops y };
@@ -277,7 +277,7 @@ impl DivAssign for Goldilocks {
 }
 
 impl Sum<Goldilocks> for Goldilocks {
-    ghost use Rattle.p3_theory.specs.Operators.{sum_list};
+    ghost use Rattle.p3_theory.specs.Rings.Operators.{sum_list};
     ghost use Rattle.p3_bench_residues.specs.GoldilocksElements.{ops};
 
     ghost sum_gives = { λ xs r. r ≡ sum_list ops xs };
@@ -289,7 +289,7 @@ impl Sum<Goldilocks> for Goldilocks {
 }
 
 impl Product<Goldilocks> for Goldilocks {
-    ghost use Rattle.p3_theory.specs.Operators.{product_list};
+    ghost use Rattle.p3_theory.specs.Rings.Operators.{product_list};
     ghost use Rattle.p3_bench_residues.specs.GoldilocksElements.{ops};
 
     ghost product_gives = { λ xs r. r ≡ product_list ops xs };
@@ -396,7 +396,7 @@ impl fmt::Debug for Goldilocks {
 }
 
 impl Quotient for Goldilocks {
-    ghost use Rattle.p3_theory.specs.Residues.{canon-below};
+    ghost use Rattle.p3_theory.specs.ResidueRings.Residues.{canon-below};
     ghost use Rattle.p3_bench_residues.specs.GoldilocksElements.{canon, is};
 
     ghost order = { P };
@@ -429,7 +429,7 @@ impl<Int: Integer> QuotientMap<Int> for Goldilocks {
 }
 
 impl PrimeCharacteristicRing for Goldilocks {
-    ghost use Rattle.p3_theory.specs.Residues.{residue_laws, is_of, is_difference};
+    ghost use Rattle.p3_theory.specs.ResidueRings.Residues.{residue_laws, is_of, is_difference};
     ghost use Rattle.p3_bench_residues.specs.GoldilocksElements.{ops, is};
     ghost use Rattle.p3_bench_residues.specs.ResidueMultiples.{of_nat-order};
 
@@ -524,7 +524,7 @@ impl Packable for Goldilocks {}
 
 impl Field for Goldilocks {
     ghost use Rattle.std.specs.Prelude.{refl};
-    ghost use Rattle.p3_theory.specs.ValueLists.{values_where_given, values-residues};
+    ghost use Rattle.p3_theory.specs.Roots.ValueLists.{values_where_given, values-residues};
     ghost use Rattle.p3_bench_residues.specs.GoldilocksElements.{canon, of, is};
     ghost use Rattle.p3_bench_residues.specs.Inverses.{zero_is_not_one, same_where_equal};
 
@@ -570,7 +570,7 @@ impl Field for Goldilocks {
 
 impl PrimeField for Goldilocks {
     ghost use Rattle.std.specs.Prelude.{refl};
-    ghost use Rattle.p3_theory.specs.Residues.{are_residues};
+    ghost use Rattle.p3_theory.specs.ResidueRings.Residues.{are_residues};
     ghost use Rattle.p3_bench_residues.specs.GoldilocksElements.{is};
 
     #[inline]
@@ -585,7 +585,7 @@ impl PrimeField for Goldilocks {
 
 impl PrimeField64 for Goldilocks {
     ghost use Rattle.std.specs.Prelude.{refl};
-    ghost use Rattle.p3_theory.specs.Residues.{same_canon};
+    ghost use Rattle.p3_theory.specs.ResidueRings.Residues.{same_canon};
     ghost use Rattle.p3_bench_residues.specs.GoldilocksElements.{canon, is};
 
     const ORDER_U64: u64 = P;
@@ -612,8 +612,8 @@ impl PrimeField64 for Goldilocks {
 
 impl TwoAdicField for Goldilocks {
     ghost use Rattle.std.specs.Prelude.{refl};
-    ghost use Rattle.p3_theory.specs.TwoAdic.{repeated_squares};
-    ghost use Rattle.p3_theory.specs.ResidueGenerators.{residue_generators, divides_residue_order};
+    ghost use Rattle.p3_theory.specs.Roots.TwoAdic.{repeated_squares};
+    ghost use Rattle.p3_theory.specs.ResidueRings.ResidueGenerators.{residue_generators, divides_residue_order};
     ghost use Rattle.p3_bench_residues.specs.GoldilocksElements.{of, ops, is};
 
     ghost two_adic = { repeated_squares ops 32 (of TOP_GENERATOR) };
@@ -635,7 +635,7 @@ impl TwoAdicField for Goldilocks {
 impl TwoAdicPowers for Goldilocks {
     ghost use Rattle.std.specs.Prelude.{refl};
     ghost use Rattle.std.proofs.Common.{lit<};
-    ghost use Rattle.p3_theory.specs.ResidueGenerators.{generator_powers};
+    ghost use Rattle.p3_theory.specs.ResidueRings.ResidueGenerators.{generator_powers};
     ghost use Rattle.p3_bench_residues.specs.GoldilocksElements.{is};
 
     ghost powers = { generator_powers is 32 7 TOP_GENERATOR refl (lit< tt) refl };

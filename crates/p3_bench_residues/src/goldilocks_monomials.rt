@@ -5,7 +5,7 @@ use p3_tools::exponentiation::exp_10540996611094048183;
 
 impl InjectiveMonomial<7> for Goldilocks {
     ghost use Rattle.std.specs.Prelude.{refl};
-    ghost use Rattle.p3_theory.specs.Monomials.{residue_injective_power};
+    ghost use Rattle.p3_theory.specs.Roots.Monomials.{residue_injective_power};
     ghost use Rattle.p3_bench_residues.specs.GoldilocksElements.{is};
 
     ghost injective = { λ domain. residue_injective_power is domain 7 10540996611094048183 (4, refl) };

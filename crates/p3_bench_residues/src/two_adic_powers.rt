@@ -1,5 +1,5 @@
 //! Two-adic generators that are powers of the field's generator.
-ghost use Rattle.p3_theory.specs.ResidueGenerators.{ArePowersOf};
+ghost use Rattle.p3_theory.specs.ResidueRings.ResidueGenerators.{ArePowersOf};
 
 use p3_base::field::TwoAdicField;
 

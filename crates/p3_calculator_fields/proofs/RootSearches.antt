@@ -3,9 +3,9 @@ use Rattle.std.proofs.Common.{◌≡◌, ◌<◌, ◌-◌, ◌*◌, ◌^◌, ◌
 use Rattle.std.specs.Prelude.{IfSome, IsSome, if◌then◌else◌}
 use Rattle.std.proofs.Math.Nat.{pow-suc, pow-zero}
 use Rattle.std.proofs.lemmas.Bool.{lt-ltb}
-use Rattle.p3_theory.specs.Ring.{Ops}
-use Rattle.p3_theory.specs.PowersOfTwo.{trailing_split}
-use Rattle.p3_theory.specs.SquareRoots.{IsSquareRoot, CountedByGenerator}
+use Rattle.p3_theory.specs.Rings.Ring.{Ops}
+use Rattle.p3_theory.specs.Roots.PowersOfTwo.{trailing_split}
+use Rattle.p3_theory.specs.Roots.SquareRoots.{IsSquareRoot, CountedByGenerator}
 use Rattle.p3_ext.specs.Orders.{extension_size}
 use Rattle.p3_calculator_fields.specs.Representation.{RootOrNone}
 

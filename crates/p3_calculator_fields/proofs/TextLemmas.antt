@@ -2,9 +2,9 @@
 use Rattle.std.proofs.Common.{◌≡◌, ◌∙◌, ◌==◌, ◌+◌, ◌++◌, ℕ, Bool, true, false, List, [], ◌∷◌, map, decimal, refl, sym, ap, ap₂, cond}
 use Rattle.std.specs.Bool.{Decides}
 use Rattle.std.proofs.lemmas.Bool.Decides.{Decides-eqb, same_from_decides}
-use Rattle.p3_theory.specs.Ring.{Ops}
-use Rattle.p3_theory.specs.Residues.{AreResidues}
-use Rattle.p3_theory.specs.Text.{terms_text, next_text, polynomial_text}
+use Rattle.p3_theory.specs.Rings.Ring.{Ops}
+use Rattle.p3_theory.specs.ResidueRings.Residues.{AreResidues}
+use Rattle.p3_theory.specs.Polynomials.Text.{terms_text, next_text, polynomial_text}
 use Rattle.p3_calculator_fields.specs.Display.{display}
 
 module _ {A : Type 0} (canon : A → ℕ) (is_zero is_one : A → Bool) (own : A → List ℕ) (zeros : (x : A) → is_zero x ≡ (canon x == 0)) (ones : (x : A) → is_one x ≡ (canon x == 1)) (texts : (x : A) → own x ≡ decimal (canon x)) where

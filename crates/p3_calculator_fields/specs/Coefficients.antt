@@ -3,9 +3,9 @@ use Rattle.std.specs.Prelude.{◌≡◌, ◌==◌, ◌+◌, ℕ, List, [], ◌�
 use Rattle.std.proofs.Common.{ap, ap₂, arith, ◌∙◌, sym, append-nil, cond, inl, inr, drop, subst}
 use Rattle.std.proofs.lemmas.Bool.{cases_eq, ne_eqb}
 use Rattle.std.proofs.lemmas.Fmt.{decimal_digit}
-use Rattle.p3_theory.specs.Ring.{Ops}
-use Rattle.p3_theory.specs.Residues.{AreResidues, residues}
-use Rattle.p3_theory.specs.Homomorphism.{length-map, quotient-map}
+use Rattle.p3_theory.specs.Rings.Ring.{Ops}
+use Rattle.p3_theory.specs.ResidueRings.Residues.{AreResidues, residues}
+use Rattle.p3_theory.specs.Rings.Homomorphism.{length-map, quotient-map}
 use Rattle.p3_ext.specs.declared.extension.ext_field.ExtField.{ExtField}
 use Rattle.p3_ext.specs.Values.{value_of, same_value, ext_ops}
 use Rattle.p3_calculator_fields.specs.Display.{display}

@@ -1,6 +1,6 @@
 -- The text of a coefficient list, as `3 + 11 X`.
 use Rattle.std.specs.Prelude.{ℕ, ◌==◌, List, decimal}
-use Rattle.p3_theory.specs.Text.{polynomial_text}
+use Rattle.p3_theory.specs.Polynomials.Text.{polynomial_text}
 
 -- the terms that are not zero, with their coefficients in decimal
 abbrev pub display : List ℕ → List ℕ

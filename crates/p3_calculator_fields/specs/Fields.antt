@@ -1,8 +1,8 @@
 -- The calculator's fields by numbers: residues, and polynomials modulo a polynomial, as coefficient lists.
 use Rattle.std.specs.Prelude.{◌≡◌, ◌<◌, ◌^◌, ◌%◌, ℕ, List, [], ◌∷◌, length}
-use Rattle.p3_theory.specs.Ring.{Ops}
-use Rattle.p3_theory.specs.Polynomial.{at, quotient_ops}
-use Rattle.p3_theory.specs.Residues.{residues}
+use Rattle.p3_theory.specs.Rings.Ring.{Ops}
+use Rattle.p3_theory.specs.Polynomials.Polynomial.{at, quotient_ops}
+use Rattle.p3_theory.specs.ResidueRings.Residues.{residues}
 
 -- the residues modulo n, or the polynomials over them modulo one of degree D, given by its coefficients;
 -- last comes an element, by which square roots are looked for

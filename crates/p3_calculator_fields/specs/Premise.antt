@@ -1,6 +1,6 @@
 -- The premise of a finite field, which square roots go by, over coefficient lists.
 use Rattle.std.specs.Prelude.{◌≡◌, ◌<◌, ◌⊎◌, ◌-◌, ◌*◌, ◌%◌, ◌^◌, ℕ, List}
-use Rattle.p3_theory.specs.Powers.{power}
+use Rattle.p3_theory.specs.Rings.Powers.{power}
 use Rattle.p3_calculator_fields.specs.Fields.{FieldSpec, ops, value_count, generator_of, IsValue}
 
 -- a field without zero divisors, whose generator's power q is of order 2^s: there are n values and n - 1 is 2^s * q

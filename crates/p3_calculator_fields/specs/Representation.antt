@@ -1,8 +1,8 @@
 -- What a type owes to be a field of the calculator.
 use Rattle.std.specs.Prelude.{◌≡◌, ◌≢◌, ◌<◌, ℕ, List, Option, MatchOption}
-use Rattle.p3_theory.specs.Ring.{Ops, Hom, IsInverse}
-use Rattle.p3_theory.specs.Powers.{power}
-use Rattle.p3_theory.specs.SquareRoots.{IsSquareRoot, FiniteFieldPremise}
+use Rattle.p3_theory.specs.Rings.Ring.{Ops, Hom, IsInverse}
+use Rattle.p3_theory.specs.Rings.Powers.{power}
+use Rattle.p3_theory.specs.Roots.SquareRoots.{IsSquareRoot, FiniteFieldPremise}
 use Rattle.p3_calculator_fields.specs.Fields.{FieldSpec, ops, order, IsValue}
 
 -- `coefficients` is one to one onto the coefficient lists of s, and takes O's operations to those of s

@@ -8,7 +8,7 @@ use p3_field::integers::QuotientMap;
 
 impl<W: Form> Base for Fp<W> {
     ghost use Rattle.std.specs.Prelude.{refl};
-    ghost use Rattle.p3_theory.specs.Residues.{are_residues};
+    ghost use Rattle.p3_theory.specs.ResidueRings.Residues.{are_residues};
     ghost use Rattle.p3_bench_prime.specs.Elements.{canon, is};
 
     ghost base_order = { W.ORDER };

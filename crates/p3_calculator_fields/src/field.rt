@@ -1,8 +1,8 @@
 ghost use Rattle.std.specs.Prelude.{◌≡◌, ◌<◌, ◌^◌, ℕ, List, Option, Some, map, decimal, slice_set, string_bytes, IfOk};
-ghost use Rattle.p3_theory.specs.Ring.{Ops, subtract};
-ghost use Rattle.p3_theory.specs.Powers.{power};
-ghost use Rattle.p3_theory.specs.Polynomial.{tabulate};
-ghost use Rattle.p3_theory.specs.Residues.{AreResidues};
+ghost use Rattle.p3_theory.specs.Rings.Ring.{Ops, subtract};
+ghost use Rattle.p3_theory.specs.Rings.Powers.{power};
+ghost use Rattle.p3_theory.specs.Polynomials.Polynomial.{tabulate};
+ghost use Rattle.p3_theory.specs.ResidueRings.Residues.{AreResidues};
 ghost use Rattle.p3_calculator_fields.specs.Display.{display};
 ghost use Rattle.p3_calculator_fields.specs.Fields.{FieldSpec, PolynomialsModulo, order, dimension, value_count, generator_of};
 ghost use Rattle.p3_calculator_fields.specs.Representation.{Represents, InverseOrNone, RootOrNone};
@@ -133,7 +133,7 @@ pub trait Named<const D: usize, S: ExtensionShape>: Base + FrobeniusExtendable<D
 }
 
 impl<F: Named<D, S>, const D: usize, S: ExtensionShape> CalculatorField for ExtField<F, D, S, F> {
-    ghost use Rattle.p3_theory.specs.Coefficients.{length-tabulate};
+    ghost use Rattle.p3_theory.specs.Polynomials.Coefficients.{length-tabulate};
     ghost use Rattle.p3_ext.specs.Values.{ext_ops, value_of};
     ghost use Rattle.p3_calculator_fields.specs.Coefficients.{all_coefficients, spec_represented, spec_generator};
 

@@ -1,8 +1,8 @@
 //! Laws of the fields that the calculator's premises speak of.
 ghost use Rattle.std.specs.Prelude.{◌≡◌, Some};
-ghost use Rattle.p3_theory.specs.Powers.{power};
-ghost use Rattle.p3_theory.specs.SquareRoots.{FiniteFieldPremise};
-ghost use Rattle.p3_theory.specs.ZeroDivisors.{HasNoZeroDivisors};
+ghost use Rattle.p3_theory.specs.Rings.Powers.{power};
+ghost use Rattle.p3_theory.specs.Roots.SquareRoots.{FiniteFieldPremise};
+ghost use Rattle.p3_theory.specs.Rings.ZeroDivisors.{HasNoZeroDivisors};
 
 use p3_bench_prime::extensions::{F17x2, F31c};
 use p3_bench_prime::small::{F2, F17, F31};

@@ -12,7 +12,7 @@ use std::alloc::{AllocError, Allocator};
 impl<W: Form> CalculatorField for Fp<W> {
     ghost use Rattle.std.specs.Prelude.{[], ◌∷◌};
     ghost use Rattle.std.proofs.Common.{ap};
-    ghost use Rattle.p3_theory.specs.Residues.{are_residues};
+    ghost use Rattle.p3_theory.specs.ResidueRings.Residues.{are_residues};
     ghost use Rattle.p3_bench_prime.specs.Elements.{canon, of, ops, is};
     ghost use Rattle.p3_calculator_fields.specs.Coefficients.{one_coefficient, residues_represented};
     ghost use Rattle.p3_calculator_fields.specs.Fields.{ResiduesModulo};
@@ -88,7 +88,7 @@ impl<W: Form> CalculatorField for Fp<W> {
 
 impl CalculatorField for Goldilocks {
     ghost use Rattle.std.specs.Prelude.{refl};
-    ghost use Rattle.p3_theory.specs.Residues.{are_residues};
+    ghost use Rattle.p3_theory.specs.ResidueRings.Residues.{are_residues};
     ghost use Rattle.p3_bench_residues.specs.GoldilocksElements.{canon, of, ops, is};
     ghost use Rattle.p3_calculator_fields.specs.Coefficients.{one_coefficient, residues_represented};
     ghost use Rattle.p3_calculator_fields.specs.Names.{field_gl};

@@ -1,11 +1,11 @@
 -- The base inside an extension.
 use Rattle.std.specs.Prelude.{◌≡◌, ◌≤◌, ◌<◌, ℕ, List, length, refl}
 use Rattle.std.proofs.Common.{ap, arith, ◌∙◌, sym, zero, suc}
-use Rattle.p3_theory.specs.Ring.{Ring, Hom}
-use Rattle.p3_theory.specs.Polynomial.{IsMonic, embed}
-use Rattle.p3_theory.specs.Multiples.{of_nat}
-use Rattle.p3_theory.specs.Homomorphism.{map-of_nat}
-use Rattle.p3_theory.specs.Substitution as Substitution
+use Rattle.p3_theory.specs.Rings.Ring.{Ring, Hom}
+use Rattle.p3_theory.specs.Polynomials.Polynomial.{IsMonic, embed}
+use Rattle.p3_theory.specs.Rings.Multiples.{of_nat}
+use Rattle.p3_theory.specs.Rings.Homomorphism.{map-of_nat}
+use Rattle.p3_theory.specs.Polynomials.Substitution as Substitution
 use Rattle.p3_ext.specs.Values.{constant, ext_ops, same_value, value_of}
 use Rattle.p3_ext.specs.declared.extension.ext_field.ExtField.{ExtField}
 

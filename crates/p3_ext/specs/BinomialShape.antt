@@ -1,13 +1,13 @@
 -- The Frobenius map modulo X^D - w: X becomes c * X, for a root of unity c of order D.
 use Rattle.std.specs.Prelude.{◌≡◌, ◌<◌, ◌≤◌, ℕ, List, length}
 use Rattle.std.proofs.Common.{arith, ◌∙◌, sym, zero, suc, subst}
-use Rattle.p3_theory.specs.Ring.{Ops, Ring, Invertible}
-use Rattle.p3_theory.specs.Polynomial as P
-use Rattle.p3_theory.specs.Powers.{power, scale_powers}
-use Rattle.p3_theory.specs.FrobeniusTable.{frobenius_list, IsFrobeniusTable, unknown}
-use Rattle.p3_theory.specs.FrobeniusNorm as T
-use Rattle.p3_theory.specs.Frobenius.{iterate}
-use Rattle.p3_theory.specs.ScaledPowers.{scale-power, length-scale_powers, iterate-same}
+use Rattle.p3_theory.specs.Rings.Ring.{Ops, Ring, Invertible}
+use Rattle.p3_theory.specs.Polynomials.Polynomial as P
+use Rattle.p3_theory.specs.Rings.Powers.{power, scale_powers}
+use Rattle.p3_theory.specs.FrobeniusMaps.FrobeniusTable.{frobenius_list, IsFrobeniusTable, unknown}
+use Rattle.p3_theory.specs.FrobeniusMaps.FrobeniusNorm as T
+use Rattle.p3_theory.specs.FrobeniusMaps.Frobenius.{iterate}
+use Rattle.p3_theory.specs.FrobeniusMaps.ScaledPowers.{scale-power, length-scale_powers, iterate-same}
 
 -- c * X
 abbrev pub binomial_image : {A : Type 0} → Ops A → ℕ → A → A → List A

@@ -1,11 +1,11 @@
 -- Minus one as a root of unity of order two among complex values.
 use Rattle.std.proofs.Common.{◌≡◌, lit≤}
-use Rattle.p3_theory.specs.Ring.{Ring, RingLaws, Invertible, ring_of}
-use Rattle.p3_theory.specs.Polynomial.{IsMonic, binomial}
-use Rattle.p3_theory.specs.Powers.{power}
-use Rattle.p3_theory.specs.Multiples.{two}
-use Rattle.p3_theory.specs.BinomialFrobenius.{binomial_is_monic}
-use Rattle.p3_theory.specs.ComplexExtensions.{half-along, minus_one_square, minus_one_apart}
+use Rattle.p3_theory.specs.Rings.Ring.{Ring, RingLaws, Invertible, ring_of}
+use Rattle.p3_theory.specs.Polynomials.Polynomial.{IsMonic, binomial}
+use Rattle.p3_theory.specs.Rings.Powers.{power}
+use Rattle.p3_theory.specs.Rings.Multiples.{two}
+use Rattle.p3_theory.specs.FrobeniusMaps.BinomialFrobenius.{binomial_is_monic}
+use Rattle.p3_theory.specs.Products.ComplexExtensions.{half-along, minus_one_square, minus_one_apart}
 use Rattle.p3_ext.specs.Values.{ext_laws}
 use Rattle.p3_ext.specs.Bases.{embedding}
 use Rattle.p3_ext.specs.ComplexValues.{complex_ops, ArePowersApart}

@@ -1,8 +1,8 @@
 -- The operations of an extension by X^2 = -1.
 use Rattle.std.specs.Prelude.{◌≤◌, ◌<◌, ℕ}
-use Rattle.p3_theory.specs.Ring.{Ops, Invertible, subtract}
-use Rattle.p3_theory.specs.Powers.{power}
-use Rattle.p3_theory.specs.Polynomial.{binomial}
+use Rattle.p3_theory.specs.Rings.Ring.{Ops, Invertible, subtract}
+use Rattle.p3_theory.specs.Rings.Powers.{power}
+use Rattle.p3_theory.specs.Polynomials.Polynomial.{binomial}
 use Rattle.p3_ext.specs.Values.{ext_ops}
 use Rattle.p3_ext.specs.declared.extension.ext_field.ExtField.{ExtField}
 

@@ -1,12 +1,12 @@
 -- The product of the conjugates of a value, built by taking the map of a product at each step.
 use Rattle.std.specs.Prelude.{◌≡◌, ◌≤◌, ◌-◌, ◌+◌, ℕ, List}
 use Rattle.std.proofs.Common.{ap, arith, ◌∙◌, sym}
-use Rattle.p3_theory.specs.Ring.{Ops, Ring, RingLaws}
-use Rattle.p3_theory.specs.Polynomial.{IsMonic, quotient_mul}
-use Rattle.p3_theory.specs.Frobenius.{iterate, IsFrobenius}
-use Rattle.p3_theory.specs.FrobeniusTable.{frobenius_list, IsFrobeniusTable}
-use Rattle.p3_theory.specs.Iteration.{orbit}
-use Rattle.p3_theory.specs.OrbitProducts.{orbit-one, orbit-grows, orbit-four}
+use Rattle.p3_theory.specs.Rings.Ring.{Ops, Ring, RingLaws}
+use Rattle.p3_theory.specs.Polynomials.Polynomial.{IsMonic, quotient_mul}
+use Rattle.p3_theory.specs.FrobeniusMaps.Frobenius.{iterate, IsFrobenius}
+use Rattle.p3_theory.specs.FrobeniusMaps.FrobeniusTable.{frobenius_list, IsFrobeniusTable}
+use Rattle.p3_theory.specs.FrobeniusMaps.Iteration.{orbit}
+use Rattle.p3_theory.specs.FrobeniusMaps.OrbitProducts.{orbit-one, orbit-grows, orbit-four}
 use Rattle.p3_ext.specs.Values.{constant, ext_ops, ext_laws, same_value}
 use Rattle.p3_ext.specs.Conjugates.{frobenius_map, conjugate_product}
 use Rattle.p3_ext.specs.FrobeniusLaws.{map_is_frobenius}

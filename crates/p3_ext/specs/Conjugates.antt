@@ -1,19 +1,19 @@
 -- The Frobenius map of values, their norm, and which of them have an inverse.
 use Rattle.std.specs.Prelude.{◌≡◌, ◌↔◌, ◌≤◌, ◌-◌, ◌≢◌, ℕ, List, refl, get_or}
 use Rattle.std.proofs.Common.{ap, arith, ◌∙◌, sym, zero, suc, subst}
-use Rattle.p3_theory.specs.Ring.{Ops, Ring, RingLaws, Invertible}
-use Rattle.p3_theory.specs.Polynomial as P
-use Rattle.p3_theory.specs.Polynomial.{IsMonic}
-use Rattle.p3_theory.specs.QuotientRing.{Ext, extension, Ext-path}
-use Rattle.p3_theory.specs.Frobenius.{orbit_product, iterate}
-use Rattle.p3_theory.specs.Substitution as Sg
-use Rattle.p3_theory.specs.FrobeniusTable.{frobenius_list, orbit_list, IsFrobeniusTable}
-use Rattle.p3_theory.specs.Operators.{product_list}
-use Rattle.p3_theory.specs.OrbitLists.{product-orbit_list}
-use Rattle.p3_theory.specs.FrobeniusTableLaws.{length-frobenius_list}
-use Rattle.p3_theory.specs.FrobeniusNorm as T
-use Rattle.p3_theory.specs.Iteration.{orbit}
-use Rattle.p3_theory.specs.ListInverses.{HasNoInverse}
+use Rattle.p3_theory.specs.Rings.Ring.{Ops, Ring, RingLaws, Invertible}
+use Rattle.p3_theory.specs.Polynomials.Polynomial as P
+use Rattle.p3_theory.specs.Polynomials.Polynomial.{IsMonic}
+use Rattle.p3_theory.specs.Polynomials.QuotientRing.{Ext, extension, Ext-path}
+use Rattle.p3_theory.specs.FrobeniusMaps.Frobenius.{orbit_product, iterate}
+use Rattle.p3_theory.specs.Polynomials.Substitution as Sg
+use Rattle.p3_theory.specs.FrobeniusMaps.FrobeniusTable.{frobenius_list, orbit_list, IsFrobeniusTable}
+use Rattle.p3_theory.specs.Rings.Operators.{product_list}
+use Rattle.p3_theory.specs.FrobeniusMaps.OrbitLists.{product-orbit_list}
+use Rattle.p3_theory.specs.FrobeniusMaps.FrobeniusTableLaws.{length-frobenius_list}
+use Rattle.p3_theory.specs.FrobeniusMaps.FrobeniusNorm as T
+use Rattle.p3_theory.specs.FrobeniusMaps.Iteration.{orbit}
+use Rattle.p3_theory.specs.Inverses.ListInverses.{HasNoInverse}
 use Rattle.p3_ext.specs.Values.{value_of, constant, ext_ops, same_value, ext_laws}
 use Rattle.p3_ext.specs.declared.extension.ext_field.ExtField.{ExtField}
 

@@ -1,9 +1,9 @@
 -- Extensions without zero divisors.
 use Rattle.std.proofs.Common.{ap, inl, inr}
-use Rattle.p3_theory.specs.Ring.{Ops, RingLaws, ring_of}
-use Rattle.p3_theory.specs.Polynomial.{binomial}
-use Rattle.p3_theory.specs.ZeroDivisors.{HasNoZeroDivisors}
-use Rattle.p3_theory.specs.QuadraticDomains.{OnlyZeroHasNormZero, quadratic_domain}
+use Rattle.p3_theory.specs.Rings.Ring.{Ops, RingLaws, ring_of}
+use Rattle.p3_theory.specs.Polynomials.Polynomial.{binomial}
+use Rattle.p3_theory.specs.Rings.ZeroDivisors.{HasNoZeroDivisors}
+use Rattle.p3_theory.specs.Inverses.QuadraticDomains.{OnlyZeroHasNormZero, quadratic_domain}
 use Rattle.p3_ext.specs.Values.{ext_ops, same_value}
 use Rattle.p3_ext.specs.declared.extension.ext_field.ExtField.{ExtField}
 

@@ -1,13 +1,13 @@
 -- Halves and products with powers of two, coefficient by coefficient.
 use Rattle.std.specs.Prelude.{◌≡◌, ◌<◌, ◌≤◌, ℕ, List, [], ◌∷◌, get_or, refl}
 use Rattle.std.proofs.Common.{ap, arith, ◌∙◌, sym, subst}
-use Rattle.p3_theory.specs.Ring.{Ops, Ring, RingLaws, Invertible}
-use Rattle.p3_theory.specs.Polynomial.{IsMonic, at}
-use Rattle.p3_theory.specs.Powers.{power}
-use Rattle.p3_theory.specs.PowerProducts.{twice}
-use Rattle.p3_theory.specs.Multiples.{two}
-use Rattle.p3_theory.specs.Places.{get-tabulate, to-tabulate}
-use Rattle.p3_theory.specs.AdditiveMaps.{additive-power_of_two}
+use Rattle.p3_theory.specs.Rings.Ring.{Ops, Ring, RingLaws, Invertible}
+use Rattle.p3_theory.specs.Polynomials.Polynomial.{IsMonic, at}
+use Rattle.p3_theory.specs.Rings.Powers.{power}
+use Rattle.p3_theory.specs.Rings.PowerProducts.{twice}
+use Rattle.p3_theory.specs.Rings.Multiples.{two}
+use Rattle.p3_theory.specs.Lists.Places.{get-tabulate, to-tabulate}
+use Rattle.p3_theory.specs.Rings.AdditiveMaps.{additive-power_of_two}
 use Rattle.p3_ext.specs.Values.{ext_ops, ext_laws, same_value}
 use Rattle.p3_ext.specs.declared.extension.ext_field.ExtField.{ExtField}
 

@@ -1,11 +1,11 @@
 -- Two-adic generators as values of an extension.
 use Rattle.std.specs.Prelude.{ℕ, List, refl}
-use Rattle.p3_theory.specs.Ring.{Ops, Hom}
-use Rattle.p3_theory.specs.Polynomial.{binomial, quotient_ops}
-use Rattle.p3_theory.specs.TableEntries.{binomial-along}
-use Rattle.p3_theory.specs.Coefficients.{length-tabulate}
-use Rattle.p3_theory.specs.TwoAdic.{AreTwoAdicGenerators}
-use Rattle.p3_theory.specs.TwoAdicCoefficients.{with_coefficients, AreExtensionGenerators, coefficients-back}
+use Rattle.p3_theory.specs.Rings.Ring.{Ops, Hom}
+use Rattle.p3_theory.specs.Polynomials.Polynomial.{binomial, quotient_ops}
+use Rattle.p3_theory.specs.FrobeniusMaps.TableEntries.{binomial-along}
+use Rattle.p3_theory.specs.Polynomials.Coefficients.{length-tabulate}
+use Rattle.p3_theory.specs.Roots.TwoAdic.{AreTwoAdicGenerators}
+use Rattle.p3_theory.specs.Roots.TwoAdicCoefficients.{with_coefficients, AreExtensionGenerators, coefficients-back}
 use Rattle.p3_ext.specs.Values.{value_of, same_value, ext_ops}
 use Rattle.p3_ext.specs.declared.extension.ext_field.ExtField.{ExtField}
 

@@ -1,9 +1,9 @@
 -- The Frobenius map of values keeps what its table keeps.
 use Rattle.std.specs.Prelude.{◌≡◌, ℕ, List}
 use Rattle.std.proofs.Common.{ap, ◌∙◌, sym}
-use Rattle.p3_theory.specs.Ring.{Ops}
-use Rattle.p3_theory.specs.Frobenius.{iterate, IsFrobenius}
-use Rattle.p3_theory.specs.FrobeniusTable.{frobenius_list, IsFrobeniusTable}
+use Rattle.p3_theory.specs.Rings.Ring.{Ops}
+use Rattle.p3_theory.specs.FrobeniusMaps.Frobenius.{iterate, IsFrobenius}
+use Rattle.p3_theory.specs.FrobeniusMaps.FrobeniusTable.{frobenius_list, IsFrobeniusTable}
 use Rattle.p3_ext.specs.Values.{constant, ext_ops, same_value}
 use Rattle.p3_ext.specs.Conjugates.{frobenius_map, whole_turn, iterate-value}
 use Rattle.p3_ext.specs.declared.extension.ext_field.ExtField.{ExtField}

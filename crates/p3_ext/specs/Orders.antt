@@ -1,7 +1,7 @@
 -- How many values an extension has.
 use Rattle.std.specs.Prelude.{◌≡◌, ◌^◌, ℕ, Bool, true, false, Option, Some, None, nat_lt, if◌then◌else◌, refl}
 use Rattle.std.proofs.Common.{ap, subst}
-use Rattle.p3_theory.specs.ValueLists.{ValueList, Sized, same_sized, values-map, values-lists}
+use Rattle.p3_theory.specs.Roots.ValueLists.{ValueList, Sized, same_sized, values-map, values-lists}
 use Rattle.p3_ext.specs.Values.{value_of, same_value}
 use Rattle.p3_ext.specs.declared.extension.ext_field.ExtField.{ExtField}
 

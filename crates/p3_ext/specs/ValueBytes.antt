@@ -1,8 +1,8 @@
 -- The bytes of values: those of their coefficients.
 use Rattle.std.specs.Prelude.{◌≡◌, ◌*◌, ℕ, List, length}
 use Rattle.std.proofs.Common.{ap, ◌∙◌}
-use Rattle.p3_theory.specs.Streams.{byte_stream}
-use Rattle.p3_theory.specs.StreamLemmas.{length-byte_stream}
+use Rattle.p3_spaces.specs.Streams.{byte_stream}
+use Rattle.p3_spaces.specs.StreamLemmas.{length-byte_stream}
 use Rattle.p3_ext.specs.declared.extension.ext_field.ExtField.{ExtField}
 
 -- a value has D times as many bytes as a coefficient

@@ -4,14 +4,14 @@ use Rattle.std.proofs.Common.{ap, arith, ◌∙◌, sym, zero, suc, subst}
 use Rattle.std.proofs.lemmas.Slice.Eq.{slice_eq-Decides}
 use Rattle.std.proofs.lemmas.Cmp.{lists_equiv}
 use Rattle.std.proofs.Math.Nat.{ℕ_set}
-use Rattle.p3_theory.specs.Ring.{Ops, RingLaws, Ring}
-use Rattle.p3_theory.specs.Polynomial as P
-use Rattle.p3_theory.specs.Polynomial.{IsMonic}
-use Rattle.p3_theory.specs.Coefficients.{length-tabulate}
-use Rattle.p3_theory.specs.QuotientRing.{Ext, extension}
+use Rattle.p3_theory.specs.Rings.Ring.{Ops, RingLaws, Ring}
+use Rattle.p3_theory.specs.Polynomials.Polynomial as P
+use Rattle.p3_theory.specs.Polynomials.Polynomial.{IsMonic}
+use Rattle.p3_theory.specs.Polynomials.Coefficients.{length-tabulate}
+use Rattle.p3_theory.specs.Polynomials.QuotientRing.{Ext, extension}
 use Rattle.std.specs.Cmp.{IsPartialEquivalence, IsEquivalence, on_per, on_equiv}
 use Rattle.std.specs.Cmp.Lexicographic.{pointwise, lists_per}
-use Rattle.p3_theory.specs.Places.{length-remainder, to-tabulate, get-tabulate}
+use Rattle.p3_theory.specs.Lists.Places.{length-remainder, to-tabulate, get-tabulate}
 use Rattle.p3_ext.specs.declared.extension.ext_field.ExtField.{ExtField}
 
 module _ {F : Type 0} {D : ℕ} {S A : Type 0} where

@@ -1,11 +1,11 @@
 ghost use Rattle.std.specs.Prelude.{◌≡◌, ◌≤◌, ◌<◌, ◌+◌, ℕ, List, length, replicate};
-ghost use Rattle.p3_theory.specs.Ring.{Ops, Invertible, IsInverse, subtract};
-ghost use Rattle.p3_theory.specs.Polynomial.{IsMonic, at, quotient_mul, quotient_add, quotient_ops, embed, binomial};
-ghost use Rattle.p3_theory.specs.ListInverses.{HasNoInverse};
-ghost use Rattle.p3_theory.specs.Powers.{power};
-ghost use Rattle.p3_theory.specs.Trinomials.{cubic_trinomial, quintic_trinomial};
-ghost use Rattle.p3_theory.specs.FrobeniusTable.{frobenius_list, orbit_list, IsFrobeniusTable};
-ghost use Rattle.p3_theory.specs.Frobenius.{iterate};
+ghost use Rattle.p3_theory.specs.Rings.Ring.{Ops, Invertible, IsInverse, subtract};
+ghost use Rattle.p3_theory.specs.Polynomials.Polynomial.{IsMonic, at, quotient_mul, quotient_add, quotient_ops, embed, binomial};
+ghost use Rattle.p3_theory.specs.Inverses.ListInverses.{HasNoInverse};
+ghost use Rattle.p3_theory.specs.Rings.Powers.{power};
+ghost use Rattle.p3_theory.specs.Products.Trinomials.{cubic_trinomial, quintic_trinomial};
+ghost use Rattle.p3_theory.specs.FrobeniusMaps.FrobeniusTable.{frobenius_list, orbit_list, IsFrobeniusTable};
+ghost use Rattle.p3_theory.specs.FrobeniusMaps.Frobenius.{iterate};
 ghost use Rattle.p3_products.specs.Entries.{entrywise_difference};
 
 pub mod algebra;

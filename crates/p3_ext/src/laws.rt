@@ -3,12 +3,12 @@ ghost use Rattle.std.specs.Prelude.{◌≡◌, ◌↔◌, List, flat_map};
 ghost use Rattle.std.specs.Cmp.Lexicographic.{slice_cmp};
 ghost use Rattle.std.specs.Hash as fed;
 ghost use Rattle.std.specs.declared.cmp.Ordering.TheVariants.{Less, Equal};
-ghost use Rattle.p3_theory.specs.ListOrder.{IsLessAtFirst};
-ghost use Rattle.p3_theory.specs.Streams.{byte_stream};
-ghost use Rattle.p3_theory.specs.Polynomial.{IsRemainder, convolution};
-ghost use Rattle.p3_theory.specs.Ring.{Invertible};
-ghost use Rattle.p3_theory.specs.Operators.{product_list};
-ghost use Rattle.p3_theory.specs.FrobeniusTable.{orbit_list};
+ghost use Rattle.p3_theory.specs.Lists.ListOrder.{IsLessAtFirst};
+ghost use Rattle.p3_spaces.specs.Streams.{byte_stream};
+ghost use Rattle.p3_theory.specs.Polynomials.Polynomial.{IsRemainder, convolution};
+ghost use Rattle.p3_theory.specs.Rings.Ring.{Invertible};
+ghost use Rattle.p3_theory.specs.Rings.Operators.{product_list};
+ghost use Rattle.p3_theory.specs.FrobeniusMaps.FrobeniusTable.{orbit_list};
 ghost use Rattle.p3_ext.specs.Values.{ext_ops, constant};
 ghost use Rattle.p3_ext.specs.Conjugates.{frobenius_map, norm_of};
 

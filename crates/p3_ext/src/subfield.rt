@@ -1,6 +1,6 @@
 ghost use Rattle.std.specs.Prelude.{◌≡◌, ◌≢◌, ◌↔◌, IsTrue, MatchOption};
 ghost use Rattle.std.specs.List.{All};
-ghost use Rattle.p3_theory.specs.Subfields.{IsEmbedded};
+ghost use Rattle.p3_theory.specs.Bases.Subfields.{IsEmbedded};
 
 use crate::extension::{ExtField, ExtensionShape, FrobeniusExtendable};
 use p3_base::field::Field;

@@ -1,7 +1,7 @@
 -- An inverse of a value, read by its coefficients.
 use Rattle.std.proofs.Common.{◌≢◌, ◌∙◌, List, ℕ, sym, ap, Option, Some, None}
 use Rattle.std.specs.Prelude.{MatchOption, IfSome, IfNone}
-use Rattle.p3_theory.specs.Ring.{Ops, IsInverse as IsInverseIn}
+use Rattle.p3_theory.specs.Rings.Ring.{Ops, IsInverse as IsInverseIn}
 use Rattle.p3_field_bench.specs.Effects.{IsInverse}
 use Rattle.p3_calculator_fields.specs.Fields.{FieldSpec, ops}
 use Rattle.p3_calculator_fields.specs.Representation.{Represents}

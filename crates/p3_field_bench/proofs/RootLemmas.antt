@@ -1,10 +1,10 @@
 -- A square root of a value, read by its coefficients.
 use Rattle.std.proofs.Common.{◌≡◌, ◌≢◌, ◌-◌, ◌^◌, ◌∙◌, ℕ, List, sym, ap, ap₂, inl, inr, Option, Some, None}
 use Rattle.std.specs.Prelude.{IfSome, IfNone}
-use Rattle.p3_theory.specs.Ring.{Ops}
-use Rattle.p3_theory.specs.Powers.{power}
-use Rattle.p3_theory.specs.Homomorphism.{map-power}
-use Rattle.p3_theory.specs.SquareRoots.{FiniteFieldPremise}
+use Rattle.p3_theory.specs.Rings.Ring.{Ops}
+use Rattle.p3_theory.specs.Rings.Powers.{power}
+use Rattle.p3_theory.specs.Rings.Homomorphism.{map-power}
+use Rattle.p3_theory.specs.Roots.SquareRoots.{FiniteFieldPremise}
 use Rattle.p3_field_bench.specs.Effects.{IsRoot}
 use Rattle.p3_calculator_fields.specs.Fields.{FieldSpec, ops, value_count, generator_of}
 use Rattle.p3_calculator_fields.specs.Premise.{MeetsPremise}

@@ -2,7 +2,7 @@
 use Rattle.std.proofs.Common.{◌≡◌, ◌<◌, ℕ, ◌+◌, zero, suc, Bool, true, false, codes, MatchBool, List, [], ◌∷◌, ◌++◌, length, nat_lt, Option, Some, None, Result, Ok, Err, ◌⊎◌, ◌==◌, ◌&&◌, ◌∙◌, if◌then◌else◌, inl, inr, refl, ap, ap₂, ltb, arith, subst, sym}
 use Rattle.std.specs.Str.{bytes_eq}
 use Rattle.std.proofs.lemmas.Bool.{cases_eq, eqb-true, ltb-true}
-use Rattle.p3_theory.specs.SolverSound.{and_true}
+use Rattle.p3_theory.specs.RingSolver.SolverSound.{and_true}
 use Rattle.p3_calculator_fields.specs.declared.bank.Bank.{Bank}
 use Rattle.p3_calculator_fields.specs.declared.bank.Bank.TheVariants.{Empty, F2, F17, F17b, F31, Z15, BabyBear, KoalaBear, Goldilocks, F17x2, F17x4, F17x8, F17bx2, Z15x2, F31x3, F31x5, F31x6, F31c, BabyBearx4, F31t3, F17t5, F2t5}
 use Rattle.p3_calculator_fields.specs.Bank.{state_of}
@@ -12,7 +12,7 @@ use Rattle.p3_field_bench.specs.declared.commands.Operation.{Operation}
 use Rattle.p3_field_bench.specs.declared.commands.Operation.TheVariants.{Put, Binary, Unary, Pow, Inv, Sqrt, Show}
 use Rattle.p3_field_bench.specs.declared.faults.Fault.{Fault}
 use Rattle.p3_field_bench.specs.declared.faults.Fault.TheVariants.{UnknownCommand, WordCount, NoInverse, NoRoot, NoField, NoMemory, LongLine}
-use Rattle.p3_theory.specs.Powers.{power}
+use Rattle.p3_theory.specs.Rings.Powers.{power}
 use Rattle.p3_calculator_fields.specs.Display.{display}
 use Rattle.p3_field_bench.specs.Effects.{Outcome, Continues, Faults, At, Inverts, IsInverse, IsRoot, TakesRoot, Shows, Computes, ComputesAt, Chooses, Commands, Does, May, sets, puts, chosen, numbers_below, binary, unary}
 use Rattle.p3_calculator_fields.specs.States.{State, at_field, register_at}

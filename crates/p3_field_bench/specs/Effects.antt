@@ -10,8 +10,8 @@ use Rattle.p3_field_bench.specs.declared.commands.UnaryOperation.{UnaryOperation
 use Rattle.p3_field_bench.specs.declared.commands.UnaryOperation.TheVariants.{Neg, Sq, Dbl}
 use Rattle.p3_field_bench.specs.declared.faults.Fault.{Fault}
 use Rattle.p3_field_bench.specs.declared.faults.Fault.TheVariants.{UnknownCommand, WordCount, BadRegister, BadNumber, NoInverse, NoRoot, NoField, NoMemory, LongLine}
-use Rattle.p3_theory.specs.Ring.{Ops, subtract}
-use Rattle.p3_theory.specs.Powers.{power}
+use Rattle.p3_theory.specs.Rings.Ring.{Ops, subtract}
+use Rattle.p3_theory.specs.Rings.Powers.{power}
 use Rattle.p3_calculator_fields.specs.Display.{display}
 use Rattle.p3_calculator_fields.specs.States.{State, at_field, all_zero, register_at}
 use Rattle.p3_calculator_fields.specs.Fields.{FieldSpec, order, dimension, ops, IsValue}

@@ -1,5 +1,5 @@
 ghost use Rattle.std.specs.Prelude.{◌≡◌, ◌≢◌, ◌++◌, ◌∷◌, [], ℕ, List, Some, None, length, IfOk, IfSome, IfNone};
-ghost use Rattle.p3_theory.specs.Powers.{power};
+ghost use Rattle.p3_theory.specs.Rings.Powers.{power};
 ghost use Rattle.p3_calculator_fields.specs.Bank.{state_at};
 ghost use Rattle.p3_calculator_fields.specs.Display.{display};
 ghost use Rattle.p3_field_bench.specs.Effects.{Computes, numbers_below, IsInverse, IsRoot, binary, unary};

@@ -1,6 +1,6 @@
 //! The calls against the values of `vector_tables`.
-ghost use Rattle.p3_theory.specs.Ring.{Invertible};
-ghost use Rattle.p3_theory.specs.Multiples.{two};
+ghost use Rattle.p3_theory.specs.Rings.Ring.{Invertible};
+ghost use Rattle.p3_theory.specs.Rings.Multiples.{two};
 
 use crate::vector_tables::{
     BABY_BEAR_HALVES, BABY_BEAR_POLYNOMIALS, F2_BYTE_STREAMS, F2_INVERSES, F2_POLYNOMIALS,

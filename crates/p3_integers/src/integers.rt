@@ -1,5 +1,5 @@
 ghost use Rattle.std.specs.Prelude.{◌≡◌, ◌<◌, ℕ, pos, MatchOption};
-ghost use Rattle.p3_theory.specs.Multiples.{remainder_of, IsCanonical};
+ghost use Rattle.p3_theory.specs.Rings.Multiples.{remainder_of, IsCanonical};
 
 pub mod integer;
 

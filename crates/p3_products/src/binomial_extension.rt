@@ -1,6 +1,6 @@
 ghost use Rattle.std.specs.Prelude.{◌≡◌, ◌≤◌, length, replicate, IsTrue, IsFalse};
-ghost use Rattle.p3_theory.specs.Polynomial.{quotient_mul, quotient_add, binomial};
-ghost use Rattle.p3_theory.specs.Powers.{scale_powers};
+ghost use Rattle.p3_theory.specs.Polynomials.Polynomial.{quotient_mul, quotient_add, binomial};
+ghost use Rattle.p3_theory.specs.Rings.Powers.{scale_powers};
 ghost use Rattle.p3_products.specs.FixedFormulas.{has_fixed_formula};
 
 pub use crate::binomial_products::{octic_mul, quartic_mul, quintic_mul};

@@ -1,9 +1,9 @@
 ghost use Rattle.std.specs.Prelude.{◌≡◌, ◌+◌, length, IsTrue, IsFalse};
-ghost use Rattle.p3_theory.specs.Ring.{IsInverse};
-ghost use Rattle.p3_theory.specs.Polynomial.{quotient_ops, quotient_neg, binomial};
-ghost use Rattle.p3_theory.specs.EvenOdd.{interleave};
-ghost use Rattle.p3_theory.specs.InversesByHalves.{less_shifted};
-ghost use Rattle.p3_theory.specs.ListInverses.{HasNoInverse};
+ghost use Rattle.p3_theory.specs.Rings.Ring.{IsInverse};
+ghost use Rattle.p3_theory.specs.Polynomials.Polynomial.{quotient_ops, quotient_neg, binomial};
+ghost use Rattle.p3_theory.specs.Inverses.EvenOdd.{interleave};
+ghost use Rattle.p3_theory.specs.Inverses.InversesByHalves.{less_shifted};
+ghost use Rattle.p3_theory.specs.Inverses.ListInverses.{HasNoInverse};
 
 use crate::binomial_products::{quadratic_mul, quartic_mul, quartic_square};
 use p3_base::field::Field;

@@ -1,7 +1,7 @@
 ghost use Rattle.std.specs.Prelude.{◌≡◌, ◌≤◌, ◌<◌, ◌+◌, ◌-◌, length, get_or};
-ghost use Rattle.p3_theory.specs.Polynomial.{quotient_mul, binomial};
-ghost use Rattle.p3_theory.specs.ConvolutionSums.{first_sum};
-ghost use Rattle.p3_theory.specs.ProductPlaces.{product_place};
+ghost use Rattle.p3_theory.specs.Polynomials.Polynomial.{quotient_mul, binomial};
+ghost use Rattle.p3_theory.specs.Polynomials.ConvolutionSums.{first_sum};
+ghost use Rattle.p3_theory.specs.Products.ProductPlaces.{product_place};
 
 use p3_ring::ring::{Algebra, PrimeCharacteristicRing};
 

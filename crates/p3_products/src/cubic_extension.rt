@@ -1,6 +1,6 @@
 ghost use Rattle.std.specs.Prelude.{◌≡◌, length};
-ghost use Rattle.p3_theory.specs.Polynomial.{quotient_mul};
-ghost use Rattle.p3_theory.specs.Trinomials.{cubic_trinomial};
+ghost use Rattle.p3_theory.specs.Polynomials.Polynomial.{quotient_mul};
+ghost use Rattle.p3_theory.specs.Products.Trinomials.{cubic_trinomial};
 
 use p3_ring::ring::PrimeCharacteristicRing;
 

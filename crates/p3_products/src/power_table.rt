@@ -1,7 +1,7 @@
 ghost use Rattle.std.specs.Prelude.{◌≡◌, ◌≤◌, ◌<◌, ℕ, List, length};
-ghost use Rattle.p3_theory.specs.Polynomial as Polynomial;
-ghost use Rattle.p3_theory.specs.FrobeniusTable.{row_sum};
-ghost use Rattle.p3_theory.specs.TableImages.{rest_of_image};
+ghost use Rattle.p3_theory.specs.Polynomials.Polynomial as Polynomial;
+ghost use Rattle.p3_theory.specs.FrobeniusMaps.FrobeniusTable.{row_sum};
+ghost use Rattle.p3_theory.specs.FrobeniusMaps.TableImages.{rest_of_image};
 
 use p3_base::field::Field;
 use p3_ring::ring::PrimeCharacteristicRing;

@@ -1,6 +1,6 @@
 ghost use Rattle.std.specs.Prelude.{◌≡◌, ◌<◌, length, map, List};
-ghost use Rattle.p3_theory.specs.Polynomial.{quotient_add, embed};
-ghost use Rattle.p3_theory.specs.BaseProduct.{scaled};
+ghost use Rattle.p3_theory.specs.Polynomials.Polynomial.{quotient_add, embed};
+ghost use Rattle.p3_theory.specs.Polynomials.BaseProduct.{scaled};
 ghost use Rattle.p3_products.specs.Entries.{entrywise_difference};
 
 use p3_ring::ring::{Algebra, PrimeCharacteristicRing};

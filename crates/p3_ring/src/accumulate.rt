@@ -1,6 +1,6 @@
 ghost use Rattle.std.specs.Prelude.{List};
 ghost use Rattle.std.specs.Iterator.{IsFinite, Drains};
-ghost use Rattle.p3_theory.specs.Accumulation.{Accumulates};
+ghost use Rattle.p3_theory.specs.Rings.Accumulation.{Accumulates};
 
 use std::ops::{Add, Mul};
 

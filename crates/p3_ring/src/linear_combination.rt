@@ -1,5 +1,5 @@
 ghost use Rattle.std.specs.Prelude.{◌≡◌, ◌≤◌, ◌<◌, length, map};
-ghost use Rattle.p3_theory.specs.DotProduct.{dot};
+ghost use Rattle.p3_theory.specs.Rings.DotProduct.{dot};
 ghost use Rattle.p3_ring.specs.ChunkLengths.{IsChunkLength};
 
 use crate::ring::{Algebra, PrimeCharacteristicRing};

@@ -1,12 +1,12 @@
 ghost use Rattle.std.specs.Prelude.{◌≡◌, ◌^◌, ℕ, if◌then◌else◌, IfOk, length, map, replicate};
-ghost use Rattle.p3_theory.specs.Ring.{Ops, RingLaws, Hom, Invertible, subtract};
-ghost use Rattle.p3_theory.specs.BooleanForms.{xor, and_not, bool_check};
-ghost use Rattle.p3_theory.specs.Powers.{power};
-ghost use Rattle.p3_theory.specs.Polynomial.{quotient_mul, binomial};
-ghost use Rattle.p3_theory.specs.Multiples.{of_nat, of_int, two};
-ghost use Rattle.p3_theory.specs.DotProduct.{dot};
+ghost use Rattle.p3_theory.specs.Rings.Ring.{Ops, RingLaws, Hom, Invertible, subtract};
+ghost use Rattle.p3_theory.specs.Rings.BooleanForms.{xor, and_not, bool_check};
+ghost use Rattle.p3_theory.specs.Rings.Powers.{power};
+ghost use Rattle.p3_theory.specs.Polynomials.Polynomial.{quotient_mul, binomial};
+ghost use Rattle.p3_theory.specs.Rings.Multiples.{of_nat, of_int, two};
+ghost use Rattle.p3_theory.specs.Rings.DotProduct.{dot};
 ghost use Rattle.p3_ring.specs.ChunkLengths.{IsChunkLength};
-ghost use Rattle.p3_theory.specs.Operators.{Gives, GivesOne, Folds, sum_list, product_list};
+ghost use Rattle.p3_theory.specs.Rings.Operators.{Gives, GivesOne, Folds, sum_list, product_list};
 
 use crate::linear_combination::chunked_linear_combination;
 use crate::powers::Powers;
@@ -478,7 +478,7 @@ pub trait Algebra<F: PrimeCharacteristicRing>: PrimeCharacteristicRing
 impl<R: PrimeCharacteristicRing> Algebra<R> for R {
     ghost use Rattle.std.specs.Prelude.{refl};
     ghost use Rattle.std.proofs.Common.{lit<};
-    ghost use Rattle.p3_theory.specs.Homomorphism.{identity};
+    ghost use Rattle.p3_theory.specs.Rings.Homomorphism.{identity};
 
     ghost embed = { λ x. x };
 

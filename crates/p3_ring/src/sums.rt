@@ -1,5 +1,5 @@
 ghost use Rattle.std.specs.Prelude.{◌≡◌, ◌≤◌, length};
-ghost use Rattle.p3_theory.specs.Operators.{sum_list};
+ghost use Rattle.p3_theory.specs.Rings.Operators.{sum_list};
 
 use crate::ring::PrimeCharacteristicRing;
 

@@ -1,7 +1,7 @@
 -- Runs of steps on registers of a field, with inverses and square roots.
 use Rattle.std.specs.Prelude.{◌≡◌, ◌≢◌, ◌<◌, ◌⊎◌, ℕ, suc, List, [], ◌∷◌, All, Option, None, Result, Ok, Err, IsSome, slice_set}
-use Rattle.p3_theory.specs.Ring.{Ops, IsInverse}
-use Rattle.p3_theory.specs.SquareRoots.{IsSquareRoot, CountedByGenerator}
+use Rattle.p3_theory.specs.Rings.Ring.{Ops, IsInverse}
+use Rattle.p3_theory.specs.Roots.SquareRoots.{IsSquareRoot, CountedByGenerator}
 use Rattle.p3_runs.specs.Runs.{register, after_step}
 use Rattle.p3_runs.specs.declared.steps.Step.TheVariants as Plain
 use Rattle.p3_runs.specs.declared.steps.field_steps.FieldStep.{FieldStep}

@@ -1,8 +1,8 @@
 -- Runs of steps on lists of registers, over any operations.
 use Rattle.std.specs.Prelude.{◌<◌, ℕ, List, [], ◌∷◌, All, slice_set, slice_index_or}
-use Rattle.p3_theory.specs.Ring.{Ops, subtract}
-use Rattle.p3_theory.specs.Powers.{power}
-use Rattle.p3_theory.specs.Multiples.{two}
+use Rattle.p3_theory.specs.Rings.Ring.{Ops, subtract}
+use Rattle.p3_theory.specs.Rings.Powers.{power}
+use Rattle.p3_theory.specs.Rings.Multiples.{two}
 use Rattle.p3_runs.specs.declared.steps.Step.{Step}
 use Rattle.p3_runs.specs.declared.steps.Step.TheVariants.{Add, Sub, Mul, Neg, Square, Double, Exp, Mul2Exp}
 

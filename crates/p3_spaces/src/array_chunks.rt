@@ -1,7 +1,7 @@
 ghost use Rattle.std.specs.Prelude.{◌≡◌, ◌≤◌, ◌<◌, ◌+◌, ◌++◌, List, length, drop, OnSome};
 ghost use Rattle.std.specs.Bool.{MatchBool};
 ghost use Rattle.std.specs.Iterator.{IsFinite, size, count_unless};
-ghost use Rattle.p3_theory.specs.Streams.{GathersGroup, TakesUpTo};
+ghost use Rattle.p3_spaces.specs.Streams.{GathersGroup, TakesUpTo};
 
 /// The next N items of `source` as an array, filled up by copies of `padding` where the items end
 /// first, and `None` where no item is left. `is_over` keeps whether the source has ended; from then

@@ -2,8 +2,8 @@ ghost use Rattle.std.specs.Prelude.{◌≡◌, ◌<◌, ◌%◌, ◌↔◌, ℕ,
 ghost use Rattle.std.specs.Iterator.{IsFinite};
 ghost use Rattle.std.specs.Array.{IsFromFnResult};
 ghost use Rattle.std.specs.Mem.{FitsInMemory};
-ghost use Rattle.p3_theory.specs.Streams.{YieldsExactly};
-ghost use Rattle.p3_theory.specs.Coordinates.{basis_element, flattened, HasCoefficientsOf, CallableBelow};
+ghost use Rattle.p3_spaces.specs.Streams.{YieldsExactly};
+ghost use Rattle.p3_theory.specs.Bases.Coordinates.{basis_element, flattened, HasCoefficientsOf, CallableBelow};
 
 use p3_ring::ring::PrimeCharacteristicRing;
 use std::alloc::{AllocError, Allocator, Global};
@@ -134,7 +134,7 @@ pub trait BasedVectorSpace<F: PrimeCharacteristicRing>: Copy {
 impl<R: PrimeCharacteristicRing> BasedVectorSpace<R> for R {
     ghost use Rattle.std.specs.Prelude.{[], ◌∷◌, refl};
     ghost use Rattle.std.proofs.Common.{lit<};
-    ghost use Rattle.p3_theory.specs.CoordinateLemmas.{single-same, single-onto};
+    ghost use Rattle.p3_theory.specs.Bases.CoordinateLemmas.{single-same, single-onto};
 
     const DIMENSION: usize = 1;
 

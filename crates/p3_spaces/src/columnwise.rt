@@ -1,6 +1,6 @@
 ghost use Rattle.std.specs.Prelude.{◌≡◌, ◌<◌, List, length, map};
 ghost use Rattle.std.specs.Iterator.{IsFinite, Drains};
-ghost use Rattle.p3_theory.specs.ColumnwiseProducts.{add_scaled_row, add_scaled_rows};
+ghost use Rattle.p3_theory.specs.Rings.ColumnwiseProducts.{add_scaled_row, add_scaled_rows};
 
 use p3_base::field::Field;
 use p3_ring::ring::{Algebra, PrimeCharacteristicRing};

@@ -1,6 +1,6 @@
 ghost use Rattle.std.specs.Prelude.{◌≡◌, ◌↔◌, IsTrue, IsSome, IfSome, MatchOption, length};
-ghost use Rattle.p3_theory.specs.Polynomial as Polynomial;
-ghost use Rattle.p3_theory.specs.BasisSums.{IsScalar, IsBasisSum};
+ghost use Rattle.p3_theory.specs.Polynomials.Polynomial as Polynomial;
+ghost use Rattle.p3_theory.specs.Bases.BasisSums.{IsScalar, IsBasisSum};
 
 use crate::basis::{AlgebraIdentity, BasedVectorSpace};
 use p3_base::field::Field;

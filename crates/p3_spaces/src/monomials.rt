@@ -1,7 +1,7 @@
 ghost use Rattle.std.specs.Prelude.{◌≡◌};
-ghost use Rattle.p3_theory.specs.Powers.{power};
-ghost use Rattle.p3_theory.specs.Monomials.{IsInjectivePower};
-ghost use Rattle.p3_theory.specs.ZeroDivisors.{HasNoZeroDivisors};
+ghost use Rattle.p3_theory.specs.Rings.Powers.{power};
+ghost use Rattle.p3_theory.specs.Roots.Monomials.{IsInjectivePower};
+ghost use Rattle.p3_theory.specs.Rings.ZeroDivisors.{HasNoZeroDivisors};
 
 use p3_ring::const_power::exp_const_u64;
 use p3_ring::ring::PrimeCharacteristicRing;

@@ -1,6 +1,6 @@
 ghost use Rattle.std.specs.Prelude.{◌≡◌, ◌<◌, ◌≤◌, ◌*◌, ℕ, List, [], ◌∷◌, length, map, slice_index, MatchOption};
 ghost use Rattle.std.specs.Iterator.{IsFinite};
-ghost use Rattle.p3_theory.specs.Streams.{YieldsExactly, AllOfLength, AreParallel, column, byte_stream, row_bytes, left_of, word_stream, group_count};
+ghost use Rattle.p3_spaces.specs.Streams.{YieldsExactly, AllOfLength, AreParallel, column, byte_stream, row_bytes, left_of, word_stream, group_count};
 
 use crate::array_chunks::next_chunk_padded;
 use crate::streams::RawDataSerializable;
@@ -84,7 +84,7 @@ impl<F: RawDataSerializable + Copy, I: Iterator<Item = [F; N]>, const N: usize> 
     for ParallelByteStreams<I, F, N> {
     ghost use Rattle.std.specs.Prelude.{◌+◌};
     ghost use Rattle.std.specs.Iterator.{count_map};
-    ghost use Rattle.p3_theory.specs.Streams.{TakesFirst};
+    ghost use Rattle.p3_spaces.specs.Streams.{TakesFirst};
 
     type Item = [u8; N];
 
@@ -164,7 +164,7 @@ impl<I: Iterator<Item = [u8; N]>, const N: usize> Iterator for ParallelU32Stream
     ghost use Rattle.std.specs.Prelude.{replicate};
     ghost use Rattle.std.specs.Bool.{MatchBool};
     ghost use Rattle.std.specs.Iterator.{count_unless};
-    ghost use Rattle.p3_theory.specs.Streams.{GathersGroup, ReadsGroup, row_words};
+    ghost use Rattle.p3_spaces.specs.Streams.{GathersGroup, ReadsGroup, row_words};
 
     type Item = [u32; N];
 
@@ -213,7 +213,7 @@ impl<I: Iterator<Item = [u8; N]>, const N: usize> Iterator for ParallelU64Stream
     ghost use Rattle.std.specs.Prelude.{replicate};
     ghost use Rattle.std.specs.Bool.{MatchBool};
     ghost use Rattle.std.specs.Iterator.{count_unless};
-    ghost use Rattle.p3_theory.specs.Streams.{GathersGroup, ReadsGroup, row_words};
+    ghost use Rattle.p3_spaces.specs.Streams.{GathersGroup, ReadsGroup, row_words};
 
     type Item = [u64; N];
 

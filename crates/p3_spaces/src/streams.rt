@@ -2,7 +2,7 @@ ghost use Rattle.std.specs.Prelude.{◌≡◌, ◌<◌, ◌*◌, ℕ, List, leng
 ghost use Rattle.std.specs.Option.{ForSome};
 ghost use Rattle.std.specs.Iterator.Adapters.{inner_items_left};
 ghost use Rattle.std.specs.Iterator.{IsFinite, UpTo, size};
-ghost use Rattle.p3_theory.specs.Streams.{YieldsExactly, byte_stream, word_stream, InHand};
+ghost use Rattle.p3_spaces.specs.Streams.{YieldsExactly, byte_stream, word_stream, InHand};
 
 use crate::array_chunks::next_chunk_padded;
 
@@ -103,7 +103,7 @@ pub struct ByteStream<I, B> {
 impl<F: RawDataSerializable, I: Iterator<Item = F>> Iterator for ByteStream<I, F::Bytes> {
     ghost use Rattle.std.specs.Prelude.{◌+◌};
     ghost use Rattle.std.specs.Iterator.{count_map};
-    ghost use Rattle.p3_theory.specs.Streams.{TakesByte};
+    ghost use Rattle.p3_spaces.specs.Streams.{TakesByte};
 
     type Item = u8;
 
@@ -143,7 +143,7 @@ pub struct U32Stream<I> {
 impl<I: Iterator<Item = u8>> Iterator for U32Stream<I> {
     ghost use Rattle.std.specs.Bool.{MatchBool};
     ghost use Rattle.std.specs.Iterator.{count_unless};
-    ghost use Rattle.p3_theory.specs.Streams.{GathersGroup, ReadsGroup, little_endian};
+    ghost use Rattle.p3_spaces.specs.Streams.{GathersGroup, ReadsGroup, little_endian};
 
     type Item = u32;
 
@@ -182,7 +182,7 @@ pub struct U64Stream<I> {
 impl<I: Iterator<Item = u8>> Iterator for U64Stream<I> {
     ghost use Rattle.std.specs.Bool.{MatchBool};
     ghost use Rattle.std.specs.Iterator.{count_unless};
-    ghost use Rattle.p3_theory.specs.Streams.{GathersGroup, ReadsGroup, little_endian};
+    ghost use Rattle.p3_spaces.specs.Streams.{GathersGroup, ReadsGroup, little_endian};
 
     type Item = u64;
 

@@ -1,10 +1,10 @@
 //! The calls from C at F17, BabyBear and Goldilocks. The argument `field` is 0, 1 or 2 for these; at
 //! every other number the answer is 0, and so it is where the memory is refused.
 ghost use Rattle.std.specs.Prelude.{◌≡◌, ◌<◌, ◌-◌, ◌*◌};
-ghost use Rattle.p3_theory.specs.Frobenius.{iterate};
-ghost use Rattle.p3_theory.specs.GeometricSequence.{geometric_term};
-ghost use Rattle.p3_theory.specs.Multiples.{of_nat};
-ghost use Rattle.p3_theory.specs.Powers.{power};
+ghost use Rattle.p3_theory.specs.FrobeniusMaps.Frobenius.{iterate};
+ghost use Rattle.p3_theory.specs.Rings.GeometricSequence.{geometric_term};
+ghost use Rattle.p3_theory.specs.Rings.Multiples.{of_nat};
+ghost use Rattle.p3_theory.specs.Rings.Powers.{power};
 ghost use Rattle.p3_speed_loops.specs.Answers.{OrZero, multiplied, added, last_sum, last_dot, last_value};
 ghost use Rattle.p3_speed_loops.specs.Steps.{Reaches, IsInverseAndMore, IsRootOfSquareAndMore};
 

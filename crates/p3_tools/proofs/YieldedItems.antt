@@ -5,8 +5,8 @@ use Rattle.std.specs.Iterator.{Yields, AlwaysYields}
 use Rattle.std.specs.Iterator.Runs.{Run}
 use Rattle.std.proofs.iter.runs.Made.{took}
 use Rattle.std.proofs.lemmas.List.{reverse-reverse}
-use Rattle.p3_theory.specs.Ring.{Ops}
-use Rattle.p3_theory.specs.DotProduct.{dot}
+use Rattle.p3_theory.specs.Rings.Ring.{Ops}
+use Rattle.p3_theory.specs.Rings.DotProduct.{dot}
 use Rattle.p3_tools.specs.PairedRuns.{EndsWithShorter}
 
 module _ {S A : Type 0} (steps : S → Option A → S → Type 0) where

@@ -1,6 +1,6 @@
 //! Cosets of the subgroups of roots of unity whose orders are powers of two.
 ghost use Rattle.std.specs.Prelude.{◌≤◌};
-ghost use Rattle.p3_theory.specs.Ring.{IsInverse};
+ghost use Rattle.p3_theory.specs.Rings.Ring.{IsInverse};
 
 use p3_base::field::TwoAdicField;
 use p3_ring::powers::BoundedPowers;
@@ -35,11 +35,11 @@ impl<F: TwoAdicField> Copy for TwoAdicMultiplicativeCoset<F> {}
 
 impl<F: TwoAdicField> TwoAdicMultiplicativeCoset<F> {
     ghost use Rattle.std.specs.Prelude.{◌≡◌, ◌<◌, ◌-◌, ◌*◌, ◌%◌, ◌^◌, ◌↔◌, IsTrue, IsSome, IfSome, Contains, get_or};
-    ghost use Rattle.p3_theory.specs.Ring.{Invertible};
-    ghost use Rattle.p3_theory.specs.Powers.{power};
-    ghost use Rattle.p3_theory.specs.ZeroDivisors.{HasNoZeroDivisors};
+    ghost use Rattle.p3_theory.specs.Rings.Ring.{Invertible};
+    ghost use Rattle.p3_theory.specs.Rings.Powers.{power};
+    ghost use Rattle.p3_theory.specs.Rings.ZeroDivisors.{HasNoZeroDivisors};
     ghost use Rattle.p3_ring.specs.BoundedSequence.{terms};
-    ghost use Rattle.p3_theory.specs.Cosets.{coset};
+    ghost use Rattle.p3_theory.specs.Roots.Cosets.{coset};
 
     /// The coset of the shift and the size `2^log_size`, and `None` where the shift has no inverse
     /// or the log size is past the two-adicity.
@@ -260,7 +260,7 @@ impl<F: TwoAdicField> TwoAdicMultiplicativeCoset<F> {
 impl<F: TwoAdicField> IntoIterator for TwoAdicMultiplicativeCoset<F> {
     ghost use Rattle.std.specs.Prelude.{◌≡◌, ◌<◌};
     ghost use Rattle.p3_ring.specs.BoundedSequence.{terms};
-    ghost use Rattle.p3_theory.specs.Cosets.{coset};
+    ghost use Rattle.p3_theory.specs.Roots.Cosets.{coset};
 
     type Item = F;
 
@@ -279,7 +279,7 @@ impl<F: TwoAdicField> IntoIterator for TwoAdicMultiplicativeCoset<F> {
 impl<F: TwoAdicField> IntoIterator for &TwoAdicMultiplicativeCoset<F> {
     ghost use Rattle.std.specs.Prelude.{◌≡◌, ◌<◌};
     ghost use Rattle.p3_ring.specs.BoundedSequence.{terms};
-    ghost use Rattle.p3_theory.specs.Cosets.{coset};
+    ghost use Rattle.p3_theory.specs.Roots.Cosets.{coset};
 
     type Item = F;
 

@@ -1,7 +1,7 @@
 //! Powers by fixed chains of products, over every ring.
 
 ghost use Rattle.std.specs.Prelude.{◌≡◌};
-ghost use Rattle.p3_theory.specs.Powers.{power};
+ghost use Rattle.p3_theory.specs.Rings.Powers.{power};
 
 use p3_ring::ring::PrimeCharacteristicRing;
 

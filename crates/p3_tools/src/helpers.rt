@@ -3,11 +3,11 @@
 ghost use Rattle.std.specs.Prelude.{◌≡◌, ◌+◌, ◌-◌, ◌*◌, ◌/◌, ◌%◌, ◌^◌, ◌<◌, ◌∷◌, length, map, replicate};
 ghost use Rattle.std.specs.Iterator.{IsFinite, count_min};
 ghost use Rattle.p3_ring.specs.BoundedSequence.{terms};
-ghost use Rattle.p3_theory.specs.DotProduct.{dot};
-ghost use Rattle.p3_theory.specs.GeometricSequence.{geometric_sequence};
-ghost use Rattle.p3_theory.specs.HornerFold.{eval_from};
-ghost use Rattle.p3_theory.specs.Powers.{eval};
-ghost use Rattle.p3_theory.specs.PairedLists.{zip_with};
+ghost use Rattle.p3_theory.specs.Rings.DotProduct.{dot};
+ghost use Rattle.p3_theory.specs.Rings.GeometricSequence.{geometric_sequence};
+ghost use Rattle.p3_theory.specs.Polynomials.HornerFold.{eval_from};
+ghost use Rattle.p3_theory.specs.Rings.Powers.{eval};
+ghost use Rattle.p3_theory.specs.Lists.PairedLists.{zip_with};
 ghost use Rattle.p3_tools.specs.BackwardRuns.{RunsBackward, IfYieldsBackward};
 ghost use Rattle.p3_tools.specs.PairedRuns.{RunInPairs, IfBothYield};
 

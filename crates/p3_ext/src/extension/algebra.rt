@@ -116,7 +116,7 @@ impl<F: ExtensionAlgebra<F, D, S>, const D: usize, S: ExtensionShape> Algebra<F>
     for ExtField<F, D, S, F> {
     ghost use Rattle.std.specs.Prelude.{refl};
     ghost use Rattle.std.proofs.Common.{lit<};
-    ghost use Rattle.p3_theory.specs.Ring.{ring_of};
+    ghost use Rattle.p3_theory.specs.Rings.Ring.{ring_of};
     ghost use Rattle.p3_ext.specs.Values.{constant};
     ghost use Rattle.p3_ext.specs.Bases.{embedding, some_place};
     ghost use Rattle.p3_ext.specs.Scalars.{is_scalar_sum, is_scalar_difference, is_scalar_product};

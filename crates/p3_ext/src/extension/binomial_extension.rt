@@ -5,7 +5,7 @@ use p3_products::binomial_products::compute_coefficient;
 use p3_ring::ring::PrimeCharacteristicRing;
 
 impl<F: BinomiallyExtendable<D>, const D: usize> FrobeniusExtendable<D, Binomial<F>> for F {
-    ghost use Rattle.p3_theory.specs.Ring.{ring_of};
+    ghost use Rattle.p3_theory.specs.Rings.Ring.{ring_of};
     ghost use Rattle.p3_ext.specs.BinomialShape.{binomial_image, binomial_frobenius};
 
     ghost image = { binomial_image F.ops D F.BinomiallyExtendable.w F.BinomiallyExtendable.dth_root };

@@ -1,7 +1,7 @@
 //! Extensions by `Y^D = W` over an extension by `X^2 = -1`.
 ghost use Rattle.std.specs.Prelude.{◌≡◌, ◌≤◌, ◌<◌, ℕ, List};
-ghost use Rattle.p3_theory.specs.Powers.{power};
-ghost use Rattle.p3_theory.specs.Polynomial.{binomial, quotient_mul};
+ghost use Rattle.p3_theory.specs.Rings.Powers.{power};
+ghost use Rattle.p3_theory.specs.Polynomials.Polynomial.{binomial, quotient_mul};
 ghost use Rattle.p3_ext.specs.ComplexValues.{complex_ops, ArePowersApart};
 
 use super::complex_extension::{Complex, ComplexExtendable};
@@ -79,7 +79,7 @@ impl<F: HasComplexBinomialExtension<D>, const D: usize> ExtensionAlgebra<
     Binomial<Complex<F>>,
 > for Complex<F> {
     ghost use Rattle.std.proofs.Common.{arith};
-    ghost use Rattle.p3_theory.specs.BinomialFrobenius.{binomial_is_monic};
+    ghost use Rattle.p3_theory.specs.FrobeniusMaps.BinomialFrobenius.{binomial_is_monic};
 
     ghost modulus = { binomial (complex_ops F.ops) D F.HasComplexBinomialExtension.w };
 

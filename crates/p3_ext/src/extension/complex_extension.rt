@@ -1,8 +1,8 @@
 //! Extensions by a root of minus one, and extensions over them.
 ghost use Rattle.std.specs.Prelude.{◌≡◌, ◌≤◌, ◌<◌, [], ◌∷◌, ℕ};
-ghost use Rattle.p3_theory.specs.Ring.{Ops, Invertible};
-ghost use Rattle.p3_theory.specs.Multiples.{two};
-ghost use Rattle.p3_theory.specs.ComplexExtensions.{real_part, imaginary_part, conjugated, complex_norm, rotated};
+ghost use Rattle.p3_theory.specs.Rings.Ring.{Ops, Invertible};
+ghost use Rattle.p3_theory.specs.Rings.Multiples.{two};
+ghost use Rattle.p3_theory.specs.Products.ComplexExtensions.{real_part, imaginary_part, conjugated, complex_norm, rotated};
 
 use super::{
     Binomial, BinomialExtensionField, BinomiallyExtendable, ExtensionAlgebra, ExtensionProduct,
@@ -47,7 +47,7 @@ pub trait ComplexExtendable: Field {
 }
 
 impl<F: ComplexExtendable> ExtensionProduct<F, 2, Binomial<F>> for F {
-    ghost use Rattle.p3_theory.specs.Polynomial.{quotient_mul, binomial};
+    ghost use Rattle.p3_theory.specs.Polynomials.Polynomial.{quotient_mul, binomial};
 
     ghost ext_product_gives = { λ a b r. r ≡ quotient_mul F.ops 2 (binomial F.ops 2 (F.ops.neg F.ops.one)) a b };
 
@@ -59,8 +59,8 @@ impl<F: ComplexExtendable> ExtensionProduct<F, 2, Binomial<F>> for F {
 
 impl<F: ComplexExtendable> ExtensionAlgebra<F, 2, Binomial<F>> for F {
     ghost use Rattle.std.proofs.Common.{lit≤};
-    ghost use Rattle.p3_theory.specs.Polynomial.{binomial};
-    ghost use Rattle.p3_theory.specs.BinomialFrobenius.{binomial_is_monic};
+    ghost use Rattle.p3_theory.specs.Polynomials.Polynomial.{binomial};
+    ghost use Rattle.p3_theory.specs.FrobeniusMaps.BinomialFrobenius.{binomial_is_monic};
 
     ghost modulus = { binomial F.ops 2 (F.ops.neg F.ops.one) };
 
@@ -78,8 +78,8 @@ impl<F: ComplexExtendable> ExtensionAlgebra<F, 2, Binomial<F>> for F {
 
 impl<F: ComplexExtendable> BinomiallyExtendable<2> for F {
     ghost use Rattle.std.specs.Prelude.{codes, refl};
-    ghost use Rattle.p3_theory.specs.Ring.{ring_of};
-    ghost use Rattle.p3_theory.specs.ComplexExtensions.{minus_one_square, minus_one_apart};
+    ghost use Rattle.p3_theory.specs.Rings.Ring.{ring_of};
+    ghost use Rattle.p3_theory.specs.Products.ComplexExtensions.{minus_one_square, minus_one_apart};
 
     ghost w = { F.ops.neg F.ops.one };
 

@@ -8,8 +8,8 @@ pub(super) struct CubicPowers<F>(PhantomData<F>);
 
 impl<F: CubicTrinomialExtendable> PowerTable<F, 3> for CubicPowers<F> {
     ghost use Rattle.std.specs.Prelude.{refl};
-    ghost use Rattle.p3_theory.specs.Powers.{power};
-    ghost use Rattle.p3_theory.specs.Polynomial.{quotient_ops};
+    ghost use Rattle.p3_theory.specs.Rings.Powers.{power};
+    ghost use Rattle.p3_theory.specs.Polynomials.Polynomial.{quotient_ops};
 
     ghost powers = { power (quotient_ops F.ops 3 F.modulus) F.CubicTrinomialExtendable.image };
 

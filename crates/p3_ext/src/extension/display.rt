@@ -1,6 +1,6 @@
 ghost use Rattle.std.specs.Prelude.{◌≡◌, ℕ, Some, List, Bool};
 ghost use Rattle.std.specs.Fmt.{WritesOnOk};
-ghost use Rattle.p3_theory.specs.Text.{power_text, term_text, next_text, polynomial_text};
+ghost use Rattle.p3_theory.specs.Polynomials.Text.{power_text, term_text, next_text, polynomial_text};
 
 use super::ext_field::ExtField;
 use p3_base::field::Field;

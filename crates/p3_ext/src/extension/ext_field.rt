@@ -1,6 +1,6 @@
 ghost use Rattle.std.specs.Prelude.{◌≡◌, ◌<◌, ℕ, length, get_or};
-ghost use Rattle.p3_theory.specs.Ring.{Ops};
-ghost use Rattle.p3_theory.specs.Polynomial.{embed};
+ghost use Rattle.p3_theory.specs.Rings.Ring.{Ops};
+ghost use Rattle.p3_theory.specs.Polynomials.Polynomial.{embed};
 
 use super::{ExtensionAlgebra, ExtensionProduct, ExtensionShape};
 use p3_ring::accumulate::{product_from, sum_from};
@@ -181,7 +181,7 @@ impl<F: Copy, const D: usize, S: Copy, A: ExtensionProduct<F, D, S>> MulAssign
 impl<F: Copy, const D: usize, S: ExtensionShape, A: ExtensionAlgebra<F, D, S>> Sum<
     ExtField<F, D, S, A>,
 > for ExtField<F, D, S, A> {
-    ghost use Rattle.p3_theory.specs.Operators.{sum_list};
+    ghost use Rattle.p3_theory.specs.Rings.Operators.{sum_list};
     ghost use Rattle.p3_ext.specs.Values.{ext_ops};
 
     ghost sum_gives = { λ xs r. r ≡ sum_list (ext_ops A.ops A.modulus) xs };
@@ -196,7 +196,7 @@ impl<F: Copy, const D: usize, S: ExtensionShape, A: ExtensionAlgebra<F, D, S>> S
 impl<F: Copy, const D: usize, S: ExtensionShape, A: ExtensionAlgebra<F, D, S>> Product<
     ExtField<F, D, S, A>,
 > for ExtField<F, D, S, A> {
-    ghost use Rattle.p3_theory.specs.Operators.{product_list};
+    ghost use Rattle.p3_theory.specs.Rings.Operators.{product_list};
     ghost use Rattle.p3_ext.specs.Values.{ext_ops};
 
     ghost product_gives = { λ xs r. r ≡ product_list (ext_ops A.ops A.modulus) xs };
@@ -214,7 +214,7 @@ impl<
     S: ExtensionShape,
     A: ExtensionAlgebra<F, D, S>,
 > PrimeCharacteristicRing for ExtField<F, D, S, A> {
-    ghost use Rattle.p3_theory.specs.Ring.{ring_of};
+    ghost use Rattle.p3_theory.specs.Rings.Ring.{ring_of};
     ghost use Rattle.p3_ext.specs.Values.{ext_ops, ext_laws, is_sum, is_difference, is_negation, same_value};
     ghost use Rattle.p3_ext.specs.Bases.{characteristic_of};
 

@@ -1,6 +1,6 @@
 ghost use Rattle.std.specs.Prelude.{◌≡◌, ◌≢◌, ◌-◌, ℕ, MatchOption};
-ghost use Rattle.p3_theory.specs.Ring.{Ops, Invertible, IsInverse};
-ghost use Rattle.p3_theory.specs.Frobenius.{iterate};
+ghost use Rattle.p3_theory.specs.Rings.Ring.{Ops, Invertible, IsInverse};
+ghost use Rattle.p3_theory.specs.FrobeniusMaps.Frobenius.{iterate};
 ghost use Rattle.p3_ext.specs.Values.{ext_ops};
 ghost use Rattle.p3_ext.specs.Conjugates.{frobenius_map, conjugate_product};
 
@@ -134,9 +134,9 @@ impl<F: FrobeniusExtendable<D, S>, const D: usize, S: ExtensionShape> DivAssign
 impl<F: FrobeniusExtendable<D, S>, const D: usize, S: ExtensionShape> Field
     for ExtField<F, D, S, F> {
     ghost use Rattle.std.specs.Prelude.{refl};
-    ghost use Rattle.p3_theory.specs.Text.{polynomial_text};
-    ghost use Rattle.p3_theory.specs.Polynomial.{tabulate};
-    ghost use Rattle.p3_theory.specs.Coefficients.{length-tabulate};
+    ghost use Rattle.p3_theory.specs.Polynomials.Text.{polynomial_text};
+    ghost use Rattle.p3_theory.specs.Polynomials.Polynomial.{tabulate};
+    ghost use Rattle.p3_theory.specs.Polynomials.Coefficients.{length-tabulate};
     ghost use Rattle.p3_ext.specs.Values.{value_of, constants_apart, decides_equality};
     ghost use Rattle.p3_ext.specs.Orders.{extension_size, extension_values};
 

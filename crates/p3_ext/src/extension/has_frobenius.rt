@@ -1,7 +1,7 @@
 ghost use Rattle.std.specs.Prelude.{◌≡◌, IfOk};
-ghost use Rattle.p3_theory.specs.Ring.{Ops, Invertible, IsInverse};
-ghost use Rattle.p3_theory.specs.Frobenius.{iterate, IsFrobenius};
-ghost use Rattle.p3_theory.specs.FrobeniusTable.{orbit_list};
+ghost use Rattle.p3_theory.specs.Rings.Ring.{Ops, Invertible, IsInverse};
+ghost use Rattle.p3_theory.specs.FrobeniusMaps.Frobenius.{iterate, IsFrobenius};
+ghost use Rattle.p3_theory.specs.FrobeniusMaps.FrobeniusTable.{orbit_list};
 
 use super::ext_field::ExtField;
 use super::{ExtensionShape, FrobeniusExtendable};
@@ -51,7 +51,7 @@ pub trait HasFrobenius<F: Field>: ExtensionField<F> {
 
 impl<F: FrobeniusExtendable<D, S>, const D: usize, S: ExtensionShape> HasFrobenius<F>
     for ExtField<F, D, S, F> {
-    ghost use Rattle.p3_theory.specs.Ring.{ring_of};
+    ghost use Rattle.p3_theory.specs.Rings.Ring.{ring_of};
     ghost use Rattle.p3_ext.specs.Conjugates.{frobenius_map};
     ghost use Rattle.p3_ext.specs.FrobeniusLaws.{map_keeps_sums, map_is_frobenius};
 

@@ -8,8 +8,8 @@ pub(super) struct QuinticPowers<F>(PhantomData<F>);
 
 impl<F: QuinticTrinomialExtendable> PowerTable<F, 5> for QuinticPowers<F> {
     ghost use Rattle.std.specs.Prelude.{refl};
-    ghost use Rattle.p3_theory.specs.Powers.{power};
-    ghost use Rattle.p3_theory.specs.Polynomial.{quotient_ops};
+    ghost use Rattle.p3_theory.specs.Rings.Powers.{power};
+    ghost use Rattle.p3_theory.specs.Polynomials.Polynomial.{quotient_ops};
 
     ghost powers = { power (quotient_ops F.ops 5 F.modulus) F.QuinticTrinomialExtendable.image };
 

@@ -29,7 +29,7 @@ impl<F: NestedByteCountFits<D, E> + Copy, const D: usize, const E: usize, S: Cop
 /// extension types.
 impl<F: ByteCountFits<D> + Copy, const D: usize, S: Copy> RawDataSerializable
     for ExtField<F, D, S, F> {
-    ghost use Rattle.p3_theory.specs.Streams.{byte_stream};
+    ghost use Rattle.p3_spaces.specs.Streams.{byte_stream};
     ghost use Rattle.p3_ext.specs.ValueBytes.{byte_count};
 
     const NUM_BYTES: usize = F::NUM_BYTES * D;

@@ -1,8 +1,8 @@
 //! Two-adic generators of extensions.
 ghost use Rattle.std.specs.Prelude.{◌≡◌, ◌≤◌, ◌<◌, ℕ};
-ghost use Rattle.p3_theory.specs.Polynomial.{binomial};
-ghost use Rattle.p3_theory.specs.TwoAdic.{DividesOrder};
-ghost use Rattle.p3_theory.specs.TwoAdicCoefficients.{AreExtensionGenerators};
+ghost use Rattle.p3_theory.specs.Polynomials.Polynomial.{binomial};
+ghost use Rattle.p3_theory.specs.Roots.TwoAdic.{DividesOrder};
+ghost use Rattle.p3_theory.specs.Roots.TwoAdicCoefficients.{AreExtensionGenerators};
 ghost use Rattle.p3_ext.specs.ComplexValues.{complex_ops};
 ghost use Rattle.p3_ext.specs.Orders.{extension_size};
 

@@ -1,5 +1,5 @@
 use Rattle.std.proofs.Common.{arith}
-use Rattle.p3_theory.specs.BitLength.{bit_length_by_zeros}
+use Rattle.p3_theory.specs.ResidueRings.BitLength.{bit_length_by_zeros}
 use Rattle.p3_base.proofs.field.bit_length.Goals as goal
 
 pub returns : goal.returns

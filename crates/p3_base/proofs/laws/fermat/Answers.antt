@@ -1,5 +1,5 @@
 use Rattle.std.specs.Prelude.{◌≡◌, ℕ, Option, Some, None, IfSome, refl}
-use Rattle.p3_theory.specs.Fermat as theory
+use Rattle.p3_theory.specs.Roots.Fermat as theory
 use Rattle.p3_base.proofs.laws.fermat.Goals as goal
 
 where_given : (s : Option ℕ) (P : ℕ → Type 0) → ((n : ℕ) → s ≡ Some n → P n) → IfSome s P

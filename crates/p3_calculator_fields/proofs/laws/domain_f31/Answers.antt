@@ -1,5 +1,5 @@
 use Rattle.std.specs.Prelude.{refl}
-use Rattle.p3_theory.specs.ZeroDivisors.{residues_have_no_zero_divisors}
+use Rattle.p3_theory.specs.Rings.ZeroDivisors.{residues_have_no_zero_divisors}
 use Rattle.p3_bench_prime.specs.Elements.{is}
 use Rattle.p3_calculator_fields.proofs.laws.domain_f31.Goals as goal
 

@@ -1,8 +1,8 @@
 use Rattle.std.specs.Prelude.{refl}
 use Rattle.std.proofs.Common.{arith}
-use Rattle.p3_theory.specs.FiniteFields.{premise_by_image}
-use Rattle.p3_theory.specs.Residues.{are_residues, same_canon}
-use Rattle.p3_theory.specs.ZeroDivisors.{residues_have_no_zero_divisors}
+use Rattle.p3_theory.specs.Roots.FiniteFields.{premise_by_image}
+use Rattle.p3_theory.specs.ResidueRings.Residues.{are_residues, same_canon}
+use Rattle.p3_theory.specs.Rings.ZeroDivisors.{residues_have_no_zero_divisors}
 use Rattle.p3_bench_prime.specs.Elements.{is}
 use Rattle.p3_calculator_fields.proofs.laws.premise_f2.Goals as goal
 

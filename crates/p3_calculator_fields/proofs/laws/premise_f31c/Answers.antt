@@ -1,9 +1,9 @@
 use Rattle.std.specs.Prelude.{[], ◌∷◌, refl}
-use Rattle.p3_theory.specs.FiniteFields.{premise_by_image}
-use Rattle.p3_theory.specs.Polynomial.{binomial}
-use Rattle.p3_theory.specs.QuadraticDomains.{residues_only_zero}
-use Rattle.p3_theory.specs.Residues.{are_residues, residue_laws}
-use Rattle.p3_theory.specs.ZeroDivisors.{residues_have_no_zero_divisors}
+use Rattle.p3_theory.specs.Roots.FiniteFields.{premise_by_image}
+use Rattle.p3_theory.specs.Polynomials.Polynomial.{binomial}
+use Rattle.p3_theory.specs.Inverses.QuadraticDomains.{residues_only_zero}
+use Rattle.p3_theory.specs.ResidueRings.Residues.{are_residues, residue_laws}
+use Rattle.p3_theory.specs.Rings.ZeroDivisors.{residues_have_no_zero_divisors}
 use Rattle.p3_ext.specs.Domains.{quadratic_has_no_zero_divisors}
 use Rattle.p3_bench_prime.specs.Elements.{is, ops}
 use Rattle.p3_calculator_fields.specs.Coefficients.{extension_represented}

@@ -1,4 +1,4 @@
-use Rattle.p3_theory.specs.StreamLemmas.{byte_stream-parts}
+use Rattle.p3_spaces.specs.StreamLemmas.{byte_stream-parts}
 use Rattle.p3_ext.proofs.laws.bytes_are_of_coefficients.Goals as goal
 
 pub returns : goal.returns

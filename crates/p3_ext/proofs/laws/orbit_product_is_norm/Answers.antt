@@ -1,4 +1,4 @@
-use Rattle.p3_theory.specs.Ring.{ring_of}
+use Rattle.p3_theory.specs.Rings.Ring.{ring_of}
 use Rattle.p3_ext.specs.Conjugates.{orbit_is_norm, norm_exact}
 use Rattle.p3_ext.proofs.laws.orbit_product_is_norm.Goals as goal
 

@@ -1,5 +1,5 @@
 use Rattle.std.proofs.Common.{sym, ◌∙◌}
-use Rattle.p3_theory.specs.ListOrder.{tied_equal, lists_tie, less_at_first}
+use Rattle.p3_theory.specs.Lists.ListOrder.{tied_equal, lists_tie, less_at_first}
 use Rattle.p3_ext.proofs.laws.order_is_lexicographic.Goals as goal
 
 pub returns-clause-equal : goal.returns-clause-equal

@@ -1,5 +1,5 @@
-use Rattle.p3_theory.specs.Ring.{ring_of}
-use Rattle.p3_theory.specs.Remainders.{has_remainder, remainder_is_unique}
+use Rattle.p3_theory.specs.Rings.Ring.{ring_of}
+use Rattle.p3_theory.specs.Polynomials.Remainders.{has_remainder, remainder_is_unique}
 use Rattle.p3_ext.proofs.laws.product_is_remainder.Goals as goal
 
 pub returns-clause-remainder : goal.returns-clause-remainder

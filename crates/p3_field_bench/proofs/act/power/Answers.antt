@@ -1,5 +1,5 @@
 use Rattle.std.proofs.Common.{◌∙◌, ap}
-use Rattle.p3_theory.specs.Homomorphism.{map-power}
+use Rattle.p3_theory.specs.Rings.Homomorphism.{map-power}
 use Rattle.p3_field_bench.proofs.act.power.Goals as goal
 
 pub returns : goal.returns

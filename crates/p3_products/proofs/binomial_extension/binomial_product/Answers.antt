@@ -1,7 +1,7 @@
 use Rattle.std.proofs.Common.{◌∙◌, ap, sym, replicate}
-use Rattle.p3_theory.specs.Ring.{ring_of}
-use Rattle.p3_theory.specs.Polynomial.{binomial}
-use Rattle.p3_theory.specs.PlaceProducts.{product_onto_zeros}
+use Rattle.p3_theory.specs.Rings.Ring.{ring_of}
+use Rattle.p3_theory.specs.Polynomials.Polynomial.{binomial}
+use Rattle.p3_theory.specs.Products.PlaceProducts.{product_onto_zeros}
 use Rattle.p3_products.proofs.binomial_extension.binomial_product.Goals as goal
 
 pub returns-else-is_fixed : goal.returns-else-is_fixed

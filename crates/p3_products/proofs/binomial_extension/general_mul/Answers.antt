@@ -1,7 +1,7 @@
 use Rattle.std.proofs.Common.{ap₂, ◌∙◌, arith}
 use Rattle.std.proofs.lemmas.List.{get_or_default}
-use Rattle.p3_theory.specs.Ring.{ring_of}
-use Rattle.p3_theory.specs.ProductPlaces.{product_by_places, product_place, place_more}
+use Rattle.p3_theory.specs.Rings.Ring.{ring_of}
+use Rattle.p3_theory.specs.Products.ProductPlaces.{product_by_places, product_place, place_more}
 use Rattle.p3_products.proofs.binomial_extension.general_mul.Goals as goal
 
 pub loop-k-preserved : goal.loop-k-preserved

@@ -1,5 +1,5 @@
 use Rattle.std.proofs.Common.{◌≡◌, ◌<◌, ◌≤◌, ℕ, length, get_or}
-use Rattle.p3_theory.specs.ProductPlaces.{product_place}
+use Rattle.p3_theory.specs.Products.ProductPlaces.{product_place}
 use Rattle.p3_products.proofs.binomial_extension.general_mul.Given as goal
 
 abbrev pub invariant-loop-k : goal.invariant-loop-k

@@ -1,6 +1,6 @@
-use Rattle.p3_theory.specs.Ring.{ring_of}
-use Rattle.p3_theory.specs.Polynomial.{binomial}
-use Rattle.p3_theory.specs.ZeroedProducts.{product_is_there}
+use Rattle.p3_theory.specs.Rings.Ring.{ring_of}
+use Rattle.p3_theory.specs.Polynomials.Polynomial.{binomial}
+use Rattle.p3_theory.specs.Products.ZeroedProducts.{product_is_there}
 use Rattle.p3_products.proofs.binomial_extension.ring_square.Goals as goal
 
 pub returns : goal.returns

@@ -1,5 +1,5 @@
 use Rattle.std.proofs.Common.{◌≡◌, ◌<◌, ℕ, length, get_or}
-use Rattle.p3_theory.specs.Powers.{power}
+use Rattle.p3_theory.specs.Rings.Powers.{power}
 use Rattle.p3_products.proofs.binomial_extension.scale_by_powers.Given as goal
 
 abbrev pub invariant-loop-i : goal.invariant-loop-i

@@ -1,7 +1,7 @@
 use Rattle.std.proofs.Common.{◌∙◌, [], ◌∷◌, ap, ap₂}
-use Rattle.p3_theory.specs.Ring.{ring_of, subtract}
-use Rattle.p3_theory.specs.ListItems.{items_are}
-use Rattle.p3_theory.specs.CubicInverse.{cubic_inverse, cubic_absent}
+use Rattle.p3_theory.specs.Rings.Ring.{ring_of, subtract}
+use Rattle.p3_theory.specs.Lists.ListItems.{items_are}
+use Rattle.p3_theory.specs.Inverses.CubicInverse.{cubic_inverse, cubic_absent}
 use Rattle.p3_products.proofs.binomial_inverses.cubic_inv.Goals as goal
 
 pub returns-in_default-clause-none : goal.returns-in_default-clause-none

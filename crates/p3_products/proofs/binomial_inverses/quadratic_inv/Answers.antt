@@ -1,8 +1,8 @@
 use Rattle.std.proofs.Common.{◌∙◌, [], ◌∷◌, ap}
-use Rattle.p3_theory.specs.Ring.{ring_of}
-use Rattle.p3_theory.specs.DotProduct.{dot}
-use Rattle.p3_theory.specs.ListItems.{items_are}
-use Rattle.p3_theory.specs.QuadraticNorm.{quadratic_found, quadratic_absent}
+use Rattle.p3_theory.specs.Rings.Ring.{ring_of}
+use Rattle.p3_theory.specs.Rings.DotProduct.{dot}
+use Rattle.p3_theory.specs.Lists.ListItems.{items_are}
+use Rattle.p3_theory.specs.Inverses.QuadraticNorm.{quadratic_found, quadratic_absent}
 use Rattle.p3_products.proofs.binomial_inverses.quadratic_inv.Goals as goal
 
 pub returns-in_default-clause-none : goal.returns-in_default-clause-none

@@ -1,10 +1,10 @@
 use Rattle.std.proofs.Common.{◌≡◌, ◌∙◌, [], ◌∷◌, length, ap, rules}
-use Rattle.p3_theory.specs.Ring.{ring_of}
-use Rattle.p3_theory.specs.Polynomial.{quotient_neg}
-use Rattle.p3_theory.specs.EvenOdd.{interleave}
-use Rattle.p3_theory.specs.DotProduct.{dot}
-use Rattle.p3_theory.specs.ListItems.{items_are}
-use Rattle.p3_theory.specs.InversesByHalves.{quartic_inverse, quartic_absent}
+use Rattle.p3_theory.specs.Rings.Ring.{ring_of}
+use Rattle.p3_theory.specs.Polynomials.Polynomial.{quotient_neg}
+use Rattle.p3_theory.specs.Inverses.EvenOdd.{interleave}
+use Rattle.p3_theory.specs.Rings.DotProduct.{dot}
+use Rattle.p3_theory.specs.Lists.ListItems.{items_are}
+use Rattle.p3_theory.specs.Inverses.InversesByHalves.{quartic_inverse, quartic_absent}
 use Rattle.p3_products.proofs.binomial_inverses.quartic_inv.Goals as goal
 
 pub returns-then-not-quadratic_inv-clause-none : goal.returns-then-not-quadratic_inv-clause-none

@@ -1,8 +1,8 @@
 use Rattle.std.proofs.Common.{List, length, get_or, arith, sym, ap, ◌∙◌}
-use Rattle.p3_theory.specs.Polynomial.{quotient_neg}
-use Rattle.p3_theory.specs.Coefficients.{length-tabulate}
-use Rattle.p3_theory.specs.Places.{read_at, get-tabulate}
-use Rattle.p3_theory.specs.Interleaving.{in_turn-more, in_turn-all}
+use Rattle.p3_theory.specs.Polynomials.Polynomial.{quotient_neg}
+use Rattle.p3_theory.specs.Polynomials.Coefficients.{length-tabulate}
+use Rattle.p3_theory.specs.Lists.Places.{read_at, get-tabulate}
+use Rattle.p3_theory.specs.Inverses.Interleaving.{in_turn-more, in_turn-all}
 use Rattle.p3_products.proofs.binomial_inverses.write_conjugate.Goals as goal
 
 pub loop-i-init : goal.loop-i-init

@@ -1,6 +1,6 @@
 use Rattle.std.proofs.Common.{length}
-use Rattle.p3_theory.specs.Polynomial.{quotient_neg}
-use Rattle.p3_theory.specs.Interleaving.{InTurnBelow}
+use Rattle.p3_theory.specs.Polynomials.Polynomial.{quotient_neg}
+use Rattle.p3_theory.specs.Inverses.Interleaving.{InTurnBelow}
 use Rattle.p3_products.proofs.binomial_inverses.write_conjugate.Given as goal
 
 abbrev pub invariant-loop-i : goal.invariant-loop-i

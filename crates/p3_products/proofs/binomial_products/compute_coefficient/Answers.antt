@@ -1,6 +1,6 @@
 use Rattle.std.proofs.Common.{◌≡◌, ◌-◌, arith}
-use Rattle.p3_theory.specs.Ring.{ring_of}
-use Rattle.p3_theory.specs.PlaceProducts.{last_place}
+use Rattle.p3_theory.specs.Rings.Ring.{ring_of}
+use Rattle.p3_theory.specs.Products.PlaceProducts.{last_place}
 use Rattle.p3_products.proofs.binomial_products.compute_coefficient.Goals as goal
 
 pub returns-then-above-eq0 : goal.returns-then-above-eq0

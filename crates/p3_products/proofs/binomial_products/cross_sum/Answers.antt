@@ -1,5 +1,5 @@
-use Rattle.p3_theory.specs.Ring.{ring_of}
-use Rattle.p3_theory.specs.CubicProduct.{cross_sum}
+use Rattle.p3_theory.specs.Rings.Ring.{ring_of}
+use Rattle.p3_theory.specs.Products.CubicProduct.{cross_sum}
 use Rattle.p3_products.proofs.binomial_products.cross_sum.Goals as goal
 
 pub returns : goal.returns

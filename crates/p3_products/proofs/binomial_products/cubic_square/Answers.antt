@@ -1,8 +1,8 @@
 use Rattle.std.proofs.Common.{◌∙◌, [], ◌∷◌, ap, ap₂, sym}
-use Rattle.p3_theory.specs.Ring.{ring_of}
-use Rattle.p3_theory.specs.Polynomial.{quotient_mul, binomial}
-use Rattle.p3_theory.specs.ListItems.{items_are}
-use Rattle.p3_theory.specs.CubicProduct.{cubic_square}
+use Rattle.p3_theory.specs.Rings.Ring.{ring_of}
+use Rattle.p3_theory.specs.Polynomials.Polynomial.{quotient_mul, binomial}
+use Rattle.p3_theory.specs.Lists.ListItems.{items_are}
+use Rattle.p3_theory.specs.Products.CubicProduct.{cubic_square}
 use Rattle.p3_products.proofs.binomial_products.cubic_square.Goals as goal
 
 pub returns : goal.returns

@@ -1,5 +1,5 @@
 use Rattle.std.proofs.Common.{◌≡◌, ◌+◌, ◌-◌, get_or}
-use Rattle.p3_theory.specs.ConvolutionSums.{first_sum}
+use Rattle.p3_theory.specs.Polynomials.ConvolutionSums.{first_sum}
 use Rattle.p3_products.proofs.binomial_products.products_at.Given as goal
 
 abbrev pub invariant-loop-i : goal.invariant-loop-i

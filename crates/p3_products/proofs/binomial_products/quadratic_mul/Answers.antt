@@ -1,6 +1,6 @@
 use Rattle.std.proofs.Common.{ap, ap₂, ◌∙◌}
-use Rattle.p3_theory.specs.Ring.{ring_of}
-use Rattle.p3_theory.specs.QuadraticProduct.{pair-set, quadratic_product}
+use Rattle.p3_theory.specs.Rings.Ring.{ring_of}
+use Rattle.p3_theory.specs.Products.QuadraticProduct.{pair-set, quadratic_product}
 use Rattle.p3_products.proofs.binomial_products.quadratic_mul.Goals as goal
 
 pub returns : goal.returns

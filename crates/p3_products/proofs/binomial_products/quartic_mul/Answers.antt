@@ -1,6 +1,6 @@
 use Rattle.std.proofs.Common.{◌∙◌, [], ◌∷◌, arith}
-use Rattle.p3_theory.specs.Ring.{ring_of}
-use Rattle.p3_theory.specs.PlaceProducts.{product_places}
+use Rattle.p3_theory.specs.Rings.Ring.{ring_of}
+use Rattle.p3_theory.specs.Products.PlaceProducts.{product_places}
 use Rattle.p3_products.proofs.binomial_products.quartic_mul.Goals as goal
 
 pub returns : goal.returns

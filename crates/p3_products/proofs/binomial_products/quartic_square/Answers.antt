@@ -1,9 +1,9 @@
 use Rattle.std.proofs.Common.{◌∙◌, [], ◌∷◌, ap, sym}
-use Rattle.p3_theory.specs.Ring.{ring_of}
-use Rattle.p3_theory.specs.Polynomial.{quotient_mul, binomial}
-use Rattle.p3_theory.specs.DotProduct.{dot}
-use Rattle.p3_theory.specs.ListItems.{items_are}
-use Rattle.p3_theory.specs.BinomialSquares.{quartic_square}
+use Rattle.p3_theory.specs.Rings.Ring.{ring_of}
+use Rattle.p3_theory.specs.Polynomials.Polynomial.{quotient_mul, binomial}
+use Rattle.p3_theory.specs.Rings.DotProduct.{dot}
+use Rattle.p3_theory.specs.Lists.ListItems.{items_are}
+use Rattle.p3_theory.specs.Products.BinomialSquares.{quartic_square}
 use Rattle.p3_products.proofs.binomial_products.quartic_square.Goals as goal
 
 pub returns : goal.returns

@@ -1,10 +1,10 @@
 use Rattle.std.proofs.Common.{◌∙◌, [], ◌∷◌, ap₂, sym}
-use Rattle.p3_theory.specs.Ring.{ring_of}
-use Rattle.p3_theory.specs.Polynomial.{quotient_mul}
-use Rattle.p3_theory.specs.DotProduct.{dot}
-use Rattle.p3_theory.specs.ListItems.{items_are}
-use Rattle.p3_theory.specs.Trinomials.{cubic_trinomial, cubic_product}
-use Rattle.p3_theory.specs.WrittenItems.{triple-set}
+use Rattle.p3_theory.specs.Rings.Ring.{ring_of}
+use Rattle.p3_theory.specs.Polynomials.Polynomial.{quotient_mul}
+use Rattle.p3_theory.specs.Rings.DotProduct.{dot}
+use Rattle.p3_theory.specs.Lists.ListItems.{items_are}
+use Rattle.p3_theory.specs.Products.Trinomials.{cubic_trinomial, cubic_product}
+use Rattle.p3_theory.specs.Lists.WrittenItems.{triple-set}
 use Rattle.p3_products.proofs.cubic_extension.trinomial_cubic_mul.Goals as goal
 
 pub returns : goal.returns

@@ -1,6 +1,6 @@
 use Rattle.std.proofs.Common.{arith}
-use Rattle.p3_theory.specs.Ring.{ring_of}
-use Rattle.p3_theory.specs.TableImages.{image-written}
+use Rattle.p3_theory.specs.Rings.Ring.{ring_of}
+use Rattle.p3_theory.specs.FrobeniusMaps.TableImages.{image-written}
 use Rattle.p3_products.proofs.power_table.image_by_table.Goals as goal
 
 pub returns : goal.returns

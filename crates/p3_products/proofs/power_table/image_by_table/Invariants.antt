@@ -1,6 +1,6 @@
 use Rattle.std.proofs.Common.{◌≡◌, length}
-use Rattle.p3_theory.specs.TableImages.{place_of_image}
-use Rattle.p3_theory.specs.TabulatedPlaces.{HoldsBelow}
+use Rattle.p3_theory.specs.FrobeniusMaps.TableImages.{place_of_image}
+use Rattle.p3_theory.specs.Lists.TabulatedPlaces.{HoldsBelow}
 use Rattle.p3_products.proofs.power_table.image_by_table.Given as goal
 
 abbrev pub invariant-loop-k : goal.invariant-loop-k

@@ -1,9 +1,9 @@
 use Rattle.std.proofs.Common.{◌∙◌, [], ◌∷◌, ap₂, sym}
-use Rattle.p3_theory.specs.Ring.{ring_of, subtract}
-use Rattle.p3_theory.specs.Polynomial.{quotient_mul}
-use Rattle.p3_theory.specs.ListItems.{items_are}
-use Rattle.p3_theory.specs.Trinomials.{quintic_trinomial, quintic_product}
-use Rattle.p3_theory.specs.WrittenItems.{quintuple-set}
+use Rattle.p3_theory.specs.Rings.Ring.{ring_of, subtract}
+use Rattle.p3_theory.specs.Polynomials.Polynomial.{quotient_mul}
+use Rattle.p3_theory.specs.Lists.ListItems.{items_are}
+use Rattle.p3_theory.specs.Products.Trinomials.{quintic_trinomial, quintic_product}
+use Rattle.p3_theory.specs.Lists.WrittenItems.{quintuple-set}
 use Rattle.p3_products.proofs.quintic_extension.trinomial_quintic_mul.Goals as goal
 
 pub returns : goal.returns

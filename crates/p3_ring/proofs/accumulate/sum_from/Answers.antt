@@ -1,5 +1,5 @@
 use Rattle.std.proofs.Common.{rules}
-use Rattle.p3_theory.specs.Accumulation.{Accumulates-push}
+use Rattle.p3_theory.specs.Rings.Accumulation.{Accumulates-push}
 use Rattle.p3_ring.proofs.accumulate.sum_from.Goals as goal
 
 pub loop-x-preserved : goal.loop-x-preserved

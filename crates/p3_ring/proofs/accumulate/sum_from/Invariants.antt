@@ -1,4 +1,4 @@
-use Rattle.p3_theory.specs.Accumulation.{Accumulates}
+use Rattle.p3_theory.specs.Rings.Accumulation.{Accumulates}
 use Rattle.p3_ring.proofs.accumulate.sum_from.Given as goal
 
 abbrev pub invariant-loop-x : goal.invariant-loop-x

@@ -1,5 +1,5 @@
 use Rattle.std.proofs.Common.{ap, ◌∙◌}
-use Rattle.p3_theory.specs.MixedDotProduct.{mixed-step, mixed-end}
+use Rattle.p3_theory.specs.Rings.MixedDotProduct.{mixed-step, mixed-end}
 use Rattle.p3_ring.proofs.linear_combination.add_products.Goals as goal
 
 pub loop-i-preserved : goal.loop-i-preserved

@@ -1,6 +1,6 @@
 use Rattle.std.proofs.Common.{◌≤◌, ◌-◌, length, map}
-use Rattle.p3_theory.specs.DotProduct.{dot}
-use Rattle.p3_theory.specs.MixedDotProduct.{MakesWithRest}
+use Rattle.p3_theory.specs.Rings.DotProduct.{dot}
+use Rattle.p3_theory.specs.Rings.MixedDotProduct.{MakesWithRest}
 use Rattle.p3_ring.proofs.linear_combination.chunked_linear_combination.Given as goal
 
 abbrev pub invariant-loop-start : goal.invariant-loop-start

@@ -1,5 +1,5 @@
 use Rattle.std.proofs.Common.{arith}
-use Rattle.p3_theory.specs.MixedDotProduct.{mixed-chunk, mixed-rest}
+use Rattle.p3_theory.specs.Rings.MixedDotProduct.{mixed-chunk, mixed-rest}
 use Rattle.p3_ring.proofs.linear_combination.chunked_mixed_dot_product.Goals as goal
 
 pub loop-start-preserved : goal.loop-start-preserved

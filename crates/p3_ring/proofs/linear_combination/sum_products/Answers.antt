@@ -1,5 +1,5 @@
 use Rattle.std.proofs.Common.{arith, ap, ◌∙◌}
-use Rattle.p3_theory.specs.MixedDotProduct.{mixed-first, mixed-chunk, mixed-rest}
+use Rattle.p3_theory.specs.Rings.MixedDotProduct.{mixed-first, mixed-chunk, mixed-rest}
 use Rattle.p3_ring.proofs.linear_combination.sum_products.Goals as goal
 
 pub loop-start-init : goal.loop-start-init

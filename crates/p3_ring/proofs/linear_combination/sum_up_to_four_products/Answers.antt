@@ -1,4 +1,4 @@
-use Rattle.p3_theory.specs.MixedDotProduct.{mixed-split}
+use Rattle.p3_theory.specs.Rings.MixedDotProduct.{mixed-split}
 use Rattle.p3_ring.proofs.linear_combination.sum_up_to_four_products.Goals as goal
 
 pub returns : goal.returns

@@ -1,4 +1,4 @@
-use Rattle.p3_theory.specs.MixedDotProduct.{mixed-one}
+use Rattle.p3_theory.specs.Rings.MixedDotProduct.{mixed-one}
 use Rattle.p3_ring.proofs.linear_combination.sum_up_to_two_products.Goals as goal
 
 pub returns-in-1 : goal.returns-in-1

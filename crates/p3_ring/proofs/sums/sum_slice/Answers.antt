@@ -1,6 +1,6 @@
 use Rattle.std.proofs.Common.{arith, sym, ◌∙◌, ap, drop}
-use Rattle.p3_theory.specs.Operators.{sum_list}
-use Rattle.p3_theory.specs.DotProduct.{sum-chunk, sum-step}
+use Rattle.p3_theory.specs.Rings.Operators.{sum_list}
+use Rattle.p3_theory.specs.Rings.DotProduct.{sum-chunk, sum-step}
 use Rattle.p3_ring.proofs.sums.sum_slice.Goals as goal
 
 pub loop-start-init : goal.loop-start-init

@@ -1,5 +1,5 @@
 use Rattle.std.proofs.Common.{◌≡◌, ◌≤◌, ◌-◌, length, drop}
-use Rattle.p3_theory.specs.Operators.{sum_list}
+use Rattle.p3_theory.specs.Rings.Operators.{sum_list}
 use Rattle.p3_ring.proofs.sums.sum_slice.Given as goal
 
 abbrev pub invariant-loop-start : goal.invariant-loop-start

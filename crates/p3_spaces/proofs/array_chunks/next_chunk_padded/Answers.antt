@@ -1,4 +1,4 @@
-use Rattle.p3_theory.specs.StreamLemmas.{wrote_group}
+use Rattle.p3_spaces.specs.StreamLemmas.{wrote_group}
 use Rattle.p3_spaces.proofs.array_chunks.next_chunk_padded.Goals as goal
 
 pub returns-clause-gathers : goal.returns-clause-gathers

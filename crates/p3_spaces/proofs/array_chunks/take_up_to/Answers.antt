@@ -1,5 +1,5 @@
 use Rattle.std.proofs.Common.{rules, arith}
-use Rattle.p3_theory.specs.StreamLemmas.{wrote_next}
+use Rattle.p3_spaces.specs.StreamLemmas.{wrote_next}
 use Rattle.p3_spaces.proofs.array_chunks.take_up_to.Goals as goal
 
 pub loop-i-preserved : goal.loop-i-preserved

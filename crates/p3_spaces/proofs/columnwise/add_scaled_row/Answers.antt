@@ -1,6 +1,6 @@
 use Rattle.std.proofs.Common.{◌≡◌, ◌<◌, ◌*◌, ◌/◌, min, length, arith, ap, sym, ◌∙◌}
 use Rattle.std.proofs.lemmas.List.{length-set}
-use Rattle.p3_theory.specs.ColumnwiseProducts.{group-inside, column-update, column-end}
+use Rattle.p3_theory.specs.Rings.ColumnwiseProducts.{group-inside, column-update, column-end}
 use Rattle.p3_spaces.proofs.columnwise.add_scaled_row.Goals as goal
 
 pub loop-j-init : goal.loop-j-init

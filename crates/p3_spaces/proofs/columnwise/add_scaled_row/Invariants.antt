@@ -1,6 +1,6 @@
 use Rattle.std.proofs.Common.{◌≡◌, ◌≤◌, ◌+◌, ◌*◌, length}
-use Rattle.p3_theory.specs.ColumnwiseProducts.{place_after_row}
-use Rattle.p3_theory.specs.TabulatedPlaces.{UpdatedBelow}
+use Rattle.p3_theory.specs.Rings.ColumnwiseProducts.{place_after_row}
+use Rattle.p3_theory.specs.Lists.TabulatedPlaces.{UpdatedBelow}
 use Rattle.p3_spaces.proofs.columnwise.add_scaled_row.Given as goal
 
 abbrev pub invariant-loop-c : goal.invariant-loop-c

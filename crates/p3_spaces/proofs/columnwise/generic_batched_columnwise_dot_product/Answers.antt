@@ -1,6 +1,6 @@
 use Rattle.std.proofs.Common.{◌∷◌, [], List, map, rules, ap, ap₂, sym, ◌∙◌}
 use Rattle.std.proofs.lemmas.List.{map-append}
-use Rattle.p3_theory.specs.ColumnwiseProducts.{add_scaled_row, add_scaled_rows, add_scaled_rows-none, add_scaled_rows-more}
+use Rattle.p3_theory.specs.Rings.ColumnwiseProducts.{add_scaled_row, add_scaled_rows, add_scaled_rows-none, add_scaled_rows-more}
 use Rattle.p3_spaces.proofs.columnwise.generic_batched_columnwise_dot_product.Goals as goal
 
 pub loop-row-init : goal.loop-row-init

@@ -1,5 +1,5 @@
 use Rattle.std.proofs.Common.{◌≡◌, map}
-use Rattle.p3_theory.specs.ColumnwiseProducts.{add_scaled_rows}
+use Rattle.p3_theory.specs.Rings.ColumnwiseProducts.{add_scaled_rows}
 use Rattle.p3_spaces.proofs.columnwise.generic_batched_columnwise_dot_product.Given as goal
 
 abbrev pub invariant-loop-row : goal.invariant-loop-row

@@ -1,5 +1,5 @@
 use Rattle.std.proofs.Common.{slice_index, arith}
-use Rattle.p3_theory.specs.ParallelStreams.{map-by_places}
+use Rattle.p3_spaces.specs.ParallelStreams.{map-by_places}
 use Rattle.p3_spaces.proofs.parallel_streams.bytes_at.Goals as goal
 
 pub returns : goal.returns

@@ -1,7 +1,7 @@
 use Rattle.std.proofs.Common.{refl}
 use Rattle.std.specs.List.{flat_map}
-use Rattle.p3_theory.specs.Streams.{row_bytes, left_of}
-use Rattle.p3_theory.specs.ParallelStreams.{parallel_bytes, YieldsExactly-parts}
+use Rattle.p3_spaces.specs.Streams.{row_bytes, left_of}
+use Rattle.p3_spaces.specs.ParallelStreams.{parallel_bytes, YieldsExactly-parts}
 use Rattle.p3_spaces.proofs.parallel_streams.into_parallel_byte_streams.Goals as goal
 
 pub returns-clause-all : goal.returns-clause-all

@@ -1,7 +1,7 @@
 use Rattle.std.proofs.Common.{map, replicate, arith, refl}
-use Rattle.p3_theory.specs.Streams.{groups, row_words}
-use Rattle.p3_theory.specs.StreamLemmas.{YieldsExactly-groups, YieldsExactly-read}
-use Rattle.p3_theory.specs.ParallelStreams.{parallel_words}
+use Rattle.p3_spaces.specs.Streams.{groups, row_words}
+use Rattle.p3_spaces.specs.StreamLemmas.{YieldsExactly-groups, YieldsExactly-read}
+use Rattle.p3_spaces.specs.ParallelStreams.{parallel_words}
 use Rattle.p3_spaces.proofs.parallel_streams.into_parallel_u64_streams.Goals as goal
 
 pub returns-clause-all : goal.returns-clause-all

@@ -1,6 +1,6 @@
 use Rattle.std.proofs.Common.{map, slice_index, arith, ap, ap₂, sym, ◌∙◌, ◌+◌, ◌∷◌}
-use Rattle.p3_theory.specs.Streams.{row_bytes, left_of}
-use Rattle.p3_theory.specs.ParallelStreams.{left_at, left_past}
+use Rattle.p3_spaces.specs.Streams.{row_bytes, left_of}
+use Rattle.p3_spaces.specs.ParallelStreams.{left_at, left_past}
 use Rattle.p3_spaces.proofs.parallel_streams.next_of_row.Goals as goal
 
 pub returns-then-at-NUM_BYTES : goal.returns-then-at-NUM_BYTES

@@ -1,5 +1,5 @@
 use Rattle.std.proofs.Common.{◌^◌}
-use Rattle.p3_theory.specs.PowerChains.{IsPower, first_power, product_of_powers, power_of_power}
+use Rattle.p3_theory.specs.Rings.PowerChains.{IsPower, first_power, product_of_powers, power_of_power}
 use Rattle.p3_tools.proofs.exponentiation.exp_1725656503.Goals as goal
 
 pub returns : goal.returns

@@ -1,7 +1,7 @@
 use Rattle.std.proofs.Common.{◌≡◌, ◌∙◌, ap, ap₂, sym, map, rules}
-use Rattle.p3_theory.specs.Operators.{sum_list}
-use Rattle.p3_theory.specs.DotProduct.{dot}
-use Rattle.p3_theory.specs.PairedLists.{dot-pairs}
+use Rattle.p3_theory.specs.Rings.Operators.{sum_list}
+use Rattle.p3_theory.specs.Rings.DotProduct.{dot}
+use Rattle.p3_theory.specs.Lists.PairedLists.{dot-pairs}
 use Rattle.p3_tools.specs.PairedRuns.{EndsWithShorter}
 use Rattle.p3_tools.proofs.YieldedItems.{dot-runs}
 use Rattle.p3_tools.proofs.helpers.dot_product.Goals as goal

@@ -1,5 +1,5 @@
 use Rattle.std.proofs.Common.{◌∙◌, ◌+◌, ◌%◌, ap, sym}
-use Rattle.p3_theory.specs.Residues.{is_of}
+use Rattle.p3_theory.specs.ResidueRings.Residues.{is_of}
 use Rattle.p3_bench_prime.specs.Elements.{is}
 use Rattle.p3_bench_residues.specs.Halves.{odd_order}
 use Rattle.p3_bench_prime.proofs.fp.FpPrimeCharacteristicRing.halve.Goals as goal

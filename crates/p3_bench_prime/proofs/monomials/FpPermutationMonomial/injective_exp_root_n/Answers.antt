@@ -1,6 +1,6 @@
 use Rattle.std.proofs.Common.{◌∙◌, ap}
-use Rattle.p3_theory.specs.Powers.{power}
-use Rattle.p3_theory.specs.Monomials.{residue_power_undone, inverse_exponents_swap}
+use Rattle.p3_theory.specs.Rings.Powers.{power}
+use Rattle.p3_theory.specs.Roots.Monomials.{residue_power_undone, inverse_exponents_swap}
 use Rattle.p3_bench_prime.specs.Elements.{ops, is}
 use Rattle.p3_bench_prime.proofs.monomials.FpPermutationMonomial.injective_exp_root_n.Goals as goal
 

@@ -1,7 +1,7 @@
 use Rattle.std.proofs.Common.{[], get_or, ap, sym, ◌∙◌}
-use Rattle.p3_theory.specs.Residues.{residues, of_keeps}
-use Rattle.p3_theory.specs.Trinomials.{cubic_trinomial}
-use Rattle.p3_theory.specs.TableEntries.{matrix-entry, power-entry, cubic-along}
+use Rattle.p3_theory.specs.ResidueRings.Residues.{residues, of_keeps}
+use Rattle.p3_theory.specs.Products.Trinomials.{cubic_trinomial}
+use Rattle.p3_theory.specs.FrobeniusMaps.TableEntries.{matrix-entry, power-entry, cubic-along}
 use Rattle.p3_bench_prime.specs.Elements.{of, is}
 use Rattle.p3_bench_prime.proofs.trinomial_constants.FpCubicTrinomialExtendable.frobenius_matrix.Goals as goal
 

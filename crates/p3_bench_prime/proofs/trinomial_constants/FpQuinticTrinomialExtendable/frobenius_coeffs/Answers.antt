@@ -1,9 +1,9 @@
 use Rattle.std.proofs.Common.{◌≡◌, ◌+◌, [], get_or, suc, ap, sym, ◌∙◌, arith}
-use Rattle.p3_theory.specs.Polynomial.{at, quotient_ops}
-use Rattle.p3_theory.specs.Powers.{power}
-use Rattle.p3_theory.specs.Residues.{residues, of_keeps}
-use Rattle.p3_theory.specs.Trinomials.{quintic_trinomial}
-use Rattle.p3_theory.specs.TableEntries.{coeffs-entry, power-entry, quintic-along}
+use Rattle.p3_theory.specs.Polynomials.Polynomial.{at, quotient_ops}
+use Rattle.p3_theory.specs.Rings.Powers.{power}
+use Rattle.p3_theory.specs.ResidueRings.Residues.{residues, of_keeps}
+use Rattle.p3_theory.specs.Products.Trinomials.{quintic_trinomial}
+use Rattle.p3_theory.specs.FrobeniusMaps.TableEntries.{coeffs-entry, power-entry, quintic-along}
 use Rattle.p3_bench_prime.specs.Elements.{of, is}
 use Rattle.p3_bench_prime.proofs.trinomial_constants.FpQuinticTrinomialExtendable.frobenius_coeffs.Goals as goal
 

@@ -1,6 +1,6 @@
 use Rattle.std.proofs.Common.{◌≡◌, ◌≤◌, ◌+◌, ◌*◌, ◌^◌, drop}
 use Rattle.p3_bench_residues.specs.GoldilocksElements.{canon}
-use Rattle.p3_theory.specs.SumsOfProducts.{sum_of_products}
+use Rattle.p3_theory.specs.ResidueRings.SumsOfProducts.{sum_of_products}
 use Rattle.p3_bench_residues.proofs.goldilocks.Goldilocks.sum_product_halves.Given as goal
 
 abbrev pub invariant-loop-i : goal.invariant-loop-i

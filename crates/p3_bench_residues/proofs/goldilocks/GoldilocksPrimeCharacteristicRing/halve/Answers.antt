@@ -1,5 +1,5 @@
 use Rattle.std.proofs.Common.{sym, refl}
-use Rattle.p3_theory.specs.Residues.{is_of}
+use Rattle.p3_theory.specs.ResidueRings.Residues.{is_of}
 use Rattle.p3_bench_residues.specs.GoldilocksElements.{is}
 use Rattle.p3_bench_residues.proofs.goldilocks.GoldilocksPrimeCharacteristicRing.halve.Goals as goal
 

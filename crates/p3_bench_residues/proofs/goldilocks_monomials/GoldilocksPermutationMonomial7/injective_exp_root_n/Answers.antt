@@ -1,6 +1,6 @@
 use Rattle.std.proofs.Common.{◌∙◌, ap, refl}
-use Rattle.p3_theory.specs.Powers.{power}
-use Rattle.p3_theory.specs.Monomials.{residue_power_undone}
+use Rattle.p3_theory.specs.Rings.Powers.{power}
+use Rattle.p3_theory.specs.Roots.Monomials.{residue_power_undone}
 use Rattle.p3_bench_residues.specs.GoldilocksElements.{ops, is}
 use Rattle.p3_bench_residues.proofs.goldilocks_monomials.GoldilocksPermutationMonomial7.injective_exp_root_n.Goals as goal
 

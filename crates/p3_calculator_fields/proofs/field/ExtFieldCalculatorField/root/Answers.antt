@@ -1,7 +1,7 @@
 use Rattle.std.proofs.Common.{◌≡◌, ◌∙◌, ◌^◌, ℕ, Some, IsSome, sym, ap, subst}
-use Rattle.p3_theory.specs.Coefficients.{length-tabulate}
-use Rattle.p3_theory.specs.Polynomial.{tabulate}
-use Rattle.p3_theory.specs.PowersOfTwo.{at_least_two}
+use Rattle.p3_theory.specs.Polynomials.Coefficients.{length-tabulate}
+use Rattle.p3_theory.specs.Polynomials.Polynomial.{tabulate}
+use Rattle.p3_theory.specs.Roots.PowersOfTwo.{at_least_two}
 use Rattle.p3_ext.specs.Orders.{extension_size, extension_values}
 use Rattle.p3_ext.specs.Values.{ext_ops, value_of, constants_apart}
 use Rattle.p3_calculator_fields.specs.Fields.{value_count}

@@ -1,6 +1,6 @@
 use Rattle.std.specs.Prelude.{◌≡◌, ℕ, List, IfOk, string_bytes}
 use Rattle.std.proofs.Common.{subst, rules}
-use Rattle.p3_theory.specs.Text.{polynomial_text}
+use Rattle.p3_theory.specs.Polynomials.Text.{polynomial_text}
 use Rattle.p3_calculator_fields.proofs.TextLemmas.{extension_text}
 use Rattle.p3_calculator_fields.proofs.field.ExtFieldCalculatorField.text.Goals as goal
 

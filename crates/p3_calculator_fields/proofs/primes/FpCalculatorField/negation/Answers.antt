@@ -1,4 +1,4 @@
-use Rattle.p3_theory.specs.Residues.{is_of}
+use Rattle.p3_theory.specs.ResidueRings.Residues.{is_of}
 use Rattle.p3_bench_prime.specs.Elements.{is}
 use Rattle.p3_calculator_fields.proofs.primes.FpCalculatorField.negation.Goals as goal
 

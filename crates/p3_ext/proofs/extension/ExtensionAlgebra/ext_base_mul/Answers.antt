@@ -1,6 +1,6 @@
 use Rattle.std.proofs.Common.{arith, ap, ◌∙◌}
-use Rattle.p3_theory.specs.Ring.{ring_of}
-use Rattle.p3_theory.specs.BaseProduct.{scaled, base_product}
+use Rattle.p3_theory.specs.Rings.Ring.{ring_of}
+use Rattle.p3_theory.specs.Polynomials.BaseProduct.{scaled, base_product}
 use Rattle.p3_ext.proofs.extension.ExtensionAlgebra.ext_base_mul.Goals as goal
 
 pub returns : goal.returns

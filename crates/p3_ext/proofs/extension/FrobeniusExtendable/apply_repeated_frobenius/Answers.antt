@@ -1,7 +1,7 @@
 use Rattle.std.proofs.Common.{◌∙◌, ap, length}
-use Rattle.p3_theory.specs.Iteration.{iterate_out}
-use Rattle.p3_theory.specs.FrobeniusTable.{frobenius_list}
-use Rattle.p3_theory.specs.FrobeniusTableLaws.{length-frobenius_list}
+use Rattle.p3_theory.specs.FrobeniusMaps.Iteration.{iterate_out}
+use Rattle.p3_theory.specs.FrobeniusMaps.FrobeniusTable.{frobenius_list}
+use Rattle.p3_theory.specs.FrobeniusMaps.FrobeniusTableLaws.{length-frobenius_list}
 use Rattle.p3_ext.proofs.extension.FrobeniusExtendable.apply_repeated_frobenius.Goals as goal
 
 pub loop-i-preserved : goal.loop-i-preserved

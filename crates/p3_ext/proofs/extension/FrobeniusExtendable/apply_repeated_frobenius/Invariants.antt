@@ -1,6 +1,6 @@
 use Rattle.std.proofs.Common.{◌≡◌, length}
-use Rattle.p3_theory.specs.Frobenius.{iterate}
-use Rattle.p3_theory.specs.FrobeniusTable.{frobenius_list}
+use Rattle.p3_theory.specs.FrobeniusMaps.Frobenius.{iterate}
+use Rattle.p3_theory.specs.FrobeniusMaps.FrobeniusTable.{frobenius_list}
 use Rattle.p3_ext.proofs.extension.FrobeniusExtendable.apply_repeated_frobenius.Given as goal
 
 abbrev pub invariant-loop-i : goal.invariant-loop-i

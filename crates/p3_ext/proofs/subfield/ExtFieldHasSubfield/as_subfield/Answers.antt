@@ -1,5 +1,5 @@
 use Rattle.std.specs.Prelude.{refl}
-use Rattle.p3_theory.specs.Subfields.{told_embedded}
+use Rattle.p3_theory.specs.Bases.Subfields.{told_embedded}
 use Rattle.p3_ext.specs.Values.{constant}
 use Rattle.p3_ext.proofs.subfield.ExtFieldHasSubfield.as_subfield.Goals as goal
 

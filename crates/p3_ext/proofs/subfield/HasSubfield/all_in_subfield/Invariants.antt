@@ -1,5 +1,5 @@
 use Rattle.std.proofs.Common.{ℕ, ◌<◌, get_or}
-use Rattle.p3_theory.specs.Subfields.{IsEmbedded}
+use Rattle.p3_theory.specs.Bases.Subfields.{IsEmbedded}
 use Rattle.p3_ext.proofs.subfield.HasSubfield.all_in_subfield.Given as goal
 
 abbrev pub invariant-loop-i : goal.invariant-loop-i

@@ -1,5 +1,5 @@
 use Rattle.std.proofs.Common.{◌<◌, length, rules, ap, ◌∙◌}
-use Rattle.p3_theory.specs.MixedDotProduct.{mixed-begin, mixed-step, mixed-end}
+use Rattle.p3_theory.specs.Rings.MixedDotProduct.{mixed-begin, mixed-step, mixed-end}
 use Rattle.p3_ring.proofs.ring.Algebra.mixed_dot_product.Goals as goal
 
 pub loop-i-init : goal.loop-i-init

@@ -1,6 +1,6 @@
 use Rattle.std.proofs.Common.{map}
-use Rattle.p3_theory.specs.DotProduct.{dot}
-use Rattle.p3_theory.specs.MixedDotProduct.{MakesWithRest}
+use Rattle.p3_theory.specs.Rings.DotProduct.{dot}
+use Rattle.p3_theory.specs.Rings.MixedDotProduct.{MakesWithRest}
 use Rattle.p3_ring.proofs.ring.Algebra.mixed_dot_product.Given as goal
 
 abbrev pub invariant-loop-i : goal.invariant-loop-i

@@ -1,6 +1,6 @@
 use Rattle.std.proofs.Common.{ap, ap₂, ◌∙◌}
-use Rattle.p3_theory.specs.Ring.{ring_of}
-use Rattle.p3_theory.specs.QuadraticProduct.{quadratic_square}
+use Rattle.p3_theory.specs.Rings.Ring.{ring_of}
+use Rattle.p3_theory.specs.Products.QuadraticProduct.{quadratic_square}
 use Rattle.p3_ring.proofs.ring.Algebra.quadratic_extension_square.Goals as goal
 
 pub returns : goal.returns

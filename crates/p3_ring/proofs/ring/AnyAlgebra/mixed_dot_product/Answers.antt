@@ -1,6 +1,6 @@
 use Rattle.std.proofs.Common.{sym, ap, ◌∙◌}
 use Rattle.std.proofs.lemmas.List.{map-id}
-use Rattle.p3_theory.specs.DotProduct.{dot}
+use Rattle.p3_theory.specs.Rings.DotProduct.{dot}
 use Rattle.p3_ring.proofs.ring.AnyAlgebra.mixed_dot_product.Goals as goal
 
 pub returns : goal.returns

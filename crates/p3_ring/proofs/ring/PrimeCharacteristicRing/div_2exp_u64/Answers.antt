@@ -1,5 +1,5 @@
 use Rattle.std.proofs.Common.{◌∙◌}
-use Rattle.p3_theory.specs.PowerProducts.{halves_undone}
+use Rattle.p3_theory.specs.Rings.PowerProducts.{halves_undone}
 use Rattle.p3_ring.proofs.ring.PrimeCharacteristicRing.div_2exp_u64.Goals as goal
 
 pub returns : goal.returns

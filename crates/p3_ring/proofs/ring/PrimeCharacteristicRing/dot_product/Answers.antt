@@ -1,5 +1,5 @@
 use Rattle.std.proofs.Common.{◌<◌, length, rules, arith, ap, ◌∙◌}
-use Rattle.p3_theory.specs.DotProduct.{dot-begin, dot-step, dot-end}
+use Rattle.p3_theory.specs.Rings.DotProduct.{dot-begin, dot-step, dot-end}
 use Rattle.p3_ring.proofs.ring.PrimeCharacteristicRing.dot_product.Goals as goal
 
 pub loop-i-init : goal.loop-i-init

@@ -1,5 +1,5 @@
 use Rattle.std.proofs.Common.{◌≡◌, drop}
-use Rattle.p3_theory.specs.DotProduct.{dot}
+use Rattle.p3_theory.specs.Rings.DotProduct.{dot}
 use Rattle.p3_ring.proofs.ring.PrimeCharacteristicRing.dot_product.Given as goal
 
 abbrev pub invariant-loop-i : goal.invariant-loop-i

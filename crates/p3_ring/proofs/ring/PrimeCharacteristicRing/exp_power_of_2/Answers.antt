@@ -1,4 +1,4 @@
-use Rattle.p3_theory.specs.PowerProducts.{power_of_two_more}
+use Rattle.p3_theory.specs.Rings.PowerProducts.{power_of_two_more}
 use Rattle.p3_ring.proofs.ring.PrimeCharacteristicRing.exp_power_of_2.Goals as goal
 
 pub loop-preserved : goal.loop-preserved

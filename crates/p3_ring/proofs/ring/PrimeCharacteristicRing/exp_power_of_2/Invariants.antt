@@ -1,5 +1,5 @@
 use Rattle.std.proofs.Common.{◌≡◌, ◌^◌}
-use Rattle.p3_theory.specs.Powers.{power}
+use Rattle.p3_theory.specs.Rings.Powers.{power}
 use Rattle.p3_ring.proofs.ring.PrimeCharacteristicRing.exp_power_of_2.Given as goal
 
 abbrev pub invariant-loop : goal.invariant-loop

@@ -1,5 +1,5 @@
 use Rattle.std.proofs.Common.{◌≡◌, ap, ◌∙◌}
-use Rattle.p3_theory.specs.PowerLaws.{power-odd, power-even}
+use Rattle.p3_theory.specs.Rings.PowerLaws.{power-odd, power-even}
 use Rattle.p3_ring.proofs.ring.PrimeCharacteristicRing.exp_u64.Goals as goal
 use Rattle.p3_ring.proofs.ring.PrimeCharacteristicRing.exp_u64.Goals.{then-rest-eq1, else-rest-eq1}
 

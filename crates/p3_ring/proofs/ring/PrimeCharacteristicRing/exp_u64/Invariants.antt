@@ -1,5 +1,5 @@
 use Rattle.std.proofs.Common.{◌≡◌}
-use Rattle.p3_theory.specs.Powers.{power}
+use Rattle.p3_theory.specs.Rings.Powers.{power}
 use Rattle.p3_ring.proofs.ring.PrimeCharacteristicRing.exp_u64.Given as goal
 
 abbrev pub invariant-loop-rest : goal.invariant-loop-rest

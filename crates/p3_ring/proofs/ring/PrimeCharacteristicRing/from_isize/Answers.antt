@@ -1,5 +1,5 @@
 use Rattle.std.proofs.Common.{rules}
-use Rattle.p3_theory.specs.Multiples.{multiple_of_residue}
+use Rattle.p3_theory.specs.Rings.Multiples.{multiple_of_residue}
 use Rattle.p3_ring.proofs.ring.PrimeCharacteristicRing.from_isize.Goals as goal
 
 pub returns : goal.returns

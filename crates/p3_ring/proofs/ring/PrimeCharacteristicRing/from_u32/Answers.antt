@@ -1,5 +1,5 @@
 use Rattle.std.specs.Prelude.{pos}
-use Rattle.p3_theory.specs.Multiples.{multiple_of_residue}
+use Rattle.p3_theory.specs.Rings.Multiples.{multiple_of_residue}
 use Rattle.p3_ring.proofs.ring.PrimeCharacteristicRing.from_u32.Goals as goal
 
 pub returns : goal.returns

@@ -1,6 +1,6 @@
 use Rattle.std.proofs.Common.{ℕ, None, refl, inr, subst}
 use Rattle.std.proofs.lemmas.List.{get_or_default}
-use Rattle.p3_theory.specs.SquareRoots.{CountedByGenerator}
+use Rattle.p3_theory.specs.Roots.SquareRoots.{CountedByGenerator}
 use Rattle.p3_runs.proofs.steps.field_steps.take_root.Goals as goal
 
 pub returns-in_default : goal.returns-in_default

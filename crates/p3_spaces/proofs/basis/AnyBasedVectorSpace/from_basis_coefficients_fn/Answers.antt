@@ -1,4 +1,4 @@
-use Rattle.p3_theory.specs.IndexCalls.{callable-one, answers-one}
+use Rattle.p3_theory.specs.Lists.IndexCalls.{callable-one, answers-one}
 use Rattle.p3_spaces.proofs.basis.AnyBasedVectorSpace.from_basis_coefficients_fn.Goals as goal
 
 pub f-requires : goal.f-requires

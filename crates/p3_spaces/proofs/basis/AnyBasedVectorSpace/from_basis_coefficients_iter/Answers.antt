@@ -1,4 +1,4 @@
-use Rattle.p3_theory.specs.StreamLemmas.{no_item, one_item, two_items}
+use Rattle.p3_spaces.specs.StreamLemmas.{no_item, one_item, two_items}
 use Rattle.p3_spaces.proofs.basis.AnyBasedVectorSpace.from_basis_coefficients_iter.Goals as goal
 
 pub returns-in_default : goal.returns-in_default

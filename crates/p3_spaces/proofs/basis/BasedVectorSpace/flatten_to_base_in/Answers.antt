@@ -1,8 +1,8 @@
 use Rattle.std.proofs.Common.{◌≡◌, ◌+◌, ◌*◌, ap, ◌∙◌, arith}
 use Rattle.std.proofs.lemmas.Grind.{common_steps}
 use Rattle.std.specs.Prelude.{slice_get}
-use Rattle.p3_theory.specs.Coordinates.{flattened}
-use Rattle.p3_theory.specs.CoordinateLemmas.{flattened-place}
+use Rattle.p3_theory.specs.Bases.Coordinates.{flattened}
+use Rattle.p3_theory.specs.Bases.CoordinateLemmas.{flattened-place}
 use Rattle.p3_spaces.proofs.basis.BasedVectorSpace.flatten_to_base_in.Goals as goal
 
 pub returns-clause-places : goal.returns-clause-places

@@ -1,5 +1,5 @@
 use Rattle.std.proofs.Common.{◌≡◌, take}
-use Rattle.p3_theory.specs.Coordinates.{flattened}
+use Rattle.p3_theory.specs.Bases.Coordinates.{flattened}
 use Rattle.p3_spaces.proofs.basis.BasedVectorSpace.flatten_to_base_in.Given as goal
 
 abbrev pub invariant-loop-x : goal.invariant-loop-x

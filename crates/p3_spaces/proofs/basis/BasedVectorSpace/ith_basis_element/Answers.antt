@@ -1,6 +1,6 @@
 use Rattle.std.proofs.Common.{◌≡◌, rules}
 use Rattle.std.specs.Prelude.{◌==◌, if◌then◌else◌}
-use Rattle.p3_theory.specs.IndexCalls.{answers-tabulate}
+use Rattle.p3_theory.specs.Lists.IndexCalls.{answers-tabulate}
 use Rattle.p3_spaces.proofs.basis.BasedVectorSpace.ith_basis_element.Goals as goal
 
 pub returns-then-i-DIMENSION-clause-basis : goal.returns-then-i-DIMENSION-clause-basis

@@ -1,8 +1,8 @@
 use Rattle.std.proofs.Common.{◌≡◌, ◌+◌, ◌*◌, ◌<◌, ◌%◌, length, take, drop, ap, ◌∙◌, sym, arith, length-drop}
 use Rattle.std.specs.Prelude.{slice_get}
 use Rattle.std.proofs.lemmas.Grind.{common_steps}
-use Rattle.p3_theory.specs.Coordinates.{flattened}
-use Rattle.p3_theory.specs.CoordinateLemmas.{flattened-place, flattened-push, divided_front}
+use Rattle.p3_theory.specs.Bases.Coordinates.{flattened}
+use Rattle.p3_theory.specs.Bases.CoordinateLemmas.{flattened-place, flattened-push, divided_front}
 use Rattle.p3_spaces.proofs.basis.BasedVectorSpace.reconstitute_from_base_in.Goals as goal
 
 pub loop-rest-preserved : goal.loop-rest-preserved

@@ -1,5 +1,5 @@
 use Rattle.std.proofs.Common.{◌≡◌, ◌%◌, ◌++◌, length}
-use Rattle.p3_theory.specs.Coordinates.{flattened}
+use Rattle.p3_theory.specs.Bases.Coordinates.{flattened}
 use Rattle.p3_spaces.proofs.basis.BasedVectorSpace.reconstitute_from_base_in.Given as goal
 
 abbrev pub invariant-loop-rest : goal.invariant-loop-rest

@@ -1,6 +1,6 @@
 use Rattle.std.proofs.Common.{rules, ◌≡◌, ◌<◌, ◌≤◌, length, ap, ◌∙◌}
-use Rattle.p3_theory.specs.Coordinates.{basis_element}
-use Rattle.p3_theory.specs.BasisSums.{basis-step, basis-end}
+use Rattle.p3_theory.specs.Bases.Coordinates.{basis_element}
+use Rattle.p3_theory.specs.Bases.BasisSums.{basis-step, basis-end}
 use Rattle.p3_spaces.proofs.extension_field.ExtensionField.from_ext_basis_coefficients.Goals as goal
 
 pub loop-j-preserved : goal.loop-j-preserved

@@ -1,4 +1,4 @@
-use Rattle.p3_theory.specs.BasisSums.{MakesBasisSum}
+use Rattle.p3_theory.specs.Bases.BasisSums.{MakesBasisSum}
 use Rattle.p3_spaces.proofs.extension_field.ExtensionField.from_ext_basis_coefficients.Given as goal
 
 abbrev pub invariant-loop-j : goal.invariant-loop-j

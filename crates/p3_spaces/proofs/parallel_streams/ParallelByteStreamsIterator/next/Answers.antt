@@ -1,9 +1,9 @@
 use Rattle.std.proofs.Common.{◌≡◌, [], length, arith}
 use Rattle.std.specs.Iterator.{size}
-use Rattle.p3_theory.specs.Coefficients.{length-tabulate}
-use Rattle.p3_theory.specs.Streams.{row_bytes}
-use Rattle.p3_theory.specs.StreamLemmas.{one_more_block}
-use Rattle.p3_theory.specs.ParallelStreams.{takes_last, keeps_first}
+use Rattle.p3_theory.specs.Polynomials.Coefficients.{length-tabulate}
+use Rattle.p3_spaces.specs.Streams.{row_bytes}
+use Rattle.p3_spaces.specs.StreamLemmas.{one_more_block}
+use Rattle.p3_spaces.specs.ParallelStreams.{takes_last, keeps_first}
 use Rattle.p3_spaces.proofs.parallel_streams.ParallelByteStreamsIterator.next.Goals as goal
 
 pub returns-in_default-next-clause-steps : goal.returns-in_default-next-clause-steps

@@ -1,7 +1,7 @@
 use Rattle.std.proofs.Common.{◌≤◌, ◌+◌, ◌*◌, length}
 use Rattle.std.specs.Iterator.{IsFinite, size}
-use Rattle.p3_theory.specs.Streams.{row_bytes, left_of}
-use Rattle.p3_theory.specs.ParallelStreams.{KeepsFirst}
+use Rattle.p3_spaces.specs.Streams.{row_bytes, left_of}
+use Rattle.p3_spaces.specs.ParallelStreams.{KeepsFirst}
 use Rattle.p3_spaces.proofs.parallel_streams.ParallelByteStreamsIterator.next.Given as goal
 
 abbrev pub invariant-loop-bytes : goal.invariant-loop-bytes

@@ -1,5 +1,5 @@
 use Rattle.std.proofs.Common.{◌≡◌, ◌<◌, ℕ, length, map, slice_index}
-use Rattle.p3_theory.specs.Streams.{little_endian}
+use Rattle.p3_spaces.specs.Streams.{little_endian}
 use Rattle.p3_spaces.proofs.parallel_streams.ParallelU32StreamsIterator.next.Given as goal
 
 abbrev pub invariant-loop-j : goal.invariant-loop-j

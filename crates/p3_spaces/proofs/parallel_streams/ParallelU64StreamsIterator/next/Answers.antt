@@ -1,8 +1,8 @@
 use Rattle.std.proofs.Common.{◌≡◌, length, map, slice_index, rules, arith, ap, ◌∙◌}
-use Rattle.p3_theory.specs.Places.{to-tabulate}
-use Rattle.p3_theory.specs.Streams.{little_endian}
-use Rattle.p3_theory.specs.StreamLemmas.{from_bytes}
-use Rattle.p3_theory.specs.ParallelStreams.{wrote_entry}
+use Rattle.p3_theory.specs.Lists.Places.{to-tabulate}
+use Rattle.p3_spaces.specs.Streams.{little_endian}
+use Rattle.p3_spaces.specs.StreamLemmas.{from_bytes}
+use Rattle.p3_spaces.specs.ParallelStreams.{wrote_entry}
 use Rattle.p3_spaces.proofs.parallel_streams.ParallelU64StreamsIterator.next.Goals as goal
 
 pub loop-j-preserved : goal.loop-j-preserved

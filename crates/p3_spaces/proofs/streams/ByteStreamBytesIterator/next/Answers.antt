@@ -1,6 +1,6 @@
 use Rattle.std.proofs.Common.{rules, arith, refl}
 use Rattle.std.specs.Iterator.{size}
-use Rattle.p3_theory.specs.StreamLemmas.{takes_held, takes_none, keeps_next, one_more_block}
+use Rattle.p3_spaces.specs.StreamLemmas.{takes_held, takes_none, keeps_next, one_more_block}
 use Rattle.p3_spaces.proofs.streams.ByteStreamBytesIterator.next.Goals as goal
 
 pub returns-in-Some-clause-steps : goal.returns-in-Some-clause-steps

@@ -2,7 +2,7 @@ use Rattle.std.proofs.Common.{◌≤◌, ◌+◌, ◌*◌}
 use Rattle.std.specs.Iterator.{IsFinite, size}
 use Rattle.std.specs.Option.{ForSome}
 use Rattle.std.specs.Iterator.Adapters.{inner_items_left}
-use Rattle.p3_theory.specs.StreamLemmas.{KeepsToCome}
+use Rattle.p3_spaces.specs.StreamLemmas.{KeepsToCome}
 use Rattle.p3_spaces.proofs.streams.ByteStreamBytesIterator.next.Given as goal
 
 abbrev pub invariant-loop-byte : goal.invariant-loop-byte

@@ -1,5 +1,5 @@
 use Rattle.std.proofs.Common.{refl}
-use Rattle.p3_theory.specs.StreamLemmas.{YieldsExactly-bytes}
+use Rattle.p3_spaces.specs.StreamLemmas.{YieldsExactly-bytes}
 use Rattle.p3_spaces.proofs.streams.RawDataSerializable.into_byte_stream.Goals as goal
 
 pub returns-clause-all : goal.returns-clause-all

@@ -1,6 +1,6 @@
 use Rattle.std.proofs.Common.{arith, refl}
-use Rattle.p3_theory.specs.Streams.{byte_stream, little_endian}
-use Rattle.p3_theory.specs.StreamLemmas.{YieldsExactly-groups, YieldsExactly-read}
+use Rattle.p3_spaces.specs.Streams.{byte_stream, little_endian}
+use Rattle.p3_spaces.specs.StreamLemmas.{YieldsExactly-groups, YieldsExactly-read}
 use Rattle.p3_spaces.proofs.streams.RawDataSerializable.into_u64_stream.Goals as goal
 
 pub returns-clause-all : goal.returns-clause-all

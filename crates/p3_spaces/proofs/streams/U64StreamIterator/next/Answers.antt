@@ -1,5 +1,5 @@
 use Rattle.std.proofs.Common.{◌≡◌, length, rules, ◌∙◌}
-use Rattle.p3_theory.specs.StreamLemmas.{from_bytes}
+use Rattle.p3_spaces.specs.StreamLemmas.{from_bytes}
 use Rattle.p3_spaces.proofs.streams.U64StreamIterator.next.Goals as goal
 
 pub returns-in-Some-clause-steps : goal.returns-in-Some-clause-steps

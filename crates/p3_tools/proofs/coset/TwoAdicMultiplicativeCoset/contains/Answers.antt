@@ -1,7 +1,7 @@
 use Rattle.std.proofs.Common.{rules, ◌≡◌, ◌^◌, ◌↔◌, IsTrue, refl, sym, ap, ◌∙◌, arith}
-use Rattle.p3_theory.specs.Powers.{power}
-use Rattle.p3_theory.specs.PowerProducts.{power_of_two_more}
-use Rattle.p3_theory.specs.Cosets.{agree_later, member_agrees, agreeing_is_member}
+use Rattle.p3_theory.specs.Rings.Powers.{power}
+use Rattle.p3_theory.specs.Rings.PowerProducts.{power_of_two_more}
+use Rattle.p3_theory.specs.Roots.Cosets.{agree_later, member_agrees, agreeing_is_member}
 use Rattle.p3_tools.proofs.coset.TwoAdicMultiplicativeCoset.contains.Goals as goal
 
 pub returns-then-eq : goal.returns-then-eq

@@ -1,7 +1,7 @@
 use Rattle.std.proofs.Common.{◌%◌, ◌^◌, ap, sym, ◌∙◌}
 use Rattle.std.proofs.Math.Nat.{mod-lt}
 use Rattle.std.proofs.lemmas.Nat.{pow_pos}
-use Rattle.p3_theory.specs.Cosets.{coset_item}
+use Rattle.p3_theory.specs.Roots.Cosets.{coset_item}
 use Rattle.p3_tools.proofs.coset.TwoAdicMultiplicativeCoset.element.Goals as goal
 
 pub returns : goal.returns

@@ -1,5 +1,5 @@
 use Rattle.std.proofs.Common.{◌^◌, ap₂, ◌∙◌}
-use Rattle.p3_theory.specs.PowerProducts.{power-inverse}
+use Rattle.p3_theory.specs.Rings.PowerProducts.{power-inverse}
 use Rattle.p3_tools.proofs.coset.TwoAdicMultiplicativeCoset.exp_power_of_2.Goals as goal
 
 pub invariant_of-result-clause-unit : goal.invariant_of-result-clause-unit

@@ -1,5 +1,5 @@
 use Rattle.std.proofs.Common.{◌≡◌, ◌<◌, ◌≤◌, ◌^◌, ◌%◌}
-use Rattle.p3_theory.specs.Powers.{power}
+use Rattle.p3_theory.specs.Rings.Powers.{power}
 use Rattle.p3_tools.proofs.coset.TwoAdicMultiplicativeCoset.generator_exp.Given as goal
 
 abbrev pub invariant-loop-rest : goal.invariant-loop-rest

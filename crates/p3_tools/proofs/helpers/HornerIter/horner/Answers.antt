@@ -1,5 +1,5 @@
-use Rattle.p3_theory.specs.Ring.{ring_of}
-use Rattle.p3_theory.specs.HornerFold.{from_zero}
+use Rattle.p3_theory.specs.Rings.Ring.{ring_of}
+use Rattle.p3_theory.specs.Polynomials.HornerFold.{from_zero}
 use Rattle.p3_tools.proofs.helpers.HornerIter.horner.Goals as goal
 
 pub returns : goal.returns

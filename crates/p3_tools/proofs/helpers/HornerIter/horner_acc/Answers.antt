@@ -3,8 +3,8 @@ use Rattle.std.specs.Prelude.{reverse}
 use Rattle.std.specs.Iterator.Adapters.{rev_steps}
 use Rattle.std.proofs.iter.runs.Made.{run_of_exit}
 use Rattle.std.proofs.lemmas.List.Sums.{fold-append}
-use Rattle.p3_theory.specs.Ring.{ring_of}
-use Rattle.p3_theory.specs.HornerFold.{eval_from, horner-fold}
+use Rattle.p3_theory.specs.Rings.Ring.{ring_of}
+use Rattle.p3_theory.specs.Polynomials.HornerFold.{eval_from, horner-fold}
 use Rattle.p3_tools.proofs.YieldedItems.{reversed_run}
 use Rattle.p3_tools.proofs.helpers.HornerIter.horner_acc.Goals as goal
 

@@ -1,6 +1,6 @@
 use Rattle.std.proofs.Common.{◌≡◌, ◌≤◌, ◌<◌, ◌∙◌, length, refl, arith, replicate}
 use Rattle.std.proofs.lemmas.List.{length-replicate}
-use Rattle.p3_theory.specs.TakenItems.{too_few, just_enough, too_many}
+use Rattle.p3_spaces.specs.TakenItems.{too_few, just_enough, too_many}
 use Rattle.p3_ext.proofs.extension.basis.ExtFieldBasedVectorSpace.from_basis_coefficients_iter.Goals as goal
 
 pub returns-then-count : goal.returns-then-count

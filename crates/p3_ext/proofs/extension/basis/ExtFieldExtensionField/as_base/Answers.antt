@@ -1,7 +1,7 @@
 use Rattle.std.proofs.Common.{◌<◌, length, refl, sym, ap, ◌∙◌, arith}
-use Rattle.p3_theory.specs.Polynomial.{at}
-use Rattle.p3_theory.specs.Places.{read_at}
-use Rattle.p3_theory.specs.BasisSums.{IsScalar, scalar-embedded}
+use Rattle.p3_theory.specs.Polynomials.Polynomial.{at}
+use Rattle.p3_theory.specs.Lists.Places.{read_at}
+use Rattle.p3_theory.specs.Bases.BasisSums.{IsScalar, scalar-embedded}
 use Rattle.p3_ext.specs.Bases.{some_place}
 use Rattle.p3_ext.specs.Values.{constant, same_value}
 use Rattle.p3_ext.proofs.extension.basis.ExtFieldExtensionField.as_base.Goals as goal

@@ -1,5 +1,5 @@
 use Rattle.std.proofs.Common.{◌≡◌, ◌<◌, ◌≤◌, length, arith, ◌∙◌, sym, refl}
-use Rattle.p3_theory.specs.BasisSums.{zeros-begin, zeros-step, zeros-end, not_scalar}
+use Rattle.p3_theory.specs.Bases.BasisSums.{zeros-begin, zeros-step, zeros-end, not_scalar}
 use Rattle.p3_ext.proofs.extension.basis.ExtFieldExtensionField.is_in_basefield.Goals as goal
 
 pub loop-i-init : goal.loop-i-init

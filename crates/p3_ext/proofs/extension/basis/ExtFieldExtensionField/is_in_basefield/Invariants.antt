@@ -1,4 +1,4 @@
-use Rattle.p3_theory.specs.BasisSums.{ZerosBelow}
+use Rattle.p3_theory.specs.Bases.BasisSums.{ZerosBelow}
 use Rattle.p3_ext.proofs.extension.basis.ExtFieldExtensionField.is_in_basefield.Given as goal
 
 abbrev pub invariant-loop-i : goal.invariant-loop-i

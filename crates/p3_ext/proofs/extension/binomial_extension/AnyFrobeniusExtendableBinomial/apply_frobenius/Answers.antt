@@ -1,6 +1,6 @@
 use Rattle.std.proofs.Common.{ap₂, ◌∙◌}
-use Rattle.p3_theory.specs.Ring.{ring_of}
-use Rattle.p3_theory.specs.Powers.{scale_powers}
+use Rattle.p3_theory.specs.Rings.Ring.{ring_of}
+use Rattle.p3_theory.specs.Rings.Powers.{scale_powers}
 use Rattle.p3_ext.specs.BinomialShape.{scaled_is_frobenius}
 use Rattle.p3_ext.proofs.extension.binomial_extension.AnyFrobeniusExtendableBinomial.apply_frobenius.Goals as goal
 

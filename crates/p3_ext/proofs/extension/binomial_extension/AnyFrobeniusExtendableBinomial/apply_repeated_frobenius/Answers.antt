@@ -1,6 +1,6 @@
 use Rattle.std.proofs.Common.{ap, ap₂, ◌∙◌}
-use Rattle.p3_theory.specs.Ring.{ring_of}
-use Rattle.p3_theory.specs.Powers.{power, scale_powers}
+use Rattle.p3_theory.specs.Rings.Ring.{ring_of}
+use Rattle.p3_theory.specs.Rings.Powers.{power, scale_powers}
 use Rattle.p3_ext.specs.BinomialShape.{scaled_is_repeated}
 use Rattle.p3_ext.proofs.extension.binomial_extension.AnyFrobeniusExtendableBinomial.apply_repeated_frobenius.Goals as goal
 

@@ -1,8 +1,8 @@
 use Rattle.std.proofs.Common.{◌≤◌, ap, sym, ◌∙◌, arith}
-use Rattle.p3_theory.specs.Ring.{ring_of}
-use Rattle.p3_theory.specs.Polynomial.{at, quotient_mul}
-use Rattle.p3_theory.specs.ProductPlaces.{product_place}
-use Rattle.p3_theory.specs.PlaceProducts.{place_of_product}
+use Rattle.p3_theory.specs.Rings.Ring.{ring_of}
+use Rattle.p3_theory.specs.Polynomials.Polynomial.{at, quotient_mul}
+use Rattle.p3_theory.specs.Products.ProductPlaces.{product_place}
+use Rattle.p3_theory.specs.Products.PlaceProducts.{place_of_product}
 use Rattle.p3_ext.proofs.extension.binomial_extension.AnyFrobeniusExtendableBinomial.constant_of_product.Goals as goal
 
 pub returns : goal.returns

@@ -1,5 +1,5 @@
 use Rattle.std.proofs.Common.{◌∙◌, ap}
-use Rattle.p3_theory.specs.Polynomial.{quotient_mul, binomial}
+use Rattle.p3_theory.specs.Polynomials.Polynomial.{quotient_mul, binomial}
 use Rattle.p3_ext.specs.ComplexValues.{complex_ops}
 use Rattle.p3_ext.specs.Values.{same_value}
 use Rattle.p3_ext.proofs.extension.complex_binomial.HasComplexBinomialExtension.mul_by_w.Goals as goal

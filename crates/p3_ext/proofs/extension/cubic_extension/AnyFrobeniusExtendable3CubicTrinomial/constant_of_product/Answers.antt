@@ -1,8 +1,8 @@
 use Rattle.std.proofs.Common.{◌∙◌, [], ◌∷◌, ap, ap₂, sym}
-use Rattle.p3_theory.specs.Ring.{ring_of}
-use Rattle.p3_theory.specs.Polynomial.{at, quotient_mul}
-use Rattle.p3_theory.specs.ListItems.{items_are}
-use Rattle.p3_theory.specs.Trinomials.{cubic_trinomial, cubic_constant}
+use Rattle.p3_theory.specs.Rings.Ring.{ring_of}
+use Rattle.p3_theory.specs.Polynomials.Polynomial.{at, quotient_mul}
+use Rattle.p3_theory.specs.Lists.ListItems.{items_are}
+use Rattle.p3_theory.specs.Products.Trinomials.{cubic_trinomial, cubic_constant}
 use Rattle.p3_ext.proofs.extension.cubic_extension.AnyFrobeniusExtendable3CubicTrinomial.constant_of_product.Goals as goal
 
 pub returns : goal.returns

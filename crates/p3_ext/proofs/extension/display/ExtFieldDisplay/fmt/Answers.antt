@@ -1,7 +1,7 @@
 use Rattle.std.proofs.Common.{◌≡◌, ◌++◌, ℕ, List, [], Bool, true, false, rules, refl, arith, ◌<◌, length}
 use Rattle.std.proofs.Output.{has_written_append}
-use Rattle.p3_theory.specs.Text.{next_text}
-use Rattle.p3_theory.specs.TextSteps.{term_written, zero_skipped}
+use Rattle.p3_theory.specs.Polynomials.Text.{next_text}
+use Rattle.p3_theory.specs.Polynomials.TextSteps.{term_written, zero_skipped}
 use Rattle.p3_ext.proofs.extension.display.ExtFieldDisplay.fmt.Goals as goal
 use Rattle.p3_ext.proofs.extension.display.ExtFieldDisplay.fmt.Goals.{then-ne+in_ok-write_next, else-ne}
 

@@ -1,6 +1,6 @@
 use Rattle.std.proofs.Common.{◌≡◌, ◌++◌, ℕ, List, Bool, drop}
 use Rattle.std.specs.Fmt.{HasWritten, IsPlainFormatter}
-use Rattle.p3_theory.specs.Text.{terms_text, polynomial_text}
+use Rattle.p3_theory.specs.Polynomials.Text.{terms_text, polynomial_text}
 use Rattle.p3_ext.proofs.extension.display.ExtFieldDisplay.fmt.Given as goal
 
 abbrev pub invariant-loop-i : goal.invariant-loop-i

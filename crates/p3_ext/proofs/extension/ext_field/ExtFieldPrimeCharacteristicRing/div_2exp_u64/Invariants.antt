@@ -1,6 +1,6 @@
 use Rattle.std.proofs.Common.{◌≡◌, ◌<◌, ℕ, length, get_or}
-use Rattle.p3_theory.specs.Powers.{power}
-use Rattle.p3_theory.specs.Multiples.{two}
+use Rattle.p3_theory.specs.Rings.Powers.{power}
+use Rattle.p3_theory.specs.Rings.Multiples.{two}
 use Rattle.p3_ext.proofs.extension.ext_field.ExtFieldPrimeCharacteristicRing.div_2exp_u64.Given as goal
 
 abbrev pub invariant-loop-i : goal.invariant-loop-i

@@ -1,4 +1,4 @@
-use Rattle.p3_theory.specs.Ring.{ring_of}
+use Rattle.p3_theory.specs.Rings.Ring.{ring_of}
 use Rattle.p3_ext.specs.Bases.{multiple_of_one}
 use Rattle.p3_ext.proofs.extension.ext_field.ExtFieldPrimeCharacteristicRing.from_prime_subfield.Goals as goal
 

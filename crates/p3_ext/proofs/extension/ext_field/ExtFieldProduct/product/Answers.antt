@@ -1,5 +1,5 @@
-use Rattle.p3_theory.specs.Ring.{ring_of}
-use Rattle.p3_theory.specs.Accumulation.{product_from_one}
+use Rattle.p3_theory.specs.Rings.Ring.{ring_of}
+use Rattle.p3_theory.specs.Rings.Accumulation.{product_from_one}
 use Rattle.p3_ext.specs.Values.{ext_laws, ext_ops, same_value}
 use Rattle.p3_ext.proofs.extension.ext_field.ExtFieldProduct.product.Goals as goal
 

@@ -1,5 +1,5 @@
 use Rattle.std.proofs.Common.{◌≡◌, arith}
-use Rattle.p3_theory.specs.Ring.{ring_of}
+use Rattle.p3_theory.specs.Rings.Ring.{ring_of}
 use Rattle.p3_ext.specs.ConjugateChains.{chain_first, chain_step, chain_last}
 use Rattle.p3_ext.proofs.extension.frobenius.ExtField+F+D+S+F.conjugates.Goals as goal
 

@@ -1,5 +1,5 @@
 use Rattle.std.proofs.Common.{◌≡◌, ◌-◌}
-use Rattle.p3_theory.specs.Iteration.{orbit}
+use Rattle.p3_theory.specs.FrobeniusMaps.Iteration.{orbit}
 use Rattle.p3_ext.specs.Values.{ext_ops}
 use Rattle.p3_ext.specs.Conjugates.{frobenius_map}
 use Rattle.p3_ext.proofs.extension.frobenius.ExtField+F+D+S+F.conjugates.Given as goal

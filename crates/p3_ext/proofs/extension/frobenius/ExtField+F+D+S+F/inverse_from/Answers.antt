@@ -1,5 +1,5 @@
 use Rattle.std.proofs.Common.{◌∙◌}
-use Rattle.p3_theory.specs.Ring.{ring_of}
+use Rattle.p3_theory.specs.Rings.Ring.{ring_of}
 use Rattle.p3_ext.specs.Conjugates.{found_by, absent_by}
 use Rattle.p3_ext.proofs.extension.frobenius.ExtField+F+D+S+F.inverse_from.Goals as goal
 

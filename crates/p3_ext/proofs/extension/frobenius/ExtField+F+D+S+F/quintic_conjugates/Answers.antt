@@ -1,5 +1,5 @@
 use Rattle.std.proofs.Common.{◌∙◌}
-use Rattle.p3_theory.specs.Ring.{ring_of}
+use Rattle.p3_theory.specs.Rings.Ring.{ring_of}
 use Rattle.p3_ext.specs.ConjugateChains.{chain_of_four}
 use Rattle.p3_ext.proofs.extension.frobenius.ExtField+F+D+S+F.quintic_conjugates.Goals as goal
 

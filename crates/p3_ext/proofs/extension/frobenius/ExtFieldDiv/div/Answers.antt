@@ -1,4 +1,4 @@
-use Rattle.p3_theory.specs.Ring.{ring_of}
+use Rattle.p3_theory.specs.Rings.Ring.{ring_of}
 use Rattle.p3_ext.specs.Values.{same_value, ext_laws, ext_ops}
 use Rattle.p3_ext.specs.Conjugates.{divided}
 use Rattle.p3_ext.proofs.extension.frobenius.ExtFieldDiv.div.Goals as goal

@@ -1,7 +1,7 @@
 use Rattle.std.proofs.Common.{◌≡◌, ◌∙◌, arith, subst}
-use Rattle.p3_theory.specs.Polynomial.{tabulate}
-use Rattle.p3_theory.specs.Coefficients.{length-tabulate}
-use Rattle.p3_theory.specs.TabulatedPlaces.{HoldsBelow, holds-all}
+use Rattle.p3_theory.specs.Polynomials.Polynomial.{tabulate}
+use Rattle.p3_theory.specs.Polynomials.Coefficients.{length-tabulate}
+use Rattle.p3_theory.specs.Lists.TabulatedPlaces.{HoldsBelow, holds-all}
 use Rattle.p3_ext.specs.Values.{value_of, same_value}
 use Rattle.p3_ext.proofs.extension.frobenius.ExtFieldField.generator.Goals as goal
 

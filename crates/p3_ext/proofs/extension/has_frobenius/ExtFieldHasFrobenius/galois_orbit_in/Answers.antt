@@ -1,5 +1,5 @@
-use Rattle.p3_theory.specs.FrobeniusTable.{orbit_list}
-use Rattle.p3_theory.specs.OrbitLists.{orbit_list-step}
+use Rattle.p3_theory.specs.FrobeniusMaps.FrobeniusTable.{orbit_list}
+use Rattle.p3_theory.specs.FrobeniusMaps.OrbitLists.{orbit_list-step}
 use Rattle.p3_ext.specs.Conjugates.{frobenius_map}
 use Rattle.p3_ext.proofs.extension.has_frobenius.ExtFieldHasFrobenius.galois_orbit_in.Goals as goal
 

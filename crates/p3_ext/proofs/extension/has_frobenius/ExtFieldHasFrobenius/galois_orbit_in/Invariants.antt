@@ -1,5 +1,5 @@
 use Rattle.std.proofs.Common.{◌≡◌, ◌-◌, ◌++◌}
-use Rattle.p3_theory.specs.FrobeniusTable.{orbit_list}
+use Rattle.p3_theory.specs.FrobeniusMaps.FrobeniusTable.{orbit_list}
 use Rattle.p3_ext.specs.Conjugates.{frobenius_map}
 use Rattle.p3_ext.proofs.extension.has_frobenius.ExtFieldHasFrobenius.galois_orbit_in.Given as goal
 

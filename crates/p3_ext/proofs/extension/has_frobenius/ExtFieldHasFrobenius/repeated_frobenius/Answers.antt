@@ -1,5 +1,5 @@
 use Rattle.std.proofs.Common.{◌%◌, ◌∙◌}
-use Rattle.p3_theory.specs.Iteration.{iterate_remainder}
+use Rattle.p3_theory.specs.FrobeniusMaps.Iteration.{iterate_remainder}
 use Rattle.p3_ext.specs.Conjugates.{frobenius_map, whole_turn}
 use Rattle.p3_ext.specs.FrobeniusLaws.{repeated_value}
 use Rattle.p3_ext.proofs.extension.has_frobenius.ExtFieldHasFrobenius.repeated_frobenius.Goals as goal

@@ -1,6 +1,6 @@
 use Rattle.std.proofs.Common.{◌<◌, ◌*◌, ◌/◌, ◌%◌, get_or, subst, sym, ap, ◌∙◌}
 use Rattle.std.specs.Prelude.{slice_index}
-use Rattle.p3_theory.specs.StreamLemmas.{byte_stream-at}
+use Rattle.p3_spaces.specs.StreamLemmas.{byte_stream-at}
 use Rattle.p3_ext.proofs.extension.streams.ExtFieldRawDataSerializable.byte_at.Goals as goal
 
 pub returns : goal.returns

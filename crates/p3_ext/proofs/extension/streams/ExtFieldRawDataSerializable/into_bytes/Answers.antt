@@ -1,5 +1,5 @@
 use Rattle.std.specs.Array.Iter.{array_into_iter_items, array_steps}
-use Rattle.p3_theory.specs.StreamLemmas.{YieldsExactly-from_list}
+use Rattle.p3_spaces.specs.StreamLemmas.{YieldsExactly-from_list}
 use Rattle.p3_ext.proofs.extension.streams.ExtFieldRawDataSerializable.into_bytes.Goals as goal
 
 pub returns-clause-all : goal.returns-clause-all

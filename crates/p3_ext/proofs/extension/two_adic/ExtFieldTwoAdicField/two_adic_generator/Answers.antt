@@ -1,5 +1,5 @@
 use Rattle.std.proofs.Common.{◌≡◌, ◌∙◌, arith, subst}
-use Rattle.p3_theory.specs.TabulatedPlaces.{HoldsBelow, holds-all}
+use Rattle.p3_theory.specs.Lists.TabulatedPlaces.{HoldsBelow, holds-all}
 use Rattle.p3_ext.specs.Values.{same_value}
 use Rattle.p3_ext.specs.ExtensionGenerators.{generator_value}
 use Rattle.p3_ext.proofs.extension.two_adic.ExtFieldTwoAdicField.two_adic_generator.Goals as goal

@@ -1,5 +1,5 @@
 use Rattle.std.proofs.Common.{◌≡◌, [], length}
-use Rattle.p3_theory.specs.ListItems.{ImagesBelow}
+use Rattle.p3_theory.specs.Lists.ListItems.{ImagesBelow}
 use Rattle.p3_ext.proofs.extension.vectors.BinomialExtensionField+F+D.new_array.Given as goal
 
 abbrev pub invariant-loop-i : goal.invariant-loop-i

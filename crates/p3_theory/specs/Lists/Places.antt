@@ -1,0 +1,51 @@
+-- Lists of a given length, place by place.
+use Rattle.std.specs.Prelude.{◌≡◌, ◌<◌, ◌+◌, ◌∷◌, ℕ, List, [], length, replicate, refl, get_or}
+use Rattle.std.proofs.Common.{ap, arith, ◌∙◌, sym, zero, suc, subst}
+use Rattle.std.proofs.Math.ListN.{set}
+use Rattle.std.proofs.lemmas.List.{get_or-set_same, get_or-set_other, ext_get_or, get_or_default}
+use borrow.Author.Count.{below_more}
+use Rattle.p3_theory.specs.Rings.Ring.{Ops}
+use Rattle.p3_theory.specs.Polynomials.Polynomial as P
+use Rattle.p3_theory.specs.Polynomials.Coefficients.{length-tabulate}
+
+module _ {A : Type 0} where
+  pub length-remainder : (o : Ops A) (D : ℕ) (f c : List A) → length (P.remainder o D f c) ≡ D
+  length-remainder o D f [] = length-tabulate D _
+  length-remainder o D f (x ∷ c) = length-tabulate D _
+
+  pub get-tabulate : (D : ℕ) (s : ℕ → A) (k : ℕ) (d : A) → k < D → get_or (P.tabulate D s) k d ≡ s k
+  get-tabulate zero s k d h = absurd (omega arith)
+  get-tabulate (suc D) s zero d h = refl
+  get-tabulate (suc D) s (suc k) d h = get-tabulate D (λ i. s (suc i)) k d (omega arith)
+
+  pub to-tabulate : (d : A) (D : ℕ) (s : ℕ → A) (r : List A) → length r ≡ D → ((k : ℕ) → k < D → get_or r k d ≡ s k) → r ≡ P.tabulate D s
+  to-tabulate d D s r l h =
+      ext_get_or d r (P.tabulate D s) (l ∙ sym (length-tabulate D s)) (λ k w. h k (omega (arith, l)) ∙ sym (get-tabulate D s k d (omega (arith, l))))
+
+  nothing : (D : ℕ) (o : A) → replicate D o ≡ P.tabulate D (λ k. get_or [] k o)
+  nothing zero o = refl
+  nothing (suc D) o = ap (λ l. o ∷ l) (nothing D o)
+
+  pub zero-list : (o : Ops A) (D : ℕ) (z : A) → z ≡ o.zero → replicate D z ≡ P.embed o D o.zero
+  zero-list o zero z h = refl
+  zero-list o (suc D) z h = ap (λ y. y ∷ replicate D y) h ∙ ap (λ l. o.zero ∷ l) (nothing D o.zero)
+
+  pub constant-list : (o : Ops A) (D : ℕ) (x : A) → 0 < D → set (replicate D o.zero) 0 x ≡ P.embed o D x
+  constant-list o zero x h = absurd (omega arith)
+  constant-list o (suc D) x h = ap (λ l. x ∷ l) (nothing D o.zero)
+
+  pub read_at : (xs : List A) (i : ℕ) (x d : A) → i < length xs → x ≡ get_or xs i x → get_or xs i d ≡ x
+  read_at xs i x d h e = sym (e ∙ get_or_default xs i x d h)
+
+  -- one more place of three lists, and of two, meets P
+  pub three_more : (P : A → A → A → Type 0) (d : A) (n : ℕ) (xs ys out : List A) (i : ℕ) (v : A) → length out ≡ n → i < n
+      → ((k : ℕ) → k < i → P (get_or xs k d) (get_or ys k d) (get_or out k d))
+      → P (get_or xs i d) (get_or ys i d) v
+      → (k : ℕ) → k < i + 1 → P (get_or xs k d) (get_or ys k d) (get_or (set out i v) k d)
+  three_more P d n xs ys out i v l b h p =
+      below_more (λ k. P (get_or xs k d) (get_or ys k d) (get_or (set out i v) k d)) i
+      (λ k w. let Q : A → Type 0 = λ z. P (get_or xs k d) (get_or ys k d) z in subst Q (sym (get_or-set_other out i k v d (omega arith))) (h k w))
+      (let Q : A → Type 0 = λ z. P (get_or xs i d) (get_or ys i d) z in subst Q (sym (get_or-set_same out i v d (omega arith))) p)
+
+  pub carry : (P : A → A → Type 0) {a b c d : A} → a ≡ b → c ≡ d → P a c → P b d
+  carry P {a} {b} {c} {d} p q h = let Q : A → Type 0 = λ z. P z d in subst Q p (let S : A → Type 0 = λ z. P a z in subst S q h)

@@ -1,0 +1,42 @@
+-- Lists that a loop writes place by place.
+use Rattle.std.proofs.Common.{◌≡◌, ◌<◌, ◌≤◌, ◌+◌, ◌≢◌, ℕ, List, length, get_or, refl, ◌∙◌, inl, inr, arith}
+use Rattle.std.proofs.Math.ListN.{set}
+use Rattle.std.proofs.lemmas.List.{get_or-set_same, get_or-set_other}
+use Rattle.std.proofs.lemmas.Bool.{cases_lt}
+use borrow.Author.Count.{below_more}
+use Rattle.p3_theory.specs.Polynomials.Polynomial.{tabulate}
+use Rattle.p3_theory.specs.Lists.Places.{to-tabulate}
+
+module _ {A : Type 0} (s : ℕ → A) (d : A) where
+  -- the places below i hold s 0 to s (i - 1)
+  abbrev pub HoldsBelow : List A → ℕ → Type 0
+  HoldsBelow xs i = (k : ℕ) → k < i → get_or xs k d ≡ s k
+
+  pub holds-none : (xs : List A) → HoldsBelow xs 0
+  holds-none xs k h = absurd (omega arith)
+
+  -- one more place
+  pub holds-more : (xs : List A) (i : ℕ) (x : A) → i < length xs → HoldsBelow xs i → x ≡ s i → HoldsBelow (set xs i x) (i + 1)
+  holds-more xs i x b h e =
+      below_more (λ k. get_or (set xs i x) k d ≡ s k) i
+      (λ k w. get_or-set_other xs i k x d (omega arith) ∙ h k w)
+      (get_or-set_same xs i x d b ∙ e)
+
+  -- all places
+  pub holds-all : (xs : List A) (n : ℕ) → length xs ≡ n → HoldsBelow xs n → xs ≡ tabulate n s
+  holds-all xs n l h = to-tabulate d n s xs l h
+
+  -- the same, where the other places still hold what they held
+  abbrev pub UpdatedBelow : List A → List A → ℕ → Type 0
+  UpdatedBelow old xs i = HoldsBelow xs i × ((k : ℕ) → i ≤ k → get_or xs k d ≡ get_or old k d)
+
+  pub updated-none : (xs : List A) → UpdatedBelow xs xs 0
+  updated-none xs = (holds-none xs, λ k h. refl)
+
+  pub updated-more : (old xs : List A) (i : ℕ) (x : A) → i < length xs → UpdatedBelow old xs i → x ≡ s i → UpdatedBelow old (set xs i x) (i + 1)
+  updated-more old xs i x b h e =
+      (holds-more xs i x b h.0 e, λ k w. let other : k ≢ i = omega arith in get_or-set_other xs i k x d other ∙ h.1 k (omega arith))
+
+  -- where the other places hold the rest of s, all do
+  pub updated-all : (old xs : List A) (n i : ℕ) → length xs ≡ n → UpdatedBelow old xs i → ((k : ℕ) → i ≤ k → get_or old k d ≡ s k) → xs ≡ tabulate n s
+  updated-all old xs n i l h rest = to-tabulate d n s xs l (λ k w. elim (cases_lt k i) [ inl below ↦ h.0 k below | inr above ↦ h.1 k above ∙ rest k above ])

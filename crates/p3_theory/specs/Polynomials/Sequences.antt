@@ -1,0 +1,125 @@
+-- Sequences of coefficients as a commutative ring.
+use Rattle.std.proofs.Common.{◌≡◌, ℕ, zero, suc, refl, sym, ap, ◌∙◌, ap₂}
+use mathlib.Core.Path.{fun_ext}
+use Rattle.p3_theory.specs.Rings.Ring.{Ring, Hom}
+use Rattle.p3_theory.specs.Polynomials.Polynomial.{convolve}
+
+module _ {A : Type 0} (R : Ring A) where
+  open R use {zero as 𝟎, one as 𝟏, add as ◌⊕◌, mul as ◌⊗◌}
+
+  infixl 60 ◌⊕◌
+  infixl 70 ◌⊗◌
+  pub add_left_comm : (x y z : A) → x ⊕ (y ⊕ z) ≡ y ⊕ (x ⊕ z)
+  add_left_comm x y z = sym (R.add_assoc x y z) ∙ ap (λ w. w ⊕ z) (R.add_comm x y) ∙ R.add_assoc y x z
+
+  pub swap4 : (x y z w : A) → (x ⊕ y) ⊕ (z ⊕ w) ≡ (x ⊕ z) ⊕ (y ⊕ w)
+  swap4 x y z w = simp (R.add_assoc, add_left_comm)
+
+  pub zero-add : (x : A) → 𝟎 ⊕ x ≡ x
+  zero-add x = R.add_comm 𝟎 x ∙ R.add_zero x
+
+  pub cancel : (x y z : A) → x ⊕ y ≡ x ⊕ z → y ≡ z
+  cancel x y z e = sym (back y) ∙ ap (λ w. R.neg x ⊕ w) e ∙ back z
+    where
+      back : (w : A) → R.neg x ⊕ (x ⊕ w) ≡ w
+      back w = sym (R.add_assoc (R.neg x) x w) ∙ ap (λ v. v ⊕ w) (R.add_comm (R.neg x) x ∙ R.add_neg x) ∙ zero-add w
+
+  pub mul-zero : (x : A) → x ⊗ 𝟎 ≡ 𝟎
+  mul-zero x = cancel (x ⊗ 𝟎) (x ⊗ 𝟎) 𝟎 (sym (R.mul_add x 𝟎 𝟎) ∙ ap (λ w. x ⊗ w) (R.add_zero 𝟎) ∙ sym (R.add_zero (x ⊗ 𝟎)))
+
+  pub zero-mul : (x : A) → 𝟎 ⊗ x ≡ 𝟎
+  zero-mul x = R.mul_comm 𝟎 x ∙ mul-zero x
+
+  pub one-mul : (x : A) → 𝟏 ⊗ x ≡ x
+  one-mul x = R.mul_comm 𝟏 x ∙ R.mul_one x
+
+  pub add-mul : (x y z : A) → (x ⊕ y) ⊗ z ≡ x ⊗ z ⊕ y ⊗ z
+  add-mul x y z = R.mul_comm (x ⊕ y) z ∙ R.mul_add z x y ∙ ap₂ (λ a b. a ⊕ b) (R.mul_comm z x) (R.mul_comm z y)
+
+  -- sequences, place by place
+  abbrev pub add_sequences : (ℕ → A) → (ℕ → A) → ℕ → A
+  add_sequences s t k = s k ⊕ t k
+
+  abbrev pub scale : A → (ℕ → A) → ℕ → A
+  scale x s k = x ⊗ s k
+
+  abbrev pub tail : (ℕ → A) → ℕ → A
+  tail s k = s (suc k)
+
+  abbrev pub zero_sequence : ℕ → A
+  zero_sequence k = 𝟎
+
+  abbrev pub one_sequence : ℕ → A
+  one_sequence zero = 𝟏
+  one_sequence (suc k) = 𝟎
+
+  -- the product as the sum from the other end
+  conv-end : (s t : ℕ → A) (k : ℕ) → convolve R.ops s t (suc k) ≡ convolve R.ops s (tail t) k ⊕ s (suc k) ⊗ t zero
+  conv-end s t zero = refl
+  conv-end s t (suc k) = ap (λ w. s zero ⊗ t (suc (suc k)) ⊕ w) (conv-end (tail s) t k) ∙ sym (R.add_assoc _ _ _)
+
+  conv_comm_at : (s t : ℕ → A) (k : ℕ) → convolve R.ops s t k ≡ convolve R.ops t s k
+  conv_comm_at s t zero = R.mul_comm (s zero) (t zero)
+  conv_comm_at s t (suc k) = ap₂ (λ x y. x ⊕ y) (R.mul_comm (s zero) (t (suc k))) (conv_comm_at (tail s) t k)
+      ∙ R.add_comm _ _ ∙ sym (conv-end t s k)
+
+  pub conv_comm : (s t : ℕ → A) → convolve R.ops s t ≡ convolve R.ops t s
+  conv_comm s t = fun_ext (conv_comm_at s t)
+
+  pub conv_add_at : (s t u : ℕ → A) (k : ℕ) → convolve R.ops (add_sequences s t) u k ≡ convolve R.ops s u k ⊕ convolve R.ops t u k
+  conv_add_at s t u zero = add-mul (s zero) (t zero) (u zero)
+  conv_add_at s t u (suc k) = ap₂ (λ a b. a ⊕ b) (add-mul (s zero) (t zero) (u (suc k))) (conv_add_at (tail s) (tail t) u k)
+      ∙ swap4 _ _ _ _
+
+  conv_scale_at : (x : A) (s t : ℕ → A) (k : ℕ) → convolve R.ops (scale x s) t k ≡ x ⊗ convolve R.ops s t k
+  conv_scale_at x s t zero = R.mul_assoc x (s zero) (t zero)
+  conv_scale_at x s t (suc k) = ap₂ (λ a b. a ⊕ b) (R.mul_assoc x (s zero) (t (suc k))) (conv_scale_at x (tail s) t k)
+      ∙ sym (R.mul_add x _ _)
+
+  pub conv_assoc_at : (s t u : ℕ → A) (k : ℕ) → convolve R.ops (convolve R.ops s t) u k ≡ convolve R.ops s (convolve R.ops t u) k
+  conv_assoc_at s t u zero = R.mul_assoc (s zero) (t zero) (u zero)
+  conv_assoc_at s t u (suc k) =
+      ap₂ (λ a b. a ⊕ b) (R.mul_assoc (s zero) (t zero) (u (suc k)))
+      (conv_add_at (scale (s zero) (tail t)) (convolve R.ops (tail s) t) u k
+      ∙ ap₂ (λ a b. a ⊕ b) (conv_scale_at (s zero) (tail t) u k) (conv_assoc_at (tail s) t u k))
+      ∙ sym (R.add_assoc _ _ _)
+      ∙ ap (λ w. w ⊕ convolve R.ops (tail s) (convolve R.ops t u) k) (sym (R.mul_add _ _ _))
+
+  conv_zero_at : (t : ℕ → A) (k : ℕ) → convolve R.ops zero_sequence t k ≡ 𝟎
+  conv_zero_at t zero = zero-mul (t zero)
+  conv_zero_at t (suc k) = ap₂ (λ a b. a ⊕ b) (zero-mul (t (suc k))) (conv_zero_at t k) ∙ R.add_zero 𝟎
+
+  pub conv_one_at : (t : ℕ → A) (k : ℕ) → convolve R.ops one_sequence t k ≡ t k
+  conv_one_at t zero = one-mul (t zero)
+  conv_one_at t (suc k) = ap₂ (λ a b. a ⊕ b) (one-mul (t (suc k))) (conv_zero_at t k) ∙ R.add_zero (t (suc k))
+
+  -- the sequences are a commutative ring
+  abbrev pub sequences : Ring (ℕ → A)
+  sequences = record {
+    ops = record { zero = zero_sequence; one = one_sequence; add = add_sequences; neg = λ s k. R.neg (s k); mul = convolve R.ops };
+    laws = record {
+      add_comm = λ s t. fun_ext (λ k. R.add_comm (s k) (t k));
+      add_assoc = λ s t u. fun_ext (λ k. R.add_assoc (s k) (t k) (u k));
+      add_zero = λ s. fun_ext (λ k. R.add_zero (s k));
+      add_neg = λ s. fun_ext (λ k. R.add_neg (s k));
+      mul_comm = conv_comm;
+      mul_assoc = λ s t u. fun_ext (conv_assoc_at s t u);
+      mul_one = λ s. conv_comm s one_sequence ∙ fun_ext (conv_one_at s);
+      mul_add = λ s t u. conv_comm s (add_sequences t u) ∙ fun_ext (conv_add_at t u s)
+          ∙ ap₂ add_sequences (conv_comm t s) (conv_comm u s);
+    };
+  }
+
+  pub zero_sequence-mul : (t : ℕ → A) → convolve R.ops zero_sequence t ≡ zero_sequence
+  zero_sequence-mul t = fun_ext (conv_zero_at t)
+
+-- a map of rings that keeps zero, one, sums and products keeps negation too
+pub ring_hom : {A B : Type 0} (R : Ring A) (E : Ring B) (h : A → B) → h R.zero ≡ E.zero → h R.one ≡ E.one
+    → ((x y : A) → h (R.add x y) ≡ E.add (h x) (h y)) → ((x y : A) → h (R.mul x y) ≡ E.mul (h x) (h y)) → Hom R.ops E.ops h
+ring_hom R E h zeros ones sums products = record {
+  zero = zeros;
+  one = ones;
+  add = sums;
+  neg = λ x. cancel E (h x) (h (R.neg x)) (E.neg (h x)) (sym (sums x (R.neg x)) ∙ ap h (R.add_neg x) ∙ zeros ∙ sym (E.add_neg (h x)));
+  mul = products;
+}

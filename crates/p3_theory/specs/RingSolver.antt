@@ -1,0 +1,5 @@
+-- Identities of commutative rings decided by normal forms of polynomials.
+pub mod Solver
+pub mod SolverSound
+pub mod Formula
+pub mod Reify
