@@ -1,38 +1,42 @@
 //! Complex values, subfields, and powers that permute a field.
+ghost use Rattle.std.specs.Prelude.{◌<◌};
 
+use crate::calls::{assert_images, assert_inverses, assert_squares};
+use crate::values::value;
 use p3_bench_prime::baby_bear::BabyBear;
-use p3_bench_prime::extensions::{F17x2, F17x4, F31c};
 use p3_bench_prime::goldilocks::Goldilocks;
 use p3_bench_prime::koala_bear::KoalaBear;
 use p3_bench_prime::small::{F17, F31};
-use p3_field::extension::{BinomiallyExtendable, HasFrobenius};
-use p3_field::{
-    Field, HasSubfield, InjectiveMonomial, PermutationMonomial, PrimeCharacteristicRing,
+use p3_field::extension::{
+    Binomial, BinomiallyExtendable, Complex, ExtField, ExtensionShape, FrobeniusExtendable,
 };
+use p3_field::{HasSubfield, PermutationMonomial, PrimeField64};
+use std::process::Abort;
 
-/// The complex value with these coefficients.
-fn complex(real: u32, imag: u32) -> F31c {
-    F31c::new_complex(F31::new(real), F31::new(imag))
+/// The complex value with these canonical coefficients.
+fn complex<F: PrimeField64>(real: u64, imag: u64) -> Complex<F> {
+    Complex::<F>::new_complex(F::from_u64(real), F::from_u64(imag))
 }
 
-/// The power N, and the value whose power N is the second one.
-fn powers_of<F: PermutationMonomial<N>, const N: u64>(x: F, y: F) -> (F, F) {
-    (x.injective_exp_n(), y.injective_exp_root_n())
+/// The coefficients of a complex value.
+fn pair<F: PrimeField64>(z: Complex<F>) -> [u64; 2] {
+    z.to_array().map(|c| c.as_canonical_u64())
 }
 
 #[test]
 fn complex_values(rt: HostRuntime) {
-    let z = complex(3, 2);
-    assert_eq!(rt; z.square(), complex(5, 12));
-    assert_eq!(rt; z.conjugate(), complex(3, 29));
+    let z = complex::<F31>(3, 2);
+    assert_squares::<F31, 2, Binomial<F31>>(&rt, &[([3, 2], [5, 12])]);
+    assert_inverses::<F31, 2, Binomial<F31>>(&rt, &[([3, 2], Some([5, 7]))]);
+    assert_images::<F31, 2, Binomial<F31>>(&rt, &[([3, 2], [3, 29])]);
+    assert_eq!(rt; pair(z.conjugate()), [3, 29]);
     assert_eq!(rt; z.norm(), F31::new(13));
-    assert_eq!(rt; z.try_inverse(), Some(complex(5, 7)));
-    assert_eq!(rt; z.rotate(&complex(1, 5)), complex(24, 17));
-    assert_eq!(rt; z.to_array(), [F31::new(3), F31::new(2)]);
+    assert_eq!(rt; pair(z.rotate(&complex::<F31>(1, 5))), [24, 17]);
+    assert_eq!(rt; pair(z), [3, 2]);
     assert_eq!(rt; z.real(), F31::new(3));
     assert_eq!(rt; z.imag(), F31::new(2));
-    assert_eq!(rt; F31c::new_real(F31::new(3)), complex(3, 0));
-    assert_eq!(rt; F31c::new_imag(F31::new(2)), complex(0, 2));
+    assert_eq!(rt; pair(Complex::<F31>::new_real(F31::new(3))), [3, 0]);
+    assert_eq!(rt; pair(Complex::<F31>::new_imag(F31::new(2))), [0, 2]);
 }
 
 #[test]
@@ -45,7 +49,6 @@ fn complex_constants(rt: HostRuntime) {
         <F31 as BinomiallyExtendable<2>>::ext_generator(1),
         F31::new(2)
     );
-    assert_eq!(rt; complex(3, 2).frobenius(), complex(3, 29));
     assert_eq!(rt; <F31 as BinomiallyExtendable<2>>::w(), F31::new(30));
     assert_eq!(rt; <F31 as BinomiallyExtendable<2>>::dth_root(), F31::new(30));
     assert_eq!(rt;
@@ -56,45 +59,51 @@ fn complex_constants(rt: HostRuntime) {
 
 #[test]
 fn norm_at_any_w(rt: HostRuntime) {
-    let z = F17x2::new_complex(F17::new(1), F17::new(2));
-    assert_eq!(rt; z.norm(), F17::new(5));
+    assert_eq!(rt; complex::<F17>(1, 2).norm(), F17::new(5));
+}
+
+/// The element of the base that a value is, if it is one.
+fn in_base<F: FrobeniusExtendable<D, S> + PrimeField64, const D: usize, S: ExtensionShape>(
+    x: [u64; D],
+) -> Option<u64> {
+    match <ExtField<F, D, S> as HasSubfield<F>>::as_subfield(&value(x)) {
+        Some(c) => Some(c.as_canonical_u64()),
+        None => None,
+    }
+}
+
+/// Whether two values lie in the base, and whether none do.
+fn both_in_base<F: FrobeniusExtendable<D, S> + PrimeField64, const D: usize, S: ExtensionShape>(
+    x: [u64; D],
+    y: [u64; D],
+) -> bool {
+    let values = [value::<F, D, S>(x), value(y)];
+    <ExtField<F, D, S> as HasSubfield<F>>::all_in_subfield(&values)
 }
 
 #[test]
 fn values_in_a_subfield(rt: HostRuntime) {
-    let zero = F17::zero();
-    let five = F17x4::new([F17::new(5), zero, zero, zero]);
-    let x = F17x4::new([zero, F17::one(), zero, zero]);
-    assert_eq!(rt;
-        <F17x4 as HasSubfield<F17>>::as_subfield(&five),
-        Some(F17::new(5))
-    );
-    assert_eq!(rt; <F17x4 as HasSubfield<F17>>::as_subfield(&x), None);
-    assert!(rt; <F17x4 as HasSubfield<F17>>::all_in_subfield(&[]));
-    assert!(rt; <F17x4 as HasSubfield<F17>>::all_in_subfield(&[five, five]));
-    assert!(rt; !<F17x4 as HasSubfield<F17>>::all_in_subfield(&[five, x]));
+    let five = [5, 0, 0, 0];
+    let x = [0, 1, 0, 0];
+    assert_eq!(rt; in_base::<F17, 4, Binomial<F17>>(five), Some(5));
+    assert_eq!(rt; in_base::<F17, 4, Binomial<F17>>(x), None);
+    assert!(rt; both_in_base::<F17, 4, Binomial<F17>>(five, five));
+    assert!(rt; !both_in_base::<F17, 4, Binomial<F17>>(five, x));
+}
+
+/// The power N of a number's residue, and the number whose power N is the residue of a second one.
+fn powers_of<F: PermutationMonomial<N> + PrimeField64, const N: u64>(x: u64, y: u64) -> [u64; 2] {
+    [
+        F::from_u64(x).injective_exp_n().as_canonical_u64(),
+        F::from_u64(y).injective_exp_root_n().as_canonical_u64(),
+    ]
 }
 
 #[test]
 fn powers_that_permute(rt: HostRuntime) {
-    assert_eq!(rt;
-        powers_of::<F17, 3>(F17::new(2), F17::new(8)),
-        (F17::new(8), F17::new(2))
-    );
-    assert_eq!(rt;
-        powers_of::<F31, 7>(F31::new(3), F31::new(17)),
-        (F31::new(17), F31::new(3))
-    );
-    assert_eq!(rt;
-        powers_of::<BabyBear, 7>(BabyBear::new(3), BabyBear::new(2187)),
-        (BabyBear::new(2187), BabyBear::new(3))
-    );
-    assert_eq!(rt;
-        powers_of::<KoalaBear, 3>(KoalaBear::new(5), KoalaBear::new(125)),
-        (KoalaBear::new(125), KoalaBear::new(5))
-    );
-    assert_eq!(rt;
-        powers_of::<Goldilocks, 7>(Goldilocks::new(3), Goldilocks::new(2187)),
-        (Goldilocks::new(2187), Goldilocks::new(3))
-    );
+    assert_eq!(rt; powers_of::<F17, 3>(2, 8), [8, 2]);
+    assert_eq!(rt; powers_of::<F31, 7>(3, 17), [17, 3]);
+    assert_eq!(rt; powers_of::<BabyBear, 7>(3, 2187), [2187, 3]);
+    assert_eq!(rt; powers_of::<KoalaBear, 3>(5, 125), [125, 5]);
+    assert_eq!(rt; powers_of::<Goldilocks, 7>(3, 2187), [2187, 3]);
 }

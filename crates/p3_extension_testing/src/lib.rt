@@ -3,6 +3,10 @@
 #![tactic(auto)]
 
 #[cfg(test)]
+mod bounds;
+#[cfg(test)]
+mod calls;
+#[cfg(test)]
 mod complex_tower;
 #[cfg(test)]
 mod complex_values;
@@ -28,3 +32,5 @@ mod square_roots;
 mod trinomial_tables;
 #[cfg(test)]
 mod two_adic_extensions;
+#[cfg(test)]
+mod values;
