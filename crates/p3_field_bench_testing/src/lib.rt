@@ -3,10 +3,10 @@
 #![tactic(auto)]
 
 #[cfg(test)]
-mod extensions;
-#[cfg(test)]
 mod laws;
 #[cfg(test)]
 mod outside_runs;
 #[cfg(test)]
 mod runs;
+#[cfg(test)]
+mod worked_runs;
