@@ -1,7 +1,15 @@
 -- The state that the registers of a bank stand for.
 use Rattle.std.specs.Prelude.{List, ℕ, map}
 use Rattle.p3_calculator_fields.specs.declared.bank.Bank.{Bank}
-use Rattle.p3_calculator_fields.specs.declared.bank.Bank.TheVariants.{Empty, F2, F17, F17b, F31, Z15, BabyBear, KoalaBear, Goldilocks, F17x2, F17x4, F17x8, F17bx2, Z15x2, F31x3, F31x5, F31x6, F31c, BabyBearx4, F31t3, F17t5, F2t5}
+use Rattle.p3_calculator_fields.specs.declared.bank.Bank.TheVariants.{Empty, Residues, Quadratic, Middle, High}
+use Rattle.p3_calculator_fields.specs.declared.bank.ResidueBank.{ResidueBank}
+use Rattle.p3_calculator_fields.specs.declared.bank.ResidueBank.TheVariants.{F2, F17, F17b, F31, Z15, BabyBear, KoalaBear, Goldilocks}
+use Rattle.p3_calculator_fields.specs.declared.bank.QuadraticBank.{QuadraticBank}
+use Rattle.p3_calculator_fields.specs.declared.bank.QuadraticBank.TheVariants.{F17x2, F17bx2, Z15x2, F31c}
+use Rattle.p3_calculator_fields.specs.declared.bank.MiddleBank.{MiddleBank}
+use Rattle.p3_calculator_fields.specs.declared.bank.MiddleBank.TheVariants.{F31x3, F31t3, F17x4, BabyBearx4}
+use Rattle.p3_calculator_fields.specs.declared.bank.HighBank.{HighBank}
+use Rattle.p3_calculator_fields.specs.declared.bank.HighBank.TheVariants.{F31x5, F17t5, F2t5, F31x6, F17x8}
 use Rattle.p3_calculator_fields.specs.declared.registers.Registers.{Registers}
 use Rattle.p3_calculator_fields.specs.States.{State, at_field, no_field}
 use Rattle.p3_calculator_fields.specs.Coefficients.{one_coefficient, all_coefficients}
@@ -21,26 +29,39 @@ abbrev pub canon : {W : Type 0} {form : Ghosts W} → Fp W form → ℕ
 canon {form = form} x = Elements.canon form x
 
 -- one line a name
+abbrev pub residue_state : ResidueBank → State
+residue_state (F2 regs) = state_at field_f2 (one_coefficient canon) regs
+residue_state (F17 regs) = state_at field_f17 (one_coefficient canon) regs
+residue_state (F17b regs) = state_at field_f17b (one_coefficient canon) regs
+residue_state (F31 regs) = state_at field_f31 (one_coefficient canon) regs
+residue_state (Z15 regs) = state_at field_z15 (one_coefficient canon) regs
+residue_state (BabyBear regs) = state_at field_bb (one_coefficient canon) regs
+residue_state (KoalaBear regs) = state_at field_kb (one_coefficient canon) regs
+residue_state (Goldilocks regs) = state_at field_gl (one_coefficient GoldilocksElements.canon) regs
+
+abbrev pub quadratic_state : QuadraticBank → State
+quadratic_state (F17x2 regs) = state_at field_f17x2 (all_coefficients canon) regs
+quadratic_state (F17bx2 regs) = state_at field_f17bx2 (all_coefficients canon) regs
+quadratic_state (Z15x2 regs) = state_at field_z15x2 (all_coefficients canon) regs
+quadratic_state (F31c regs) = state_at field_f31c (all_coefficients canon) regs
+
+abbrev pub middle_state : MiddleBank → State
+middle_state (F31x3 regs) = state_at field_f31x3 (all_coefficients canon) regs
+middle_state (F31t3 regs) = state_at field_f31t3 (all_coefficients canon) regs
+middle_state (F17x4 regs) = state_at field_f17x4 (all_coefficients canon) regs
+middle_state (BabyBearx4 regs) = state_at field_bbx4 (all_coefficients canon) regs
+
+abbrev pub high_state : HighBank → State
+high_state (F31x5 regs) = state_at field_f31x5 (all_coefficients canon) regs
+high_state (F17t5 regs) = state_at field_f17t5 (all_coefficients canon) regs
+high_state (F2t5 regs) = state_at field_f2t5 (all_coefficients canon) regs
+high_state (F31x6 regs) = state_at field_f31x6 (all_coefficients canon) regs
+high_state (F17x8 regs) = state_at field_f17x8 (all_coefficients canon) regs
+
+-- the state of the chosen field
 abbrev pub state_of : Bank → State
 state_of Empty = no_field
-state_of (F2 regs) = state_at field_f2 (one_coefficient canon) regs
-state_of (F17 regs) = state_at field_f17 (one_coefficient canon) regs
-state_of (F17b regs) = state_at field_f17b (one_coefficient canon) regs
-state_of (F31 regs) = state_at field_f31 (one_coefficient canon) regs
-state_of (Z15 regs) = state_at field_z15 (one_coefficient canon) regs
-state_of (BabyBear regs) = state_at field_bb (one_coefficient canon) regs
-state_of (KoalaBear regs) = state_at field_kb (one_coefficient canon) regs
-state_of (Goldilocks regs) = state_at field_gl (one_coefficient GoldilocksElements.canon) regs
-state_of (F17x2 regs) = state_at field_f17x2 (all_coefficients canon) regs
-state_of (F17x4 regs) = state_at field_f17x4 (all_coefficients canon) regs
-state_of (F17x8 regs) = state_at field_f17x8 (all_coefficients canon) regs
-state_of (F17bx2 regs) = state_at field_f17bx2 (all_coefficients canon) regs
-state_of (Z15x2 regs) = state_at field_z15x2 (all_coefficients canon) regs
-state_of (F31x3 regs) = state_at field_f31x3 (all_coefficients canon) regs
-state_of (F31x5 regs) = state_at field_f31x5 (all_coefficients canon) regs
-state_of (F31x6 regs) = state_at field_f31x6 (all_coefficients canon) regs
-state_of (F31c regs) = state_at field_f31c (all_coefficients canon) regs
-state_of (BabyBearx4 regs) = state_at field_bbx4 (all_coefficients canon) regs
-state_of (F31t3 regs) = state_at field_f31t3 (all_coefficients canon) regs
-state_of (F17t5 regs) = state_at field_f17t5 (all_coefficients canon) regs
-state_of (F2t5 regs) = state_at field_f2t5 (all_coefficients canon) regs
+state_of (Residues bank) = residue_state bank
+state_of (Quadratic bank) = quadratic_state bank
+state_of (Middle bank) = middle_state bank
+state_of (High bank) = high_state bank

@@ -1,5 +1,5 @@
 -- The fields that have a name: each once, by its numbers.
-use Rattle.std.specs.Prelude.{ℕ, List, [], ◌∷◌, Option, codes}
+use Rattle.std.specs.Prelude.{ℕ, List, [], ◌∷◌, ◌++◌, Option, codes}
 use Rattle.p3_calculator_fields.specs.Fields.{FieldSpec, ResiduesModulo, PolynomialsModulo}
 use Rattle.p3_calculator_fields.specs.Tables.{lookup}
 
@@ -66,9 +66,9 @@ field_f17t5 = PolynomialsModulo 17 5 (16 ∷ 0 ∷ 1 ∷ 0 ∷ 0 ∷ 1 ∷ []) (
 abbrev pub field_f2t5 : FieldSpec
 field_f2t5 = PolynomialsModulo 2 5 (1 ∷ 0 ∷ 1 ∷ 0 ∷ 0 ∷ 1 ∷ []) (0 ∷ 1 ∷ 0 ∷ 0 ∷ 0 ∷ [])
 
--- the names and their fields
-abbrev pub named_fields : List (List ℕ × FieldSpec)
-named_fields =
+-- the names of residues, and their fields
+abbrev pub residue_names : List (List ℕ × FieldSpec)
+residue_names =
     (codes "f2", field_f2)
     ∷ (codes "f17", field_f17)
     ∷ (codes "f17b", field_f17b)
@@ -77,20 +77,39 @@ named_fields =
     ∷ (codes "bb", field_bb)
     ∷ (codes "kb", field_kb)
     ∷ (codes "gl", field_gl)
-    ∷ (codes "f17x2", field_f17x2)
-    ∷ (codes "f17x4", field_f17x4)
-    ∷ (codes "f17x8", field_f17x8)
+    ∷ []
+
+-- the names of extensions of degree 2, and their fields
+abbrev pub quadratic_names : List (List ℕ × FieldSpec)
+quadratic_names =
+    (codes "f17x2", field_f17x2)
     ∷ (codes "f17bx2", field_f17bx2)
     ∷ (codes "z15x2", field_z15x2)
-    ∷ (codes "f31x3", field_f31x3)
-    ∷ (codes "f31x5", field_f31x5)
-    ∷ (codes "f31x6", field_f31x6)
     ∷ (codes "f31c", field_f31c)
-    ∷ (codes "bbx4", field_bbx4)
+    ∷ []
+
+-- those of degree 3 and 4, and their fields
+abbrev pub middle_names : List (List ℕ × FieldSpec)
+middle_names =
+    (codes "f31x3", field_f31x3)
     ∷ (codes "f31t3", field_f31t3)
+    ∷ (codes "f17x4", field_f17x4)
+    ∷ (codes "bbx4", field_bbx4)
+    ∷ []
+
+-- those of degree 5 and more, and their fields
+abbrev pub high_names : List (List ℕ × FieldSpec)
+high_names =
+    (codes "f31x5", field_f31x5)
     ∷ (codes "f17t5", field_f17t5)
     ∷ (codes "f2t5", field_f2t5)
+    ∷ (codes "f31x6", field_f31x6)
+    ∷ (codes "f17x8", field_f17x8)
     ∷ []
+
+-- the names and their fields
+abbrev pub named_fields : List (List ℕ × FieldSpec)
+named_fields = residue_names ++ quadratic_names ++ middle_names ++ high_names
 
 -- a field by its name
 abbrev pub field_named : List ℕ → Option FieldSpec

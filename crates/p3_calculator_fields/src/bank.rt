@@ -1,4 +1,5 @@
-//! The registers of the chosen field: one line a name.
+//! The registers of the chosen field: one line a name, by degree, so that a
+//! function over the names of a group has few types to pass.
 
 use crate::registers::Registers;
 use p3_bench_prime::baby_bear::BabyBear;
@@ -14,6 +15,19 @@ use p3_bench_prime::small::{F2, F17, F17b, F31, Z15};
 pub enum Bank {
     /// No field is chosen.
     Empty,
+    /// The registers of a prime field, or of residues modulo a composite order.
+    Residues(ResidueBank),
+    /// The registers of an extension of degree 2.
+    Quadratic(QuadraticBank),
+    /// The registers of an extension of degree 3 or 4.
+    Middle(MiddleBank),
+    /// The registers of an extension of degree 5 or more.
+    High(HighBank),
+}
+
+/// The registers of a prime field, or of residues modulo a composite order.
+#[derive(Clone, Copy)]
+pub enum ResidueBank {
     F2(Registers<F2>),
     F17(Registers<F17>),
     F17b(Registers<F17b>),
@@ -22,17 +36,32 @@ pub enum Bank {
     BabyBear(Registers<BabyBear>),
     KoalaBear(Registers<KoalaBear>),
     Goldilocks(Registers<Goldilocks>),
+}
+
+/// The registers of an extension of degree 2.
+#[derive(Clone, Copy)]
+pub enum QuadraticBank {
     F17x2(Registers<F17x2>),
-    F17x4(Registers<F17x4>),
-    F17x8(Registers<F17x8>),
     F17bx2(Registers<F17bx2>),
     Z15x2(Registers<Z15x2>),
-    F31x3(Registers<F31x3>),
-    F31x5(Registers<F31x5>),
-    F31x6(Registers<F31x6>),
     F31c(Registers<F31c>),
-    BabyBearx4(Registers<BabyBearx4>),
+}
+
+/// The registers of an extension of degree 3 or 4.
+#[derive(Clone, Copy)]
+pub enum MiddleBank {
+    F31x3(Registers<F31x3>),
     F31t3(Registers<F31t3>),
+    F17x4(Registers<F17x4>),
+    BabyBearx4(Registers<BabyBearx4>),
+}
+
+/// The registers of an extension of degree 5 or more.
+#[derive(Clone, Copy)]
+pub enum HighBank {
+    F31x5(Registers<F31x5>),
     F17t5(Registers<F17t5>),
     F2t5(Registers<F2t5>),
+    F31x6(Registers<F31x6>),
+    F17x8(Registers<F17x8>),
 }

@@ -1,4 +1,5 @@
-//! The calls of extensions against rows of coefficients, generic over shape and base.
+//! The calls of extensions against rows of coefficients, generic over shape and base: a check pays
+//! for what an extension's type asks for once in each function, so each holds several calls.
 
 use crate::extension_tables::Table;
 use crate::values::{row, value};
@@ -9,129 +10,87 @@ use p3_field::{ExtensionField, Field, PrimeCharacteristicRing, PrimeField64, Raw
 use std::process::Abort;
 use std::test::Fail;
 
-/// Asserts that the second value of each row is the square of the first.
-pub fn assert_squares<
+/// Asserts that two lists of coefficients are the same.
+pub fn assert_same<const D: usize>(rt: &impl Abort, answer: [u64; D], expected: [u64; D]) {
+    assert_eq!(rt; answer, expected);
+}
+
+/// Asserts the squares, products, inverses and elements of the base of a table.
+fn assert_arithmetic<
     F: FrobeniusExtendable<D, S> + PrimeField64,
     const D: usize,
     S: ExtensionShape,
->(rt: &impl Abort, rows: &[([u64; D], [u64; D])]) {
-    for entry in rows {
+>(rt: &impl Abort, table: &Table<[u64; D]>) {
+    for entry in table.squares {
         let (x, square) = *entry;
-        assert_eq!(rt; row(value::<F, D, S>(x).square()), square);
+        assert_same(rt, row(value::<F, D, S>(x).square()), square);
     }
-}
-
-/// Asserts that the third value of each row is the product of the others.
-pub fn assert_products<
-    F: FrobeniusExtendable<D, S> + PrimeField64,
-    const D: usize,
-    S: ExtensionShape,
->(rt: &impl Abort, rows: &[([u64; D], [u64; D], [u64; D])]) {
-    for entry in rows {
+    for entry in table.products {
         let (x, y, product) = *entry;
-        assert_eq!(rt; row(value::<F, D, S>(x) * value::<F, D, S>(y)), product);
+        assert_same(rt, row(value::<F, D, S>(x) * value::<F, D, S>(y)), product);
     }
-}
-
-/// Asserts that the second value of each row is the inverse of the first, where there is one.
-pub fn assert_inverses<
-    F: FrobeniusExtendable<D, S> + PrimeField64,
-    const D: usize,
-    S: ExtensionShape,
->(rt: &impl Abort, rows: &[([u64; D], Option<[u64; D]>)]) {
-    for entry in rows {
+    for entry in table.inverses {
         let (x, inverse) = *entry;
-        let answer = match value::<F, D, S>(x).try_inverse() {
-            Some(y) => Some(row(y)),
-            None => None,
-        };
-        assert_eq!(rt; answer, inverse);
+        match (value::<F, D, S>(x).try_inverse(), inverse) {
+            (Some(y), Some(inverse)) => assert_same(rt, row(y), inverse),
+            (y, inverse) => assert!(rt; y.is_none() && inverse.is_none()),
+        }
+    }
+    for entry in table.base_values {
+        let (x, base) = *entry;
+        match ExtensionField::<F>::as_base(&value::<F, D, S>(x)) {
+            Some(c) => assert!(rt; base == Some(c.as_canonical_u64())),
+            None => assert!(rt; base.is_none()),
+        }
     }
 }
 
-/// Asserts that the second value of each row is the image of the first.
-pub fn assert_images<
-    F: FrobeniusExtendable<D, S> + PrimeField64,
-    const D: usize,
-    S: ExtensionShape,
->(rt: &impl Abort, rows: &[([u64; D], [u64; D])]) {
-    for entry in rows {
+/// Asserts the images under the Frobenius map and the orbits of a table.
+fn assert_maps<F: FrobeniusExtendable<D, S> + PrimeField64, const D: usize, S: ExtensionShape>(
+    rt: &(impl Abort + AllocGlobal),
+    table: &Table<[u64; D]>,
+) -> Result<(), Fail> {
+    for entry in table.images {
         let (x, image) = *entry;
-        assert_eq!(rt; row(value::<F, D, S>(x).frobenius()), image);
+        assert_same(rt, row(value::<F, D, S>(x).frobenius()), image);
     }
-}
-
-/// Asserts that the last value of each row is the image of the first after so many times.
-pub fn assert_repeated<
-    F: FrobeniusExtendable<D, S> + PrimeField64,
-    const D: usize,
-    S: ExtensionShape,
->(rt: &impl Abort, rows: &[([u64; D], usize, [u64; D])]) {
-    for entry in rows {
+    for entry in table.repeated {
         let (x, count, image) = *entry;
-        assert_eq!(rt; row(value::<F, D, S>(x).repeated_frobenius(count)), image);
+        assert_same(
+            rt,
+            row(value::<F, D, S>(x).repeated_frobenius(count)),
+            image,
+        );
     }
-}
-
-/// Asserts that each row has a value and its orbit.
-pub fn assert_orbits<
-    F: FrobeniusExtendable<D, S> + PrimeField64,
-    const D: usize,
-    S: ExtensionShape,
->(rt: &(impl Abort + AllocGlobal), rows: &[([u64; D], &[[u64; D]])]) -> Result<(), Fail> {
-    for entry in rows {
+    for entry in table.orbits {
         let (x, orbit) = *entry;
         let answer = value::<F, D, S>(x).galois_orbit(rt.alloc())?;
-        assert_eq!(rt; answer.len(), orbit.len());
+        assert!(rt; answer.len() == orbit.len());
         for i in 0..orbit.len() {
-            assert_eq!(rt; row(answer[i]), orbit[i]);
+            assert_same(rt, row(answer[i]), orbit[i]);
         }
     }
     Ok(())
 }
 
-/// Asserts that each row has a value and its text.
-pub fn assert_texts<F: FrobeniusExtendable<D, S> + PrimeField64, const D: usize, S: ExtensionShape>(
-    rt: &(impl Abort + AllocGlobal),
-    rows: &[([u64; D], &str)],
-) -> Result<(), Fail> {
-    for entry in rows {
-        let (x, text) = *entry;
-        let answer = value::<F, D, S>(x).to_string(rt.alloc())?;
-        assert_eq!(rt; answer.as_str(), text);
-    }
-    Ok(())
-}
-
-/// Asserts that each row has a value and the element of the base that it is, if it is one.
-pub fn assert_base_values<
-    F: FrobeniusExtendable<D, S> + PrimeField64,
-    const D: usize,
-    S: ExtensionShape,
->(rt: &impl Abort, rows: &[([u64; D], Option<u64>)]) {
-    for entry in rows {
-        let (x, base) = *entry;
-        let answer = match ExtensionField::<F>::as_base(&value::<F, D, S>(x)) {
-            Some(c) => Some(c.as_canonical_u64()),
-            None => None,
-        };
-        assert_eq!(rt; answer, base);
-    }
-}
-
-/// Asserts that each row has values and the words of their bytes.
-pub fn assert_streams<
+/// Asserts the texts and the words of a table.
+fn assert_texts<
     F: FrobeniusExtendable<D, S> + PrimeField64 + ByteCountFits<D>,
     const D: usize,
     S: ExtensionShape,
->(rt: &(impl Abort + AllocGlobal), rows: &[(&[[u64; D]], &[u64])]) -> Result<(), Fail> {
-    for entry in rows {
+>(rt: &(impl Abort + AllocGlobal), table: &Table<[u64; D]>) -> Result<(), Fail> {
+    for entry in table.texts {
+        let (x, text) = *entry;
+        let answer = value::<F, D, S>(x).to_string(rt.alloc())?;
+        assert!(rt; answer.as_str() == text);
+    }
+    for entry in table.streams {
         let (items, words) = *entry;
         let values = items.iter().map(|x| value::<F, D, S>(*x));
         let stream: Vec<u64> = <ExtField<F, D, S> as RawDataSerializable>::into_u64_stream(
             values,
         ).collect(rt.alloc())?;
-        assert_eq!(rt; stream.as_slice(), words);
+        assert!(rt; stream.as_slice() == words);
     }
     Ok(())
 }
@@ -142,13 +101,7 @@ pub fn assert_table<
     const D: usize,
     S: ExtensionShape,
 >(rt: &(impl Abort + AllocGlobal), table: &Table<[u64; D]>) -> Result<(), Fail> {
-    assert_squares::<F, D, S>(rt, table.squares);
-    assert_products::<F, D, S>(rt, table.products);
-    assert_inverses::<F, D, S>(rt, table.inverses);
-    assert_images::<F, D, S>(rt, table.images);
-    assert_repeated::<F, D, S>(rt, table.repeated);
-    assert_base_values::<F, D, S>(rt, table.base_values);
-    assert_orbits::<F, D, S>(rt, table.orbits)?;
-    assert_streams::<F, D, S>(rt, table.streams)?;
-    assert_texts::<F, D, S>(rt, table.texts)
+    assert_arithmetic::<F, D, S>(rt, table);
+    assert_maps::<F, D, S>(rt, table)?;
+    assert_texts::<F, D, S>(rt, table)
 }

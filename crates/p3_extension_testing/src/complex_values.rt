@@ -1,109 +1,95 @@
-//! Complex values, subfields, and powers that permute a field.
-ghost use Rattle.std.specs.Prelude.{◌<◌};
+//! Complex values over the residues modulo 31, and the extension of degree 2 over them.
+ghost use Rattle.std.specs.Prelude.{◌≤◌, ◌≡◌};
 
-use crate::calls::{assert_images, assert_inverses, assert_squares};
-use crate::values::value;
-use p3_bench_prime::baby_bear::BabyBear;
-use p3_bench_prime::goldilocks::Goldilocks;
-use p3_bench_prime::koala_bear::KoalaBear;
-use p3_bench_prime::small::{F17, F31};
+use p3_bench_prime::complex_tower::F31cx2;
+use p3_bench_prime::small::F31;
 use p3_field::extension::{
-    Binomial, BinomiallyExtendable, Complex, ExtField, ExtensionShape, FrobeniusExtendable,
+    BinomiallyExtendable, Complex, ComplexExtendable, HasTwoAdicComplexBinomialExtension,
 };
-use p3_field::{HasSubfield, PermutationMonomial, PrimeField64};
+use p3_field::{PrimeField64, RawDataSerializable};
 use std::process::Abort;
 
 /// The complex value with these canonical coefficients.
-fn complex<F: PrimeField64>(real: u64, imag: u64) -> Complex<F> {
-    Complex::<F>::new_complex(F::from_u64(real), F::from_u64(imag))
+fn complex<F: PrimeField64>(pair: [u64; 2]) -> Complex<F> {
+    Complex::<F>::new_complex(F::from_u64(pair[0]), F::from_u64(pair[1]))
 }
 
-/// The coefficients of a complex value.
+/// The canonical coefficients of a complex value.
 fn pair<F: PrimeField64>(z: Complex<F>) -> [u64; 2] {
-    z.to_array().map(|c| c.as_canonical_u64())
+    [z.real().as_canonical_u64(), z.imag().as_canonical_u64()]
 }
 
-#[test]
-fn complex_values(rt: HostRuntime) {
-    let z = complex::<F31>(3, 2);
-    assert_squares::<F31, 2, Binomial<F31>>(&rt, &[([3, 2], [5, 12])]);
-    assert_inverses::<F31, 2, Binomial<F31>>(&rt, &[([3, 2], Some([5, 7]))]);
-    assert_images::<F31, 2, Binomial<F31>>(&rt, &[([3, 2], [3, 29])]);
-    assert_eq!(rt; pair(z.conjugate()), [3, 29]);
-    assert_eq!(rt; z.norm(), F31::new(13));
-    assert_eq!(rt; pair(z.rotate(&complex::<F31>(1, 5))), [24, 17]);
-    assert_eq!(rt; pair(z), [3, 2]);
-    assert_eq!(rt; z.real(), F31::new(3));
-    assert_eq!(rt; z.imag(), F31::new(2));
-    assert_eq!(rt; pair(Complex::<F31>::new_real(F31::new(3))), [3, 0]);
-    assert_eq!(rt; pair(Complex::<F31>::new_imag(F31::new(2))), [0, 2]);
+/// The conjugate of a value, its product with a second one where the square of X is minus one, its
+/// norm and zero, and the values with one of its coefficients alone.
+fn complex_calls<F: PrimeField64>(z: [u64; 2], by: [u64; 2]) -> [[u64; 2]; 5] {
+    let z = complex::<F>(z);
+    let array = z.to_array();
+    [
+        pair(z.conjugate()),
+        pair(z.rotate(&complex::<F>(by))),
+        [z.norm().as_canonical_u64(), 0],
+        pair(Complex::<F>::new_real(array[0])),
+        pair(Complex::<F>::new_imag(array[1])),
+    ]
 }
 
-#[test]
-fn complex_constants(rt: HostRuntime) {
-    assert_eq!(rt;
-        <F31 as BinomiallyExtendable<2>>::ext_generator(0),
-        F31::new(3)
-    );
-    assert_eq!(rt;
-        <F31 as BinomiallyExtendable<2>>::ext_generator(1),
-        F31::new(2)
-    );
-    assert_eq!(rt; <F31 as BinomiallyExtendable<2>>::w(), F31::new(30));
-    assert_eq!(rt; <F31 as BinomiallyExtendable<2>>::dth_root(), F31::new(30));
-    assert_eq!(rt;
-        <F31 as BinomiallyExtendable<2>>::binomial_algebra_id(),
-        "p3-power-basis-v1:X^2+1"
-    );
-}
-
-#[test]
-fn norm_at_any_w(rt: HostRuntime) {
-    assert_eq!(rt; complex::<F17>(1, 2).norm(), F17::new(5));
-}
-
-/// The element of the base that a value is, if it is one.
-fn in_base<F: FrobeniusExtendable<D, S> + PrimeField64, const D: usize, S: ExtensionShape>(
-    x: [u64; D],
-) -> Option<u64> {
-    match <ExtField<F, D, S> as HasSubfield<F>>::as_subfield(&value(x)) {
-        Some(c) => Some(c.as_canonical_u64()),
-        None => None,
+/// Asserts the circle's generators for 0 bits and more, and those of the extension of degree 2
+/// over complex values, each after its count of bits.
+fn assert_generators<F: HasTwoAdicComplexBinomialExtension<2> + PrimeField64>(
+    rt: &impl Abort,
+    circle: &[[u64; 2]],
+    tower: &[(usize, [[u64; 2]; 2])],
+) {
+    assert!(rt; F::CIRCLE_TWO_ADICITY + 1 == circle.len());
+    for bits in 0..circle.len() {
+        assert!(rt; bits <= F::CIRCLE_TWO_ADICITY);
+        assert!(rt; pair(F::circle_two_adic_generator(bits)) == circle[bits]);
+    }
+    for entry in tower {
+        let (bits, generator) = *entry;
+        assert!(rt; bits <= F::COMPLEX_EXT_TWO_ADICITY);
+        assert!(rt; pair(F::complex_ext_two_adic_generator(bits, 0)) == generator[0]);
+        assert!(rt; pair(F::complex_ext_two_adic_generator(bits, 1)) == generator[1]);
     }
 }
 
-/// Whether two values lie in the base, and whether none do.
-fn both_in_base<F: FrobeniusExtendable<D, S> + PrimeField64, const D: usize, S: ExtensionShape>(
-    x: [u64; D],
-    y: [u64; D],
-) -> bool {
-    let values = [value::<F, D, S>(x), value(y)];
-    <ExtField<F, D, S> as HasSubfield<F>>::all_in_subfield(&values)
-}
-
-#[test]
-fn values_in_a_subfield(rt: HostRuntime) {
-    let five = [5, 0, 0, 0];
-    let x = [0, 1, 0, 0];
-    assert_eq!(rt; in_base::<F17, 4, Binomial<F17>>(five), Some(5));
-    assert_eq!(rt; in_base::<F17, 4, Binomial<F17>>(x), None);
-    assert!(rt; both_in_base::<F17, 4, Binomial<F17>>(five, five));
-    assert!(rt; !both_in_base::<F17, 4, Binomial<F17>>(five, x));
-}
-
-/// The power N of a number's residue, and the number whose power N is the residue of a second one.
-fn powers_of<F: PermutationMonomial<N> + PrimeField64, const N: u64>(x: u64, y: u64) -> [u64; 2] {
+/// W, the root, W times a value, and the coefficients of the chosen element.
+fn tower_constants<F: HasTwoAdicComplexBinomialExtension<2> + PrimeField64>(
+    x: [u64; 2],
+) -> [[u64; 2]; 5] {
     [
-        F::from_u64(x).injective_exp_n().as_canonical_u64(),
-        F::from_u64(y).injective_exp_root_n().as_canonical_u64(),
+        pair(F::w()),
+        pair(F::dth_root()),
+        pair(F::mul_by_w(complex::<F>(x))),
+        pair(F::ext_generator(0)),
+        pair(F::ext_generator(1)),
     ]
 }
 
 #[test]
-fn powers_that_permute(rt: HostRuntime) {
-    assert_eq!(rt; powers_of::<F17, 3>(2, 8), [8, 2]);
-    assert_eq!(rt; powers_of::<F31, 7>(3, 17), [17, 3]);
-    assert_eq!(rt; powers_of::<BabyBear, 7>(3, 2187), [2187, 3]);
-    assert_eq!(rt; powers_of::<KoalaBear, 3>(5, 125), [125, 5]);
-    assert_eq!(rt; powers_of::<Goldilocks, 7>(3, 2187), [2187, 3]);
+fn complex_values(rt: HostRuntime) {
+    assert_eq!(rt;
+        complex_calls::<F31>([3, 2], [1, 5]),
+        [[3, 29], [24, 17], [13, 0], [3, 0], [0, 2]]
+    );
+    assert_generators::<F31>(
+        &rt,
+        &[[1, 0], [30, 0], [0, 30], [4, 27], [7, 13], [2, 11]],
+        &[
+            (7, [[0, 0], [15, 18]]),
+            (6, [[18, 27], [0, 0]]),
+            (5, [[29, 11], [0, 0]]),
+            (1, [[30, 0], [0, 0]]),
+            (0, [[1, 0], [0, 0]]),
+        ],
+    );
+    assert_eq!(rt;
+        tower_constants::<F31>([1, 1]),
+        [[3, 2], [30, 0], [1, 5], [0, 0], [1, 0]]
+    );
+    assert_eq!(rt;
+        <F31 as BinomiallyExtendable<2>>::binomial_algebra_id(),
+        "p3-power-basis-v1:X^2+1"
+    );
+    assert_eq!(rt; F31cx2::NUM_BYTES, 16);
 }

@@ -1,6 +1,7 @@
 //! Values of extensions, of a second program, which works from the definitions alone, checked against
 //! the original Rust crate. Written by a script out of its list: a line of that list, `call type
-//! arguments answer`, is an entry here. Coefficients are canonical values, from X^0 upward.
+//! arguments answer`, is an entry here; the first entries of some lists are worked by
+//! hand. Coefficients are canonical values, from X^0 upward.
 
 /// The values of the calls on one type, whose coefficients stand in a row.
 pub struct Table<R: 'static> {
@@ -79,11 +80,13 @@ pub static F17X4: Table<[u64; 4]> = Table {
         ([3, 10, 0, 2], Some([12, 15, 15, 10])),
     ],
     images: &[
+        ([1, 1, 1, 1], [1, 13, 16, 4]),
         ([3, 0, 1, 6], [3, 0, 16, 7]),
         ([0, 16, 16, 0], [0, 4, 1, 0]),
         ([16, 14, 7, 1], [16, 12, 10, 4]),
     ],
     repeated: &[
+        ([1, 1, 1, 1], 2, [1, 16, 1, 16]),
         ([1, 0, 0, 0], 5, [1, 0, 0, 0]),
         ([16, 1, 0, 0], 13, [16, 13, 0, 0]),
         ([16, 16, 10, 16], 17179919961601193601, [16, 4, 7, 13]),
@@ -119,6 +122,8 @@ pub static F17X4: Table<[u64; 4]> = Table {
         (&[[16, 5, 7, 0]], &[21474836496, 7]),
     ],
     base_values: &[
+        ([5, 0, 0, 0], Some(5)),
+        ([0, 1, 0, 0], None),
         ([0, 15, 12, 16], None),
         ([0, 1, 15, 0], None),
         ([16, 8, 5, 1], None),
@@ -258,6 +263,8 @@ pub static F17BX2: Table<[u64; 2]> = Table {
         ([1, 16], [16, 2], [8, 3]),
     ],
     inverses: &[
+        ([2, 1], None),
+        ([1, 1], Some([11, 6])),
         ([5, 9], Some([8, 6])),
         ([16, 0], Some([16, 0])),
         ([6, 1], Some([14, 9])),
@@ -295,6 +302,8 @@ pub static Z15X2: Table<[u64; 2]> = Table {
         ([14, 0], [8, 1], [7, 14]),
     ],
     inverses: &[
+        ([1, 2], Some([2, 11])),
+        ([3, 3], None),
         ([0, 2], Some([0, 4])),
         ([14, 14], Some([1, 14])),
         ([1, 1], Some([14, 1])),
@@ -347,6 +356,7 @@ pub static F31X3: Table<[u64; 3]> = Table {
         ([2, 8, 1], 17, [2, 9, 25]),
     ],
     orbits: &[
+        ([0, 1, 0], &[[0, 1, 0], [0, 25, 0], [0, 5, 0]]),
         ([5, 23, 23], &[[5, 23, 23], [5, 17, 22], [5, 22, 17]]),
         ([30, 30, 0], &[[30, 30, 0], [30, 6, 0], [30, 26, 0]]),
         ([30, 12, 21], &[[30, 12, 21], [30, 21, 12], [30, 29, 29]]),
@@ -549,6 +559,7 @@ pub static F31X6: Table<[u64; 6]> = Table {
 
 pub static F31C: Table<[u64; 2]> = Table {
     squares: &[
+        ([3, 2], [5, 12]),
         ([5, 0], [25, 0]),
         ([18, 0], [14, 0]),
         ([21, 30], [6, 20]),
@@ -560,11 +571,17 @@ pub static F31C: Table<[u64; 2]> = Table {
         ([1, 0], [0, 1], [0, 1]),
     ],
     inverses: &[
+        ([3, 2], Some([5, 7])),
         ([15, 1], Some([12, 24])),
         ([0, 0], None),
         ([28, 22], Some([1, 28])),
     ],
-    images: &[([12, 25], [12, 6]), ([4, 30], [4, 1]), ([3, 4], [3, 27])],
+    images: &[
+        ([3, 2], [3, 29]),
+        ([12, 25], [12, 6]),
+        ([4, 30], [4, 1]),
+        ([3, 4], [3, 27]),
+    ],
     repeated: &[
         ([1, 1], 2957809452861169321, [1, 30]),
         ([30, 28], 14, [30, 28]),

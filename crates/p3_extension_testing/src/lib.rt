@@ -3,11 +3,7 @@
 #![tactic(auto)]
 
 #[cfg(test)]
-mod bounds;
-#[cfg(test)]
 mod calls;
-#[cfg(test)]
-mod complex_tower;
 #[cfg(test)]
 mod complex_values;
 #[cfg(test)]
@@ -24,6 +20,10 @@ mod extension_tables;
 mod extension_values;
 #[cfg(test)]
 mod extensions;
+#[cfg(test)]
+mod powers;
+#[cfg(test)]
+mod slices;
 #[cfg(test)]
 mod square_root_tables;
 #[cfg(test)]

@@ -4,8 +4,16 @@ use Rattle.std.specs.Str.{bytes_eq}
 use Rattle.std.proofs.lemmas.Bool.{cases_eq, eqb-true, ltb-true}
 use Rattle.p3_theory.specs.RingSolver.SolverSound.{and_true}
 use Rattle.p3_calculator_fields.specs.declared.bank.Bank.{Bank}
-use Rattle.p3_calculator_fields.specs.declared.bank.Bank.TheVariants.{Empty, F2, F17, F17b, F31, Z15, BabyBear, KoalaBear, Goldilocks, F17x2, F17x4, F17x8, F17bx2, Z15x2, F31x3, F31x5, F31x6, F31c, BabyBearx4, F31t3, F17t5, F2t5}
-use Rattle.p3_calculator_fields.specs.Bank.{state_of}
+use Rattle.p3_calculator_fields.specs.declared.bank.Bank.TheVariants.{Empty, Residues, Quadratic, Middle, High}
+use Rattle.p3_calculator_fields.specs.declared.bank.ResidueBank.{ResidueBank}
+use Rattle.p3_calculator_fields.specs.declared.bank.ResidueBank.TheVariants.{F2, F17, F17b, F31, Z15, BabyBear, KoalaBear, Goldilocks}
+use Rattle.p3_calculator_fields.specs.declared.bank.QuadraticBank.{QuadraticBank}
+use Rattle.p3_calculator_fields.specs.declared.bank.QuadraticBank.TheVariants.{F17x2, F17bx2, Z15x2, F31c}
+use Rattle.p3_calculator_fields.specs.declared.bank.MiddleBank.{MiddleBank}
+use Rattle.p3_calculator_fields.specs.declared.bank.MiddleBank.TheVariants.{F31x3, F31t3, F17x4, BabyBearx4}
+use Rattle.p3_calculator_fields.specs.declared.bank.HighBank.{HighBank}
+use Rattle.p3_calculator_fields.specs.declared.bank.HighBank.TheVariants.{F31x5, F17t5, F2t5, F31x6, F17x8}
+use Rattle.p3_calculator_fields.specs.Bank.{state_of, residue_state, quadratic_state, middle_state, high_state}
 use Rattle.p3_field_bench.specs.declared.commands.Command.{Command}
 use Rattle.p3_field_bench.specs.declared.commands.Command.TheVariants.{Field, Compute}
 use Rattle.p3_field_bench.specs.declared.commands.Operation.{Operation}
@@ -289,26 +297,38 @@ every_text n st (line ∷ lines) z =
     (r.0, r.1, (o.0, o.1, r.2))
 
 -- the registers of a bank are of a field that has a name
+residue_sound : (bank : ResidueBank) → Sound (residue_state bank).field
+residue_sound (F2 regs) = named_sound (codes "f2")
+residue_sound (F17 regs) = named_sound (codes "f17")
+residue_sound (F17b regs) = named_sound (codes "f17b")
+residue_sound (F31 regs) = named_sound (codes "f31")
+residue_sound (Z15 regs) = named_sound (codes "z15")
+residue_sound (BabyBear regs) = named_sound (codes "bb")
+residue_sound (KoalaBear regs) = named_sound (codes "kb")
+residue_sound (Goldilocks regs) = named_sound (codes "gl")
+
+quadratic_sound : (bank : QuadraticBank) → Sound (quadratic_state bank).field
+quadratic_sound (F17x2 regs) = named_sound (codes "f17x2")
+quadratic_sound (F17bx2 regs) = named_sound (codes "f17bx2")
+quadratic_sound (Z15x2 regs) = named_sound (codes "z15x2")
+quadratic_sound (F31c regs) = named_sound (codes "f31c")
+
+middle_sound : (bank : MiddleBank) → Sound (middle_state bank).field
+middle_sound (F31x3 regs) = named_sound (codes "f31x3")
+middle_sound (F31t3 regs) = named_sound (codes "f31t3")
+middle_sound (F17x4 regs) = named_sound (codes "f17x4")
+middle_sound (BabyBearx4 regs) = named_sound (codes "bbx4")
+
+high_sound : (bank : HighBank) → Sound (high_state bank).field
+high_sound (F31x5 regs) = named_sound (codes "f31x5")
+high_sound (F17t5 regs) = named_sound (codes "f17t5")
+high_sound (F2t5 regs) = named_sound (codes "f2t5")
+high_sound (F31x6 regs) = named_sound (codes "f31x6")
+high_sound (F17x8 regs) = named_sound (codes "f17x8")
+
 pub bank_sound : (bank : Bank) → Sound (state_of bank).field
 bank_sound Empty = tt
-bank_sound (F2 regs) = named_sound (codes "f2")
-bank_sound (F17 regs) = named_sound (codes "f17")
-bank_sound (F17b regs) = named_sound (codes "f17b")
-bank_sound (F31 regs) = named_sound (codes "f31")
-bank_sound (Z15 regs) = named_sound (codes "z15")
-bank_sound (BabyBear regs) = named_sound (codes "bb")
-bank_sound (KoalaBear regs) = named_sound (codes "kb")
-bank_sound (Goldilocks regs) = named_sound (codes "gl")
-bank_sound (F17x2 regs) = named_sound (codes "f17x2")
-bank_sound (F17x4 regs) = named_sound (codes "f17x4")
-bank_sound (F17x8 regs) = named_sound (codes "f17x8")
-bank_sound (F17bx2 regs) = named_sound (codes "f17bx2")
-bank_sound (Z15x2 regs) = named_sound (codes "z15x2")
-bank_sound (F31x3 regs) = named_sound (codes "f31x3")
-bank_sound (F31x5 regs) = named_sound (codes "f31x5")
-bank_sound (F31x6 regs) = named_sound (codes "f31x6")
-bank_sound (F31c regs) = named_sound (codes "f31c")
-bank_sound (BabyBearx4 regs) = named_sound (codes "bbx4")
-bank_sound (F31t3 regs) = named_sound (codes "f31t3")
-bank_sound (F17t5 regs) = named_sound (codes "f17t5")
-bank_sound (F2t5 regs) = named_sound (codes "f2t5")
+bank_sound (Residues bank) = residue_sound bank
+bank_sound (Quadratic bank) = quadratic_sound bank
+bank_sound (Middle bank) = middle_sound bank
+bank_sound (High bank) = high_sound bank

@@ -1,7 +1,5 @@
 -- What the functions of a line answer, as an outcome.
 use Rattle.std.specs.Prelude.{ℕ, [], Option, Some, None, Result, Ok, Err, Vec}
-use Rattle.p3_calculator_fields.specs.declared.bank.Bank.{Bank}
-use Rattle.p3_calculator_fields.specs.Bank.{state_of}
 use Rattle.p3_field_bench.specs.declared.faults.Fault.{Fault}
 use Rattle.p3_field_bench.specs.declared.faults.Fault.TheVariants.{NoField}
 use Rattle.p3_field_bench.specs.Effects.{Outcome, Continues, Faults}
@@ -17,7 +15,7 @@ abbrev pub silent : Result (Unit {0}) Fault → State → Outcome
 silent (Ok u) st = Continues st []
 silent (Err k) st = Faults k
 
--- the registers that a name opens
-abbrev pub opened : Option Bank → Outcome
-opened None = Faults NoField
-opened (Some bank) = Continues (state_of bank) []
+-- the registers that a name opens, by the state that they stand for
+abbrev pub opened_as : {B : Type 0} → (B → State) → Option B → Outcome
+opened_as state None = Faults NoField
+opened_as state (Some bank) = Continues (state bank) []

@@ -1,8 +1,9 @@
 ghost use Rattle.std.specs.Prelude.{◌≡◌};
-ghost use Rattle.p3_calculator_fields.specs.Bank.{state_of};
-ghost use Rattle.p3_field_bench.specs.Outcomes.{opened};
+ghost use Rattle.p3_calculator_fields.specs.Bank.{state_of, residue_state, quadratic_state, middle_state, high_state};
+ghost use Rattle.p3_field_bench.specs.Outcomes.{opened_as};
 ghost use Rattle.p3_field_bench.specs.Effects.{May, ComputesAt, Chooses, chosen};
-ghost use Rattle.p3_calculator_fields.specs.Names.{field_named};
+ghost use Rattle.p3_calculator_fields.specs.Names.{field_named, residue_names, quadratic_names, middle_names, high_names};
+ghost use Rattle.p3_calculator_fields.specs.Tables.{lookup};
 ghost use Rattle.p3_field_bench.specs.Lines.{words};
 ghost use Rattle.p3_field_bench.specs.Outcomes.{outcome, silent};
 
@@ -10,37 +11,83 @@ use crate::act::{act, without_text};
 use crate::commands::{Command, Operation, parse_command};
 use crate::faults::Fault;
 use crate::words::{next_word, one_word};
-use p3_calculator_fields::bank::Bank;
+use p3_calculator_fields::bank::{Bank, HighBank, MiddleBank, QuadraticBank, ResidueBank};
 use p3_calculator_fields::registers::Registers;
 use std::alloc::Allocator;
 
-/// The registers of a field, all zero, by the field's name.
-fn open(name: &[u8]) -> Option<Bank>
-    ensures { opened result ≡ chosen (field_named name.now) }
+/// The registers of residues, all zero, by the name.
+fn open_residue(name: &[u8]) -> Option<ResidueBank>
+    ensures { opened_as residue_state result ≡ chosen (lookup residue_names name.now) }
 {
     match name {
-        _ if name == b"f2".as_slice() => Some(Bank::F2(Registers::zero())),
-        _ if name == b"f17".as_slice() => Some(Bank::F17(Registers::zero())),
-        _ if name == b"f17b".as_slice() => Some(Bank::F17b(Registers::zero())),
-        _ if name == b"f31".as_slice() => Some(Bank::F31(Registers::zero())),
-        _ if name == b"z15".as_slice() => Some(Bank::Z15(Registers::zero())),
-        _ if name == b"bb".as_slice() => Some(Bank::BabyBear(Registers::zero())),
-        _ if name == b"kb".as_slice() => Some(Bank::KoalaBear(Registers::zero())),
-        _ if name == b"gl".as_slice() => Some(Bank::Goldilocks(Registers::zero())),
-        _ if name == b"f17x2".as_slice() => Some(Bank::F17x2(Registers::zero())),
-        _ if name == b"f17x4".as_slice() => Some(Bank::F17x4(Registers::zero())),
-        _ if name == b"f17x8".as_slice() => Some(Bank::F17x8(Registers::zero())),
-        _ if name == b"f17bx2".as_slice() => Some(Bank::F17bx2(Registers::zero())),
-        _ if name == b"z15x2".as_slice() => Some(Bank::Z15x2(Registers::zero())),
-        _ if name == b"f31x3".as_slice() => Some(Bank::F31x3(Registers::zero())),
-        _ if name == b"f31x5".as_slice() => Some(Bank::F31x5(Registers::zero())),
-        _ if name == b"f31x6".as_slice() => Some(Bank::F31x6(Registers::zero())),
-        _ if name == b"f31c".as_slice() => Some(Bank::F31c(Registers::zero())),
-        _ if name == b"bbx4".as_slice() => Some(Bank::BabyBearx4(Registers::zero())),
-        _ if name == b"f31t3".as_slice() => Some(Bank::F31t3(Registers::zero())),
-        _ if name == b"f17t5".as_slice() => Some(Bank::F17t5(Registers::zero())),
-        _ if name == b"f2t5".as_slice() => Some(Bank::F2t5(Registers::zero())),
+        _ if name == b"f2".as_slice() => Some(ResidueBank::F2(Registers::zero())),
+        _ if name == b"f17".as_slice() => Some(ResidueBank::F17(Registers::zero())),
+        _ if name == b"f17b".as_slice() => Some(ResidueBank::F17b(Registers::zero())),
+        _ if name == b"f31".as_slice() => Some(ResidueBank::F31(Registers::zero())),
+        _ if name == b"z15".as_slice() => Some(ResidueBank::Z15(Registers::zero())),
+        _ if name == b"bb".as_slice() => Some(ResidueBank::BabyBear(Registers::zero())),
+        _ if name == b"kb".as_slice() => Some(ResidueBank::KoalaBear(Registers::zero())),
+        _ if name == b"gl".as_slice() => Some(ResidueBank::Goldilocks(Registers::zero())),
         _ => None,
+    }
+}
+
+/// The registers of an extension of degree 2, all zero, by the name.
+fn open_quadratic(name: &[u8]) -> Option<QuadraticBank>
+    ensures { opened_as quadratic_state result ≡ chosen (lookup quadratic_names name.now) }
+{
+    match name {
+        _ if name == b"f17x2".as_slice() => Some(QuadraticBank::F17x2(Registers::zero())),
+        _ if name == b"f17bx2".as_slice() => Some(QuadraticBank::F17bx2(Registers::zero())),
+        _ if name == b"z15x2".as_slice() => Some(QuadraticBank::Z15x2(Registers::zero())),
+        _ if name == b"f31c".as_slice() => Some(QuadraticBank::F31c(Registers::zero())),
+        _ => None,
+    }
+}
+
+/// The registers of an extension of degree 3 or 4, all zero, by the name.
+fn open_middle(name: &[u8]) -> Option<MiddleBank>
+    ensures { opened_as middle_state result ≡ chosen (lookup middle_names name.now) }
+{
+    match name {
+        _ if name == b"f31x3".as_slice() => Some(MiddleBank::F31x3(Registers::zero())),
+        _ if name == b"f31t3".as_slice() => Some(MiddleBank::F31t3(Registers::zero())),
+        _ if name == b"f17x4".as_slice() => Some(MiddleBank::F17x4(Registers::zero())),
+        _ if name == b"bbx4".as_slice() => Some(MiddleBank::BabyBearx4(Registers::zero())),
+        _ => None,
+    }
+}
+
+/// The registers of an extension of degree 5 or more, all zero, by the name.
+fn open_high(name: &[u8]) -> Option<HighBank>
+    ensures { opened_as high_state result ≡ chosen (lookup high_names name.now) }
+{
+    match name {
+        _ if name == b"f31x5".as_slice() => Some(HighBank::F31x5(Registers::zero())),
+        _ if name == b"f17t5".as_slice() => Some(HighBank::F17t5(Registers::zero())),
+        _ if name == b"f2t5".as_slice() => Some(HighBank::F2t5(Registers::zero())),
+        _ if name == b"f31x6".as_slice() => Some(HighBank::F31x6(Registers::zero())),
+        _ if name == b"f17x8".as_slice() => Some(HighBank::F17x8(Registers::zero())),
+        _ => None,
+    }
+}
+
+/// The registers of a field, all zero, by the field's name.
+fn open(name: &[u8]) -> Option<Bank>
+    ensures { opened_as state_of result ≡ chosen (field_named name.now) }
+{
+    if let Some(bank) = open_residue(name) {
+        return Some(Bank::Residues(bank));
+    }
+    if let Some(bank) = open_quadratic(name) {
+        return Some(Bank::Quadratic(bank));
+    }
+    if let Some(bank) = open_middle(name) {
+        return Some(Bank::Middle(bank));
+    }
+    match open_high(name) {
+        Some(bank) => Some(Bank::High(bank)),
+        None => None,
     }
 }
 
@@ -58,6 +105,79 @@ fn choose(bank: &mut Bank, args: &[u8]) -> Result<(), Fault>
     Ok(())
 }
 
+/// Carries out a line at residues.
+fn act_at_residue<A: Allocator + Copy>(
+    alloc: A,
+    operation: Operation,
+    bank: &mut ResidueBank,
+    args: &[u8],
+) -> Result<Vec<u8, A>, Fault>
+    ensures { let old = residue_state bank.old in ComputesAt old.field operation old.registers (words args.now) (outcome result (residue_state bank.new)) }
+{
+    match bank {
+        ResidueBank::F2(regs) => act(alloc, operation, regs, args),
+        ResidueBank::F17(regs) => act(alloc, operation, regs, args),
+        ResidueBank::F17b(regs) => act(alloc, operation, regs, args),
+        ResidueBank::F31(regs) => act(alloc, operation, regs, args),
+        ResidueBank::Z15(regs) => act(alloc, operation, regs, args),
+        ResidueBank::BabyBear(regs) => act(alloc, operation, regs, args),
+        ResidueBank::KoalaBear(regs) => act(alloc, operation, regs, args),
+        ResidueBank::Goldilocks(regs) => act(alloc, operation, regs, args),
+    }
+}
+
+/// Carries out a line at an extension of degree 2.
+fn act_at_quadratic<A: Allocator + Copy>(
+    alloc: A,
+    operation: Operation,
+    bank: &mut QuadraticBank,
+    args: &[u8],
+) -> Result<Vec<u8, A>, Fault>
+    ensures { let old = quadratic_state bank.old in ComputesAt old.field operation old.registers (words args.now) (outcome result (quadratic_state bank.new)) }
+{
+    match bank {
+        QuadraticBank::F17x2(regs) => act(alloc, operation, regs, args),
+        QuadraticBank::F17bx2(regs) => act(alloc, operation, regs, args),
+        QuadraticBank::Z15x2(regs) => act(alloc, operation, regs, args),
+        QuadraticBank::F31c(regs) => act(alloc, operation, regs, args),
+    }
+}
+
+/// Carries out a line at an extension of degree 3 or 4.
+fn act_at_middle<A: Allocator + Copy>(
+    alloc: A,
+    operation: Operation,
+    bank: &mut MiddleBank,
+    args: &[u8],
+) -> Result<Vec<u8, A>, Fault>
+    ensures { let old = middle_state bank.old in ComputesAt old.field operation old.registers (words args.now) (outcome result (middle_state bank.new)) }
+{
+    match bank {
+        MiddleBank::F31x3(regs) => act(alloc, operation, regs, args),
+        MiddleBank::F31t3(regs) => act(alloc, operation, regs, args),
+        MiddleBank::F17x4(regs) => act(alloc, operation, regs, args),
+        MiddleBank::BabyBearx4(regs) => act(alloc, operation, regs, args),
+    }
+}
+
+/// Carries out a line at an extension of degree 5 or more.
+fn act_at_high<A: Allocator + Copy>(
+    alloc: A,
+    operation: Operation,
+    bank: &mut HighBank,
+    args: &[u8],
+) -> Result<Vec<u8, A>, Fault>
+    ensures { let old = high_state bank.old in ComputesAt old.field operation old.registers (words args.now) (outcome result (high_state bank.new)) }
+{
+    match bank {
+        HighBank::F31x5(regs) => act(alloc, operation, regs, args),
+        HighBank::F17t5(regs) => act(alloc, operation, regs, args),
+        HighBank::F2t5(regs) => act(alloc, operation, regs, args),
+        HighBank::F31x6(regs) => act(alloc, operation, regs, args),
+        HighBank::F17x8(regs) => act(alloc, operation, regs, args),
+    }
+}
+
 /// Carries out a line at the chosen field.
 fn act_at<A: Allocator + Copy>(
     alloc: A,
@@ -67,29 +187,28 @@ fn act_at<A: Allocator + Copy>(
 ) -> Result<Vec<u8, A>, Fault>
     ensures { let old = state_of bank.old in ComputesAt old.field operation old.registers (words args.now) (outcome result (state_of bank.new)) }
 {
-    match bank {
+    match *bank {
         Bank::Empty => Err(Fault::NoField),
-        Bank::F2(regs) => act(alloc, operation, regs, args),
-        Bank::F17(regs) => act(alloc, operation, regs, args),
-        Bank::F17b(regs) => act(alloc, operation, regs, args),
-        Bank::F31(regs) => act(alloc, operation, regs, args),
-        Bank::Z15(regs) => act(alloc, operation, regs, args),
-        Bank::BabyBear(regs) => act(alloc, operation, regs, args),
-        Bank::KoalaBear(regs) => act(alloc, operation, regs, args),
-        Bank::Goldilocks(regs) => act(alloc, operation, regs, args),
-        Bank::F17x2(regs) => act(alloc, operation, regs, args),
-        Bank::F17x4(regs) => act(alloc, operation, regs, args),
-        Bank::F17x8(regs) => act(alloc, operation, regs, args),
-        Bank::F17bx2(regs) => act(alloc, operation, regs, args),
-        Bank::Z15x2(regs) => act(alloc, operation, regs, args),
-        Bank::F31x3(regs) => act(alloc, operation, regs, args),
-        Bank::F31x5(regs) => act(alloc, operation, regs, args),
-        Bank::F31x6(regs) => act(alloc, operation, regs, args),
-        Bank::F31c(regs) => act(alloc, operation, regs, args),
-        Bank::BabyBearx4(regs) => act(alloc, operation, regs, args),
-        Bank::F31t3(regs) => act(alloc, operation, regs, args),
-        Bank::F17t5(regs) => act(alloc, operation, regs, args),
-        Bank::F2t5(regs) => act(alloc, operation, regs, args),
+        Bank::Residues(mut chosen) => {
+            let answer = act_at_residue(alloc, operation, &mut chosen, args);
+            *bank = Bank::Residues(chosen);
+            answer
+        }
+        Bank::Quadratic(mut chosen) => {
+            let answer = act_at_quadratic(alloc, operation, &mut chosen, args);
+            *bank = Bank::Quadratic(chosen);
+            answer
+        }
+        Bank::Middle(mut chosen) => {
+            let answer = act_at_middle(alloc, operation, &mut chosen, args);
+            *bank = Bank::Middle(chosen);
+            answer
+        }
+        Bank::High(mut chosen) => {
+            let answer = act_at_high(alloc, operation, &mut chosen, args);
+            *bank = Bank::High(chosen);
+            answer
+        }
     }
 }
 
