@@ -2,6 +2,8 @@
 //! is told, and answers numbers that depend on all of it.
 #![tactic(auto)]
 
+pub mod extension_loops;
 pub mod extensions;
+pub mod prime_loops;
 pub mod primes;
 mod residues;
