@@ -1,5 +1,5 @@
 -- What a line does.
-use Rattle.std.specs.Prelude.{◌≡◌, ◌≢◌, ℕ, ◌-◌, ◌⊎◌, ◌==◌, nat_lt, if◌then◌else◌, List, [], ◌∷◌, ◌++◌, length, Option, Some, None, Result, Ok, Err, MatchBool, slice_set, get_or, replicate}
+use Rattle.std.specs.Prelude.{◌≡◌, ◌≢◌, ℕ, ◌-◌, ◌⊎◌, ◌==◌, nat_lt, if◌then◌else◌, List, [], ◌∷◌, ◌++◌, length, Option, Some, None, Result, Ok, Err, MatchBool, slice_set}
 use Rattle.p3_field_bench.specs.declared.commands.Command.{Command}
 use Rattle.p3_field_bench.specs.declared.commands.Command.TheVariants.{Field, Compute}
 use Rattle.p3_field_bench.specs.declared.commands.Operation.{Operation}

@@ -11,6 +11,8 @@ mod cosets;
 #[cfg(test)]
 mod growths;
 #[cfg(test)]
+mod prime_types;
+#[cfg(test)]
 mod prime_values;
 pub mod refusing;
 #[cfg(test)]
@@ -22,8 +24,4 @@ mod stream_values;
 #[cfg(test)]
 mod tool_values;
 #[cfg(test)]
-mod two_adic_values;
-#[cfg(test)]
 mod vector_tables;
-#[cfg(test)]
-mod vectors;

@@ -1,16 +1,10 @@
-//! Arithmetic, residues of integers, texts and hashes of the prime types.
+//! Calls on prime fields against numbers, generic over the field: a test of one type pays for what
+//! the type asks for once.
+ghost use Rattle.p3_theory.specs.Rings.Ring.{Invertible};
+ghost use Rattle.p3_theory.specs.Rings.Multiples.{two};
 
-use p3_bench_prime::baby_bear::BabyBear;
-use p3_bench_prime::goldilocks::Goldilocks;
-use p3_bench_prime::koala_bear::KoalaBear;
-use p3_bench_prime::small::{F2, F17, F17b, F31, Z15};
-use p3_field::integers::QuotientMap;
-use p3_field::{
-    Algebra, Field, PrimeCharacteristicRing, PrimeField, PrimeField32, PrimeField64, RingSums,
-};
-use std::collections::hash_map::DefaultHasher;
-use std::hash::{Hash, Hasher};
-use std::test::Fail;
+use p3_field::{HornerIter, PrimeField64, RingSums, TwoAdicField};
+use std::process::Abort;
 
 /// The canonical values of the sum, difference, product and quotient; the quotient is 0 where
 /// there is none.
@@ -27,109 +21,73 @@ fn results<F: PrimeField64>(x: F, y: F) -> [u64; 4] {
     ]
 }
 
-/// The canonical values of the sum and product of a list.
-fn totals<F: PrimeField64 + RingSums>(items: &[F]) -> [u64; 2] {
-    let sum: F = items.iter().copied().sum();
-    let product: F = items.iter().copied().product();
+/// Asserts the sum, difference, product and quotient of two numbers' residues.
+pub fn assert_results<F: PrimeField64>(rt: &impl Abort, x: u64, y: u64, expected: [u64; 4]) {
+    let answer = results(F::from_u64(x), F::from_u64(y));
+    assert_eq!(rt; answer, expected);
+}
+
+/// The canonical values of the sum and product of numbers' residues.
+pub fn totals<F: PrimeField64 + RingSums>(numbers: &[u64]) -> [u64; 2] {
+    let sum: F = numbers.iter().map(|x| F::from_u64(*x)).sum();
+    let product: F = numbers.iter().map(|x| F::from_u64(*x)).product();
     [sum.as_canonical_u64(), product.as_canonical_u64()]
 }
 
-/// A field element plus one of the algebra.
-fn mixed<F: PrimeCharacteristicRing, A: Algebra<F>>(x: A, f: F) -> A {
-    x + f
+/// What a field tells of itself.
+pub struct Constants {
+    pub generator: u64,
+    pub order: u64,
+    pub bits: usize,
+    pub two_adicity: usize,
+    /// The dot products of the first 0, 1, 3, 4, 5 and 17 of seventeen minus ones with themselves.
+    pub dots: [u64; 6],
 }
 
-fn hash_of<T: Hash>(x: &T) -> u64 {
-    let mut hasher = DefaultHasher::new();
-    x.hash(&mut hasher);
-    hasher.finish()
+/// Asserts what a field tells of itself, and its two-adic generators, each after its bits.
+pub fn assert_constants<F: TwoAdicField + PrimeField64>(
+    rt: &impl Abort,
+    constants: &Constants,
+    generators: &[(usize, u64)],
+) {
+    assert!(rt; F::generator().as_canonical_u64() == constants.generator);
+    assert!(rt; F::order() == Some(constants.order as u128));
+    assert!(rt; F::ORDER_U64 == constants.order);
+    assert!(rt; F::bits() == constants.bits);
+    assert!(rt; F::TWO_ADICITY == constants.two_adicity);
+    for entry in generators {
+        let (bits, generator) = *entry;
+        assert!(rt; bits <= F::TWO_ADICITY);
+        assert!(rt; F::two_adic_generator(bits).as_canonical_u64() == generator);
+    }
+    let items = [F::neg_one(); 17];
+    for (i, count) in [0usize, 1, 3, 4, 5, 17].into_iter().enumerate() {
+        let first = &items[..count];
+        assert_eq!(rt;
+            F::dot_product(first, first).as_canonical_u64(),
+            constants.dots[i]
+        );
+    }
 }
 
-#[test]
-fn arithmetic(rt: HostRuntime) {
-    assert_eq!(rt; results(F2::new(1), F2::new(1)), [0, 0, 1, 1]);
-    assert_eq!(rt; results(F17::new(3), F17::new(5)), [8, 15, 15, 4]);
-    assert_eq!(rt; results(F17b::new(20), F17b::new(22)), [8, 15, 15, 4]);
-    assert_eq!(rt; results(F31::new(3), F31::new(5)), [8, 29, 15, 13]);
-    assert_eq!(rt; results(Z15::new(4), Z15::new(2)), [6, 2, 8, 2]);
-    assert_eq!(rt; results(Z15::new(4), Z15::new(3)), [7, 1, 12, 0]);
+/// Asserts that the second number of each row is the half of the first.
+pub fn assert_halves<F: PrimeField64>(rt: &impl Abort, rows: &[(u64, u64)])
+    requires { Invertible F.ops (two F.ops) }
+{
+    for row in rows {
+        let (x, half) = *row;
+        assert_eq!(rt; F::from_u64(x).halve().as_canonical_u64(), half, "{x}");
+    }
 }
 
-#[test]
-fn arithmetic_below_the_order(rt: HostRuntime) {
-    let x = BabyBear::from_int(-1i8);
-    assert_eq!(rt;
-        results(x, BabyBear::two()),
-        [1, 2013265918, 2013265919, 1006632960]
-    );
-    let x = KoalaBear::from_int(-1i64);
-    assert_eq!(rt;
-        results(x, KoalaBear::two()),
-        [1, 2130706430, 2130706431, 1065353216]
-    );
-    let x = Goldilocks::from_int(-1i128);
-    assert_eq!(rt;
-        results(x, Goldilocks::two()),
-        [
-            1,
-            18446744069414584318,
-            18446744069414584319,
-            9223372034707292160
-        ]
-    );
-}
-
-#[test]
-fn sums_and_products(rt: HostRuntime) {
-    let items = [F31::new(3), F31::new(5), F31::new(30)];
-    assert_eq!(rt; totals(&items), [7, 16]);
-    assert_eq!(rt; totals::<Goldilocks>(&[]), [0, 1]);
-}
-
-#[test]
-fn residues_of_integers(rt: HostRuntime) {
-    assert_eq!(rt; F17::from_int(-1i8).as_canonical_u64(), 16);
-    assert_eq!(rt; F17::from_int(u128::MAX).as_canonical_u32(), 0);
-    assert_eq!(rt; F17::from_int(i128::MIN).as_canonical_biguint(), 8);
-    assert_eq!(rt; F17::from_canonical_checked(16u8), Some(F17::new(16)));
-    assert_eq!(rt; F17::from_canonical_checked(17u8), None);
-    assert_eq!(rt; F17::from_canonical_checked(-1i32), None);
-    assert_eq!(rt; F17::from_canonical_unchecked(16usize), F17::new(33));
-    assert_eq!(rt;
-        Goldilocks::new(u64::MAX),
-        Goldilocks::from_canonical_unchecked(4294967294u64)
-    );
-    assert_eq!(rt; <F17 as PrimeField64>::ORDER_U64, 17);
-    assert_eq!(rt; <F17 as PrimeField32>::ORDER_U32, 17);
-    assert_eq!(rt;
-        F17::from_prime_subfield(mixed(F17::new(9), F17::new(10))),
-        F17::two()
-    );
-}
-
-#[test]
-fn texts(rt: HostRuntime) -> Result<(), Fail> {
-    let x = F17::from_int(-1i8);
-    let y = Goldilocks::from_int(-1i8);
-    assert_eq!(rt;
-        format!(in rt.alloc(); "{x} {y}")?.as_str(),
-        "16 18446744069414584320"
-    );
-    assert_eq!(rt;
-        format!(in rt.alloc(); "{x:?} {y:?}")?.as_str(),
-        "16 18446744069414584320"
-    );
-    Ok(())
-}
-
-#[test]
-fn order_and_hash(rt: HostRuntime) {
-    assert!(rt; F17::new(16) > F17::new(3));
-    assert!(rt; F17::new(17) < F17::new(3));
-    assert!(rt; Goldilocks::default() < Goldilocks::one());
-    assert_eq!(rt; hash_of(&F17::new(20)), hash_of(&F17::new(3)));
-    assert_eq!(rt;
-        hash_of(&Goldilocks::new(u64::MAX)),
-        hash_of(&Goldilocks::new(4294967294))
-    );
+/// Asserts that each polynomial has the value at the point.
+pub fn assert_polynomials<F: PrimeField64>(rt: &impl Abort, rows: &[(&[u64], u64, u64)]) {
+    for row in rows {
+        let (coefficients, x, value) = *row;
+        let sum: F = coefficients
+            .iter()
+            .map(|c| F::from_u64(*c))
+            .horner(F::from_u64(x));
+        assert_eq!(rt; sum.as_canonical_u64(), value, "{x}");
+    }
 }
