@@ -30,9 +30,6 @@ module _ {A : Type 0} (o : Ops A) (L : RingLaws o) where
   cancel x y z h =
       sym (add_zero x) ∙ ap (add x) (sym (add_neg z)) ∙ sym (add_assoc x z (neg z)) ∙ ap (λ w. add w (neg z)) h ∙ add_assoc y z (neg z) ∙ ap (add y) (add_neg z) ∙ add_zero y
 
-  pub cancel_left : (x y : A) → add x (add (neg x) y) ≡ y
-  cancel_left x y = sym (add_assoc x (neg x) y) ∙ ap (λ w. add w y) (add_neg x) ∙ zero_add y
-
   pub mul_zero : (x : A) → mul x 𝟎 ≡ 𝟎
   mul_zero x =
       cancel (mul x 𝟎) 𝟎 (mul x 𝟎) (sym (mul_add x 𝟎 𝟎) ∙ ap (mul x) (add_zero 𝟎) ∙ sym (zero_add (mul x 𝟎)))
