@@ -168,10 +168,16 @@ pub fn quartic_mul<F: PrimeCharacteristicRing, A: Algebra<F>>(a: &[A], b: &[A], 
     requires room { length res.old ≡ 4 }
     ensures { res.new ≡ quotient_mul A.ops 4 (binomial A.ops 4 (A.embed w)) a.now b.now }
 {
-    let c0 = compute_coefficient(a, b, 4, 0, w);
-    let c1 = compute_coefficient(a, b, 4, 1, w);
-    let c2 = compute_coefficient(a, b, 4, 2, w);
-    let c3 = compute_coefficient(a, b, 4, 3, w);
+    let (a0, a1, a2, a3) = (a[0], a[1], a[2], a[3]);
+    let (b0, b1, b2, b3) = (b[0], b[1], b[2], b[3]);
+    let b1_w = b1 * w;
+    let b2_w = b2 * w;
+    let b3_w = b3 * w;
+    let left = [a0, a1, a2, a3];
+    let c0 = A::dot_product(&left, &[b0, b3_w, b2_w, b1_w]);
+    let c1 = A::dot_product(&left, &[b1, b0, b3_w, b2_w]);
+    let c2 = A::dot_product(&left, &[b2, b1, b0, b3_w]);
+    let c3 = A::dot_product(&left, &[b3, b2, b1, b0]);
     res.copy_from_slice(&[c0, c1, c2, c3]);
 }
 
@@ -206,11 +212,18 @@ pub fn quintic_mul<F: PrimeCharacteristicRing, A: Algebra<F>>(a: &[A], b: &[A], 
     requires room { length res.old ≡ 5 }
     ensures { res.new ≡ quotient_mul A.ops 5 (binomial A.ops 5 (A.embed w)) a.now b.now }
 {
-    let c0 = compute_coefficient(a, b, 5, 0, w);
-    let c1 = compute_coefficient(a, b, 5, 1, w);
-    let c2 = compute_coefficient(a, b, 5, 2, w);
-    let c3 = compute_coefficient(a, b, 5, 3, w);
-    let c4 = compute_coefficient(a, b, 5, 4, w);
+    let (a0, a1, a2, a3, a4) = (a[0], a[1], a[2], a[3], a[4]);
+    let (b0, b1, b2, b3, b4) = (b[0], b[1], b[2], b[3], b[4]);
+    let b1_w = b1 * w;
+    let b2_w = b2 * w;
+    let b3_w = b3 * w;
+    let b4_w = b4 * w;
+    let left = [a0, a1, a2, a3, a4];
+    let c0 = A::dot_product(&left, &[b0, b4_w, b3_w, b2_w, b1_w]);
+    let c1 = A::dot_product(&left, &[b1, b0, b4_w, b3_w, b2_w]);
+    let c2 = A::dot_product(&left, &[b2, b1, b0, b4_w, b3_w]);
+    let c3 = A::dot_product(&left, &[b3, b2, b1, b0, b4_w]);
+    let c4 = A::dot_product(&left, &[b4, b3, b2, b1, b0]);
     res.copy_from_slice(&[c0, c1, c2, c3, c4]);
 }
 
@@ -248,14 +261,26 @@ pub fn octic_mul<F: PrimeCharacteristicRing, A: Algebra<F>>(a: &[A], b: &[A], re
     requires room { length res.old ≡ 8 }
     ensures { res.new ≡ quotient_mul A.ops 8 (binomial A.ops 8 (A.embed w)) a.now b.now }
 {
-    let c0 = compute_coefficient(a, b, 8, 0, w);
-    let c1 = compute_coefficient(a, b, 8, 1, w);
-    let c2 = compute_coefficient(a, b, 8, 2, w);
-    let c3 = compute_coefficient(a, b, 8, 3, w);
-    let c4 = compute_coefficient(a, b, 8, 4, w);
-    let c5 = compute_coefficient(a, b, 8, 5, w);
-    let c6 = compute_coefficient(a, b, 8, 6, w);
-    let c7 = compute_coefficient(a, b, 8, 7, w);
+    let (a0, a1, a2, a3) = (a[0], a[1], a[2], a[3]);
+    let (a4, a5, a6, a7) = (a[4], a[5], a[6], a[7]);
+    let (b0, b1, b2, b3) = (b[0], b[1], b[2], b[3]);
+    let (b4, b5, b6, b7) = (b[4], b[5], b[6], b[7]);
+    let b1_w = b1 * w;
+    let b2_w = b2 * w;
+    let b3_w = b3 * w;
+    let b4_w = b4 * w;
+    let b5_w = b5 * w;
+    let b6_w = b6 * w;
+    let b7_w = b7 * w;
+    let left = [a0, a1, a2, a3, a4, a5, a6, a7];
+    let c0 = A::dot_product(&left, &[b0, b7_w, b6_w, b5_w, b4_w, b3_w, b2_w, b1_w]);
+    let c1 = A::dot_product(&left, &[b1, b0, b7_w, b6_w, b5_w, b4_w, b3_w, b2_w]);
+    let c2 = A::dot_product(&left, &[b2, b1, b0, b7_w, b6_w, b5_w, b4_w, b3_w]);
+    let c3 = A::dot_product(&left, &[b3, b2, b1, b0, b7_w, b6_w, b5_w, b4_w]);
+    let c4 = A::dot_product(&left, &[b4, b3, b2, b1, b0, b7_w, b6_w, b5_w]);
+    let c5 = A::dot_product(&left, &[b5, b4, b3, b2, b1, b0, b7_w, b6_w]);
+    let c6 = A::dot_product(&left, &[b6, b5, b4, b3, b2, b1, b0, b7_w]);
+    let c7 = A::dot_product(&left, &[b7, b6, b5, b4, b3, b2, b1, b0]);
     res.copy_from_slice(&[c0, c1, c2, c3, c4, c5, c6, c7]);
 }
 

@@ -3,3 +3,4 @@ pub mod Solver
 pub mod SolverSound
 pub mod Formula
 pub mod Reify
+pub mod StraightLine

@@ -56,6 +56,12 @@ module _ {A : Type 0} (O : Ops A) where
       (quotient_add O h (quotient_mul O h (binomial O h w) p r) (quotient_mul O h (binomial O h w) u (quotient_mul O h (binomial O h w) q s)))
       (quotient_add O h (quotient_mul O h (binomial O h w) p s) (quotient_mul O h (binomial O h w) q r))
 
+  -- the norm of p + q * X, modulo Y^h = w
+  abbrev pub norm_by_halves : ℕ → A → List A → List A → List A → List A
+  norm_by_halves h w u p q =
+      let f : List A = binomial O h w in
+      quotient_add O h (quotient_mul O h f p p) (quotient_neg O h (quotient_mul O h f u (quotient_mul O h f q q)))
+
 module _ {A : Type 0} (R : Ring A) (w : A) where
   abbrev pub HalvesAt : ℕ → List A → Type 0
   HalvesAt h u = (p q r s : List A) → length p ≡ h → length q ≡ h → length r ≡ h → length s ≡ h
@@ -108,12 +114,6 @@ module _ {A : Type 0} (R : Ring A) (w : A) where
       ∙ octic_by_halves (a 0) (b 0) (a 1) (b 1) (a 2) (b 2) (a 3) (b 3) (c 0) (d 0) (c 1) (d 1) (c 2) (d 2) (c 3) (d 3)
       ∙ sym (λ i. product_by_halves R.ops 4 w (R.zero ∷ R.one ∷ R.zero ∷ R.zero ∷ []) (ep i) (eq i) (er i) (es i))
 
-  -- the norm of p + q * X, modulo Y^h = w
-  abbrev pub norm_by_halves : ℕ → List A → List A → List A → List A
-  norm_by_halves h u p q =
-      let f : List A = binomial R.ops h w in
-      quotient_add R.ops h (quotient_mul R.ops h f p p) (quotient_neg R.ops h (quotient_mul R.ops h f u (quotient_mul R.ops h f q q)))
-
   module _ (d : ℕ) (u p q : List A) (lu : length u ≡ suc d) (lp : length p ≡ suc d) (lq : length q ≡ suc d) (split : HalvesAt (suc d) u)
       (one : interleave (embed R.ops (suc d) R.one) (embed R.ops (suc d) R.zero) ≡ embed R.ops (suc d + suc d) R.one) where
     abbrev f : List A
@@ -126,7 +126,7 @@ module _ {A : Type 0} (R : Ring A) (w : A) where
     E = extension R d f m
 
     -- the conjugate divided by the norm is an inverse
-    pub halves_found : (v : List A) → length v ≡ suc d → quotient_mul R.ops (suc d) f (norm_by_halves (suc d) u p q) v ≡ embed R.ops (suc d) R.one
+    pub halves_found : (v : List A) → length v ≡ suc d → quotient_mul R.ops (suc d) f (norm_by_halves R.ops (suc d) w u p q) v ≡ embed R.ops (suc d) R.one
         → quotient_mul R.ops (suc d + suc d) (binomial R.ops (suc d + suc d) w) (interleave p q)
         (interleave (quotient_mul R.ops (suc d) f p v) (quotient_neg R.ops (suc d) (quotient_mul R.ops (suc d) f q v))) ≡ embed R.ops (suc d + suc d) R.one
     halves_found v lv e =
@@ -140,7 +140,7 @@ module _ {A : Type 0} (R : Ring A) (w : A) where
     -- the norm of what has an inverse has one
     pub halves_exact : (b : List A) → length b ≡ suc d + suc d
         → quotient_mul R.ops (suc d + suc d) (binomial R.ops (suc d + suc d) w) (interleave p q) b ≡ embed R.ops (suc d + suc d) R.one
-        → (v : List A) × (length v ≡ suc d) × (quotient_mul R.ops (suc d) f (norm_by_halves (suc d) u p q) v ≡ embed R.ops (suc d) R.one)
+        → (v : List A) × (length v ≡ suc d) × (quotient_mul R.ops (suc d) f (norm_by_halves R.ops (suc d) w u p q) v ≡ embed R.ops (suc d) R.one)
     halves_exact b lb e =
         let t = halves (suc d) b lb in
         let r : Ext R d f m = (evens b, t.0) in

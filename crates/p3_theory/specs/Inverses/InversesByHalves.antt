@@ -3,37 +3,18 @@ use Rattle.std.proofs.Common.{◌≡◌, ◌+◌, ℕ, suc, List, [], ◌∷◌,
 use Rattle.p3_theory.specs.Rings.Ring.{Ops, Ring, subtract}
 use Rattle.p3_theory.specs.Polynomials.Polynomial.{at, convolution, quotient_mul, quotient_add, quotient_neg, binomial, embed}
 use Rattle.p3_theory.specs.Lists.Places.{to-tabulate, length-remainder}
-use Rattle.p3_theory.specs.Rings.DotProduct.{dot}
 use Rattle.p3_theory.specs.RingSolver.Solver.{Expr, V, free}
 use Rattle.p3_theory.specs.RingSolver.Formula.{by_ring}
 use Rattle.p3_theory.specs.Inverses.EvenOdd.{interleave, HalvesAt, norm_by_halves, halves_at_two, halves_at_four, halves_found, halves_exact}
 use Rattle.p3_theory.specs.Inverses.ListInverses.{HasNoInverse}
 
 module _ {A : Type 0} (O : Ops A) where
-  abbrev double : A → A
-  double x = O.add x x
-
-  -- the norm of the even places a0, a2 and the odd ones a1, a3, modulo Y^2 = w
-  abbrev pub quartic_norm : A → A → A → A → A → List A
-  quartic_norm w a0 a1 a2 a3 =
-      dot O (a0 ∷ a2 ∷ double (O.neg a1) ∷ []) (a0 ∷ O.mul a2 w ∷ O.mul a3 w ∷ [])
-      ∷ dot O (a0 ∷ a1 ∷ O.neg a3 ∷ []) (double a2 ∷ O.neg a1 ∷ O.mul a3 w ∷ [])
-      ∷ []
-
   -- a less Y * b, modulo Y^4 = w
   abbrev pub less_shifted : A → List A → List A → List A
   less_shifted w a b =
       subtract O (at O a 0) (O.mul w (at O b 3)) ∷ subtract O (at O a 1) (at O b 0) ∷ subtract O (at O a 2) (at O b 1) ∷ subtract O (at O a 3) (at O b 2) ∷ []
 
 module _ {A : Type 0} (R : Ring A) (w : A) where
-  quartic_norm_is : (a0 a1 a2 a3 : A) → quartic_norm R.ops w a0 a1 a2 a3 ≡ norm_by_halves R w 2 (R.zero ∷ R.one ∷ []) (a0 ∷ a2 ∷ []) (a1 ∷ a3 ∷ [])
-  quartic_norm_is a0 a1 a2 a3 =
-      let f : List Expr = binomial free 2 (V 4) in
-      let p : List Expr = V 0 ∷ V 2 ∷ [] in
-      let q : List Expr = V 1 ∷ V 3 ∷ [] in
-      by_ring R (a0 ∷ a1 ∷ a2 ∷ a3 ∷ w ∷ []) (quartic_norm free (V 4) (V 0) (V 1) (V 2) (V 3))
-      (quotient_add free 2 (quotient_mul free 2 f p p) (quotient_neg free 2 (quotient_mul free 2 f (free.zero ∷ free.one ∷ []) (quotient_mul free 2 f q q)))) refl
-
   less_shifted_is : (e0 e1 e2 e3 o0 o1 o2 o3 : A) → less_shifted R.ops w (e0 ∷ e1 ∷ e2 ∷ e3 ∷ []) (o0 ∷ o1 ∷ o2 ∷ o3 ∷ [])
       ≡ quotient_add R.ops 4 (e0 ∷ e1 ∷ e2 ∷ e3 ∷ [])
       (quotient_neg R.ops 4 (quotient_mul R.ops 4 (binomial R.ops 4 w) (R.zero ∷ R.one ∷ R.zero ∷ R.zero ∷ []) (o0 ∷ o1 ∷ o2 ∷ o3 ∷ [])))
@@ -45,7 +26,7 @@ module _ {A : Type 0} (R : Ring A) (w : A) where
 
   -- the norm of even places p and odd ones q, modulo Y^4 = w, from their squares
   octic_norm_is : (p q e o n : List A) → e ≡ quotient_mul R.ops 4 (binomial R.ops 4 w) p p → o ≡ quotient_mul R.ops 4 (binomial R.ops 4 w) q q
-      → n ≡ less_shifted R.ops w e o → n ≡ norm_by_halves R w 4 (R.zero ∷ R.one ∷ R.zero ∷ R.zero ∷ []) p q
+      → n ≡ less_shifted R.ops w e o → n ≡ norm_by_halves R.ops 4 w (R.zero ∷ R.one ∷ R.zero ∷ R.zero ∷ []) p q
   octic_norm_is p q e o n ee eo en =
       let f : List A = binomial R.ops 4 w in
       let x = at R.ops (quotient_mul R.ops 4 f p p) in
@@ -58,7 +39,7 @@ module _ {A : Type 0} (R : Ring A) (w : A) where
 
   module _ (d : ℕ) (u : List A) (lu : length u ≡ suc d) (split : HalvesAt R w (suc d) u)
       (one : interleave (embed R.ops (suc d) R.one) (embed R.ops (suc d) R.zero) ≡ embed R.ops (suc d + suc d) R.one)
-      (a p q n : List A) (lp : length p ≡ suc d) (lq : length q ≡ suc d) (ea : a ≡ interleave p q) (en : n ≡ norm_by_halves R w (suc d) u p q) where
+      (a p q n : List A) (lp : length p ≡ suc d) (lq : length q ≡ suc d) (ea : a ≡ interleave p q) (en : n ≡ norm_by_halves R.ops (suc d) w u p q) where
     abbrev f : List A
     f = binomial R.ops (suc d) w
 
@@ -78,7 +59,7 @@ module _ {A : Type 0} (R : Ring A) (w : A) where
         (ap (λ z. quotient_mul R.ops (suc d + suc d) (binomial R.ops (suc d + suc d) w) z y) (sym ea) ∙ e) in
         none r.0 r.1 (ap (λ z. quotient_mul R.ops (suc d) f z r.0) en ∙ r.2)
 
-  module _ (a n : List A) (a0 a1 a2 a3 : A) (ea : a ≡ a0 ∷ a1 ∷ a2 ∷ a3 ∷ []) (en : n ≡ quartic_norm R.ops w a0 a1 a2 a3) where
+  module _ (a n : List A) (a0 a1 a2 a3 : A) (ea : a ≡ a0 ∷ a1 ∷ a2 ∷ a3 ∷ []) (en : n ≡ norm_by_halves R.ops 2 w (R.zero ∷ R.one ∷ []) (a0 ∷ a2 ∷ []) (a1 ∷ a3 ∷ [])) where
     abbrev f2 : List A
     f2 = binomial R.ops 2 w
 
@@ -86,11 +67,11 @@ module _ {A : Type 0} (R : Ring A) (w : A) where
         → even ≡ quotient_mul R.ops 2 f2 (a0 ∷ a2 ∷ []) v → odd ≡ quotient_mul R.ops 2 f2 (a1 ∷ a3 ∷ []) v
         → r ≡ interleave even (quotient_neg R.ops 2 odd) → quotient_mul R.ops 4 (binomial R.ops 4 w) a r ≡ embed R.ops 4 R.one
     quartic_inverse =
-        found_by_halves 1 (R.zero ∷ R.one ∷ []) refl (halves_at_two R w) refl a (a0 ∷ a2 ∷ []) (a1 ∷ a3 ∷ []) n refl refl ea (en ∙ quartic_norm_is a0 a1 a2 a3)
+        found_by_halves 1 (R.zero ∷ R.one ∷ []) refl (halves_at_two R w) refl a (a0 ∷ a2 ∷ []) (a1 ∷ a3 ∷ []) n refl refl ea en
 
     pub quartic_absent : HasNoInverse R.ops 2 f2 n → HasNoInverse R.ops 4 (binomial R.ops 4 w) a
     quartic_absent =
-        absent_by_halves 1 (R.zero ∷ R.one ∷ []) refl (halves_at_two R w) refl a (a0 ∷ a2 ∷ []) (a1 ∷ a3 ∷ []) n refl refl ea (en ∙ quartic_norm_is a0 a1 a2 a3)
+        absent_by_halves 1 (R.zero ∷ R.one ∷ []) refl (halves_at_two R w) refl a (a0 ∷ a2 ∷ []) (a1 ∷ a3 ∷ []) n refl refl ea en
 
   module _ (a n : List A) (a0 a1 a2 a3 a4 a5 a6 a7 : A) (ea : a ≡ a0 ∷ a1 ∷ a2 ∷ a3 ∷ a4 ∷ a5 ∷ a6 ∷ a7 ∷ []) (e o : List A)
       (ee : e ≡ quotient_mul R.ops 4 (binomial R.ops 4 w) (a0 ∷ a2 ∷ a4 ∷ a6 ∷ []) (a0 ∷ a2 ∷ a4 ∷ a6 ∷ []))

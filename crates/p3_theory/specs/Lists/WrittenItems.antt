@@ -1,21 +1,21 @@
 -- Lists whose every item was written, one place after the other.
-use Rattle.std.proofs.Common.{◌≡◌, List, [], ◌∷◌, length, refl, arith}
+use Rattle.std.proofs.Common.{◌≡◌, ℕ, suc, List, [], ◌∷◌, length, ap, ◌∙◌, arith}
 use Rattle.std.proofs.Math.ListN.{set}
 
--- writing all three items of a list leaves those
-pub triple-set : {A : Type 0} (xs : List A) (u v w : A) → length xs ≡ 3 → set (set (set xs 0 u) 1 v) 2 w ≡ u ∷ v ∷ w ∷ []
-triple-set [] u v w h = absurd (omega arith)
-triple-set (x ∷ []) u v w h = absurd (omega arith)
-triple-set (x ∷ y ∷ []) u v w h = absurd (omega arith)
-triple-set (x ∷ y ∷ z ∷ []) u v w h = refl
-triple-set (x ∷ y ∷ z ∷ t ∷ xs) u v w h = absurd (omega arith)
+module _ {A : Type 0} where
+  -- the list with the items ys written from place i on
+  abbrev pub written : List A → ℕ → List A → List A
+  written xs i [] = xs
+  written xs i (y ∷ ys) = written (set xs i y) (suc i) ys
 
--- writing all five items of a list leaves those
-pub quintuple-set : {A : Type 0} (xs : List A) (s t u v w : A) → length xs ≡ 5 → set (set (set (set (set xs 0 s) 1 t) 2 u) 3 v) 4 w ≡ s ∷ t ∷ u ∷ v ∷ w ∷ []
-quintuple-set [] s t u v w h = absurd (omega arith)
-quintuple-set (a ∷ []) s t u v w h = absurd (omega arith)
-quintuple-set (a ∷ b ∷ []) s t u v w h = absurd (omega arith)
-quintuple-set (a ∷ b ∷ c ∷ []) s t u v w h = absurd (omega arith)
-quintuple-set (a ∷ b ∷ c ∷ d ∷ []) s t u v w h = absurd (omega arith)
-quintuple-set (a ∷ b ∷ c ∷ d ∷ e ∷ []) s t u v w h = refl
-quintuple-set (a ∷ b ∷ c ∷ d ∷ e ∷ f ∷ xs) s t u v w h = absurd (omega arith)
+  written-rest : (x : A) (xs : List A) (i : ℕ) (ys : List A) → written (x ∷ xs) (suc i) ys ≡ x ∷ written xs i ys
+  written-rest x xs i [] = λ j. x ∷ xs
+  written-rest x xs i (y ∷ ys) = written-rest x (set xs i y) (suc i) ys
+
+  -- writing each item of a list leaves those
+  pub all_written : (xs ys : List A) → length xs ≡ length ys → written xs 0 ys ≡ ys
+  all_written [] [] h = λ j. []
+  all_written (x ∷ xs) [] h = absurd (omega arith)
+  all_written [] (y ∷ ys) h = absurd (omega arith)
+  all_written (x ∷ xs) (y ∷ ys) h =
+      let rest : length xs ≡ length ys = omega arith in written-rest y xs 0 ys ∙ ap (λ l. y ∷ l) (all_written xs ys rest)

@@ -40,10 +40,6 @@ module _ {A : Type 0} (R : Ring A) where
   place_of_product D h w a b la lb k lt =
       sym (get-tabulate D (product_place R.ops D w a b) k R.zero lt) ∙ ap (λ l. at R.ops l k) (product_places D h w a b la lb)
 
-  -- a sum of one product or more may begin with the first of them
-  pub first_sum-one : (s : ℕ → A) → first_sum R.zero R.add 1 s ≡ s 0
-  first_sum-one s = zero-add R (s 0)
-
   -- no product stands at X^D or above for the last coefficient
   pub last_place : (D k : ℕ) → D - 1 - k ≡ 0 → (w low : A) (a b : List A)
       → low ≡ first_sum R.zero R.add (k + 1) (λ i. R.mul (get_or a (0 + i) R.zero) (get_or b (k - i) R.zero)) → low ≡ product_place R.ops D w a b k

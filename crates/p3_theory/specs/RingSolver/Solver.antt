@@ -1,5 +1,5 @@
 -- A commutative ring, expressions over its elements, and polynomials as their normal form.
-use Rattle.std.specs.Prelude.{◌≡◌, ℕ, zero, suc, ◌+◌, ◌*◌, Bool, true, false, ◌&&◌, eqb, ltb, List, [], ◌∷◌}
+use Rattle.std.specs.Prelude.{ℕ, zero, suc, ◌+◌, ◌*◌, Bool, true, false, ◌&&◌, eqb, ltb, List, [], ◌∷◌}
 use Rattle.p3_theory.specs.Rings.Ring.{Ops}
 
 -- an expression: a variable by its index, a numeral, a sum, a product, a negation
@@ -97,50 +97,3 @@ same a b = is_zero (norm (a ⊖ b))
 -- the ring operations of expressions: what is defined over any operations has its expression by these
 abbrev pub free : Ops Expr
 free = record { zero = K 0; one = K 1; add = ◌⊕◌; neg = λ a. ⊝ a; mul = ◌⊗◌ }
-
--- a known equation, left ≡ right, and the product of variables that it takes away
-pub record Rule : Type 0 where
-  pub lead : List ℕ
-  pub left : Expr
-  pub right : Expr
-
-abbrev pub mono : List ℕ → Expr
-mono [] = K 1
-mono (i ∷ is) = V i ⊗ mono is
-
-abbrev pub both : ℕ → Poly × Poly → Poly × Poly → Poly × Poly
-both j s t = (node j s.0 t.0, node j s.1 t.1)
-
--- u and v such that the polynomial is x_i * u + v
-abbrev pub take_var : ℕ → Poly → Poly × Poly
-take_var i (C a b) = (C 0 0, C a b)
-take_var i (X j p q) =
-    elim (eqb i j) [ true ↦ (p, q) | false ↦ elim (ltb i j) [ true ↦ (C 0 0, X j p q) | false ↦ both j (take_var i p) (take_var i q) ] ]
-
--- u and v such that the polynomial is mono m * u + v
-abbrev pub take_mono : List ℕ → Poly → Poly × Poly
-take_mono [] p = (p, C 0 0)
-take_mono (i ∷ is) p =
-    let t = take_var i p in
-    let s = take_mono is t.0 in
-    (s.0, add_poly (mul_var i s.1) t.1)
-
--- the polynomial with g in place of mono m
-abbrev pub replace : List ℕ → Poly → Poly → Poly
-replace m g p = let s = take_mono m p in add_poly (mul_poly s.0 g) s.1
-
-abbrev pub by_rules : List Rule → Poly → Poly
-by_rules [] p = p
-by_rules (r ∷ rs) p = by_rules rs (replace r.lead (norm (mono r.lead ⊕ r.right ⊖ r.left)) p)
-
-abbrev pub by_rules_times : ℕ → List Rule → Poly → Poly
-by_rules_times zero rs p = p
-by_rules_times (suc n) rs p = by_rules_times n rs (by_rules rs p)
-
-abbrev pub same_by : ℕ → List Rule → Expr → Expr → Bool
-same_by n rs a b = is_zero (by_rules_times n rs (norm (a ⊖ b)))
-
--- each rule's equation holds
-abbrev pub Hold : {A : Type 0} → Ops A → List A → List Rule → Type 0
-Hold o env [] = Unit {0}
-Hold o env (r ∷ rs) = (eval o env r.left ≡ eval o env r.right) × Hold o env rs

@@ -1,7 +1,7 @@
 -- The normal form of an expression has its value.
-use Rattle.std.proofs.Common.{◌≡◌, ℕ, zero, suc, ◌+◌, ◌*◌, Bool, true, false, ◌&&◌, eqb, ltb, List, [], ◌∷◌, refl, sym, ap, ap₂, ◌∙◌, eqb-true, arith, add-suc, add-zero, mul-zero}
+use Rattle.std.proofs.Common.{◌≡◌, ℕ, zero, suc, ◌+◌, ◌*◌, Bool, true, false, ◌&&◌, eqb, ltb, List, refl, sym, ap, ap₂, ◌∙◌, eqb-true, arith, add-suc, add-zero, mul-zero}
 use Rattle.p3_theory.specs.Rings.Ring.{Ops, RingLaws}
-use Rattle.p3_theory.specs.RingSolver.Solver.{Expr, ◌⊕◌, ◌⊗◌, ⊝◌, ◌⊖◌, V, K, Poly, C, X, at, nat, eval, node, add_const, add_node, add_poly, neg_poly, scale, mul_var, mul_poly, norm, is_zero, same, Rule, mono, both, take_var, take_mono, replace, by_rules, by_rules_times, same_by, Hold}
+use Rattle.p3_theory.specs.RingSolver.Solver.{Expr, ◌⊕◌, ◌⊗◌, ⊝◌, ◌⊖◌, V, K, Poly, C, X, at, nat, eval, node, add_const, add_node, add_poly, neg_poly, scale, mul_var, mul_poly, norm, is_zero, same}
 
 pub and_true : (a b : Bool) → a && b ≡ true → (a ≡ true) × (b ≡ true)
 and_true true true h = (refl, refl)
@@ -29,9 +29,6 @@ module _ {A : Type 0} (o : Ops A) (L : RingLaws o) where
   cancel : (x y z : A) → add x z ≡ add y z → x ≡ y
   cancel x y z h =
       sym (add_zero x) ∙ ap (add x) (sym (add_neg z)) ∙ sym (add_assoc x z (neg z)) ∙ ap (λ w. add w (neg z)) h ∙ add_assoc y z (neg z) ∙ ap (add y) (add_neg z) ∙ add_zero y
-
-  pub cancel_left : (x y : A) → add x (add (neg x) y) ≡ y
-  cancel_left x y = sym (add_assoc x (neg x) y) ∙ ap (λ w. add w y) (add_neg x) ∙ zero_add y
 
   pub mul_zero : (x : A) → mul x 𝟎 ≡ 𝟎
   mul_zero x =
@@ -111,10 +108,6 @@ module _ {A : Type 0} (o : Ops A) (L : RingLaws o) where
   con_nat : (n : ℕ) → con n 0 ≡ nat o n
   unfolding con
   con_nat n = ap (add (nat o n)) neg_zero ∙ add_zero (nat o n)
-
-  split_two : (x y a b c d : A) → add (mul y (add (mul x a) b)) (add (mul x c) d) ≡ add (mul x (add (mul y a) c)) (add (mul y b) d)
-  split_two x y a b c d =
-      simp (mul_add, mul_left_comm, add_assoc, add_comm, add_left_comm)
 
   -- the value of a polynomial
   abbrev value : List A → Poly → A
@@ -207,47 +200,3 @@ module _ {A : Type 0} (o : Ops A) (L : RingLaws o) where
   pub ring_eq : (a b : Expr) (env : List A) → same a b ≡ true → eval o env a ≡ eval o env b
   ring_eq a b env h =
       cancel (eval o env a) (eval o env b) (neg (eval o env b)) (sym (value-norm env (a ⊖ b)) ∙ value-zero env (norm (a ⊖ b)) h ∙ sym (add_neg (eval o env b)))
-
-  value-take_var : (env : List A) (i : ℕ) (p : Poly) → value env p ≡ add (mul (at 𝟎 env i) (value env (take_var i p).0)) (value env (take_var i p).1)
-  value-take_var env i (C a b) = sym (ap (λ u. add u (con a b)) (ap (mul (at 𝟎 env i)) con_zero' ∙ mul_zero (at 𝟎 env i)) ∙ zero_add (con a b))
-  value-take_var env i (X j p q) = same_var (eqb i j) refl (value-take_var env i p) (value-take_var env i q)
-    where
-      less_var : (t : Bool) → value env p ≡ add (mul (at 𝟎 env i) (value env (take_var i p).0)) (value env (take_var i p).1) → value env q ≡ add (mul (at 𝟎 env i) (value env (take_var i q).0)) (value env (take_var i q).1) → (let s : Poly × Poly = elim t [ true ↦ (C 0 0, X j p q) | false ↦ both j (take_var i p) (take_var i q) ] in value env (X j p q) ≡ add (mul (at 𝟎 env i) (value env s.0)) (value env s.1))
-      less_var true hp hq = sym (ap (λ u. add u (value env (X j p q))) (ap (mul (at 𝟎 env i)) con_zero' ∙ mul_zero (at 𝟎 env i)) ∙ zero_add (value env (X j p q)))
-      less_var false hp hq =
-          ap₂ (λ u v. add (mul (at 𝟎 env j) u) v) hp hq ∙ split_two (at 𝟎 env i) (at 𝟎 env j) (value env (take_var i p).0) (value env (take_var i p).1) (value env (take_var i q).0) (value env (take_var i q).1) ∙ sym (ap₂ (λ u v. add (mul (at 𝟎 env i) u) v) (value-node env j (take_var i p).0 (take_var i q).0) (value-node env j (take_var i p).1 (take_var i q).1))
-
-      same_var : (t : Bool) → eqb i j ≡ t → value env p ≡ add (mul (at 𝟎 env i) (value env (take_var i p).0)) (value env (take_var i p).1) → value env q ≡ add (mul (at 𝟎 env i) (value env (take_var i q).0)) (value env (take_var i q).1) → (let s : Poly × Poly = elim t [ true ↦ (p, q) | false ↦ elim (ltb i j) [ true ↦ (C 0 0, X j p q) | false ↦ both j (take_var i p) (take_var i q) ] ] in value env (X j p q) ≡ add (mul (at 𝟎 env i) (value env s.0)) (value env s.1))
-      same_var true e hp hq = ap (λ k. add (mul (at 𝟎 env k) (value env p)) (value env q)) (sym (eqb-true i j e))
-      same_var false e hp hq = less_var (ltb i j) hp hq
-
-  value-take_mono : (env : List A) (m : List ℕ) (p : Poly) → value env p ≡ add (mul (eval o env (mono m)) (value env (take_mono m p).0)) (value env (take_mono m p).1)
-  value-take_mono env [] p = sym (ap₂ add (mul_comm 𝟏 (value env p) ∙ mul_one (value env p)) con_zero' ∙ add_zero (value env p))
-  value-take_mono env (i ∷ is) p =
-      let t = take_var i p in
-      let s = take_mono is t.0 in
-      value-take_var env i p ∙ ap (λ u. add (mul (at 𝟎 env i) u) (value env t.1)) (value-take_mono env is t.0) ∙ ap (λ u. add u (value env t.1)) (mul_add (at 𝟎 env i) (mul (eval o env (mono is)) (value env s.0)) (value env s.1)) ∙ add_assoc (mul (at 𝟎 env i) (mul (eval o env (mono is)) (value env s.0))) (mul (at 𝟎 env i) (value env s.1)) (value env t.1) ∙ ap₂ add (sym (mul_assoc (at 𝟎 env i) (eval o env (mono is)) (value env s.0))) (ap (λ u. add u (value env t.1)) (sym (value-mul_var env i s.1)) ∙ sym (value-add env (mul_var i s.1) t.1))
-
-  value-replace : (env : List A) (m : List ℕ) (g p : Poly) → eval o env (mono m) ≡ value env g → value env (replace m g p) ≡ value env p
-  value-replace env m g p h =
-      let s = take_mono m p in
-      value-add env (mul_poly s.0 g) s.1 ∙ ap (λ u. add u (value env s.1)) (value-mul env s.0 g ∙ mul_comm (value env s.0) (value env g) ∙ ap (λ u. mul u (value env s.0)) (sym h)) ∙ sym (value-take_mono env m p)
-
-  value-rule : (env : List A) (m l r : Expr) → eval o env l ≡ eval o env r → eval o env m ≡ value env (norm (m ⊕ r ⊖ l))
-  value-rule env m l r h =
-      sym (value-norm env (m ⊕ r ⊖ l) ∙ ap (λ u. add (add (eval o env m) (eval o env r)) (neg u)) h ∙ add_assoc (eval o env m) (eval o env r) (neg (eval o env r)) ∙ ap (add (eval o env m)) (add_neg (eval o env r)) ∙ add_zero (eval o env m))
-
-  value-by_rules : (env : List A) (rs : List Rule) (p : Poly) → Hold o env rs → value env (by_rules rs p) ≡ value env p
-  value-by_rules env [] p h = refl
-  value-by_rules env (r ∷ rs) p h =
-      let g = norm (mono r.lead ⊕ r.right ⊖ r.left) in
-      value-by_rules env rs (replace r.lead g p) h.1 ∙ value-replace env r.lead g p (value-rule env (mono r.lead) r.left r.right h.0)
-
-  value-by_rules_times : (env : List A) (n : ℕ) (rs : List Rule) (p : Poly) → Hold o env rs → value env (by_rules_times n rs p) ≡ value env p
-  value-by_rules_times env zero rs p h = refl
-  value-by_rules_times env (suc n) rs p h = value-by_rules_times env n rs (by_rules rs p) h ∙ value-by_rules env rs p h
-
-  -- two expressions with one normal form by known equations have one value
-  pub ring_eq_by : (n : ℕ) (rs : List Rule) (a b : Expr) (env : List A) → Hold o env rs → same_by n rs a b ≡ true → eval o env a ≡ eval o env b
-  ring_eq_by n rs a b env hs h =
-      cancel (eval o env a) (eval o env b) (neg (eval o env b)) (sym (value-norm env (a ⊖ b)) ∙ sym (value-by_rules_times env n rs (norm (a ⊖ b)) hs) ∙ value-zero env (by_rules_times n rs (norm (a ⊖ b))) h ∙ sym (add_neg (eval o env b)))

@@ -1,25 +1,20 @@
-use Rattle.std.proofs.Common.{◌∙◌, [], ◌∷◌, ap, ap₂, sym}
-use Rattle.p3_theory.specs.Rings.Ring.{ring_of}
+use Rattle.std.proofs.Common.{◌++◌, ◌∙◌, [], ◌∷◌, ap, sym}
 use Rattle.p3_theory.specs.Polynomials.Polynomial.{quotient_mul, binomial}
 use Rattle.p3_theory.specs.Lists.ListItems.{items_are}
-use Rattle.p3_theory.specs.Products.CubicProduct.{cubic_square}
+use Rattle.p3_theory.specs.RingSolver.Solver.{V, free}
+use Rattle.p3_theory.specs.RingSolver.Reify.{yes}
+use Rattle.p3_theory.specs.RingSolver.StraightLine.{reads_list, sum_read, product_read, scaled_read, answer_read, formula, variables}
 use Rattle.p3_products.proofs.binomial_products.cubic_square.Goals as goal
 
 pub returns : goal.returns
 returns g c =
     let o = g.A.PrimeCharacteristicRing.ops in
     let m = g.met.A.PrimeCharacteristicRing in
+    let x = g.met.A.Algebra in
     let w = g.A.Algebra.embed c.args.w in
-    let a2_w = g.met.A.Algebra.mixed_muls.answer _ _ _ c.mul-a2_w.ensures in
-    let e0 = m.adds.answer _ _ _ c.add-c0.ensures
-    ∙ ap₂ o.add c.square-a0_a0.ensures (c.double-two_a1_a2_w.ensures ∙ ap (λ z. o.add z z) (m.muls.answer _ _ _ c.mul-a1_a2_w.ensures ∙ ap (o.mul c.index-a-1.result) a2_w)) in
-    let e1 = m.adds.answer _ _ _ c.add-c1.ensures
-    ∙ ap₂ o.add (m.muls.answer _ _ _ c.mul-a2_a2_w.ensures ∙ ap (λ z. o.mul z c.index-a-2.result) a2_w)
-    (c.double-two_a0_a1.ensures ∙ ap (λ z. o.add z z) (m.muls.answer _ _ _ c.mul-a0_a1.ensures)) in
-    let e2 = m.adds.answer _ _ _ c.add-c2.ensures
-    ∙ ap₂ o.add c.square-a1_a1.ensures (c.double-two_a0_a2.ensures ∙ ap (λ z. o.add z z) (m.muls.answer _ _ _ c.mul-a0_a2.ensures)) in
+    let a = c.index-a-0.result ∷ c.index-a-1.result ∷ c.index-a-2.result ∷ [] in
     c.copy_from_slice.ensures.after
-    ∙ (λ i. e0 i ∷ e1 i ∷ e2 i ∷ [])
-    ∙ cubic_square (ring_of m.ring) c.index-a-0.result c.index-a-1.result c.index-a-2.result w
-    ∙ ap (λ l. quotient_mul o 3 (binomial o 3 w) l l)
-    (sym (items_are c.args.a.now (c.index-a-0.result ∷ c.index-a-1.result ∷ c.index-a-2.result ∷ []) c.requires.input (c.index-a-0.is, (c.index-a-1.is, (c.index-a-2.is, tt)))))
+    ∙ formula o (a ++ w ∷ []) (c.add-c0.result ∷ c.add-c1.result ∷ c.add-c2.result ∷ []) m.ring
+    (λ P a0 a1 a2 w_read. search (reads_list, sum_read o P m.adds, product_read o P m.muls, scaled_read o P x.mixed_muls, c.add-c0.ensures, c.add-c1.ensures, c.add-c2.ensures, c.mul-a1_a2_w.ensures, c.mul-a2_a2_w.ensures, c.mul-a0_a1.ensures, c.mul-a0_a2.ensures, c.mul-a2_w.ensures, answer_read o P c.square-a0_a0.ensures, answer_read o P c.square-a1_a1.ensures, answer_read o P c.double-two_a1_a2_w.ensures, answer_read o P c.double-two_a0_a1.ensures, answer_read o P c.double-two_a0_a2.ensures) depth 99 fits 99999)
+    (quotient_mul free 3 (binomial free 3 (V 3)) (variables 0 3) (variables 0 3)) yes
+    ∙ ap (λ l. quotient_mul o 3 (binomial o 3 w) l l) (sym (items_are c.args.a.now a c.requires.input search))

@@ -1,16 +1,23 @@
-use Rattle.std.proofs.Common.{ap, ap₂, ◌∙◌}
-use Rattle.p3_theory.specs.Rings.Ring.{ring_of}
-use Rattle.p3_theory.specs.Products.QuadraticProduct.{pair-set, quadratic_product}
+use Rattle.std.proofs.Common.{◌++◌, ◌∙◌, [], ◌∷◌, ap₂, sym}
+use Rattle.p3_theory.specs.Polynomials.Polynomial.{quotient_mul, binomial}
+use Rattle.p3_theory.specs.Lists.ListItems.{items_are}
+use Rattle.p3_theory.specs.Lists.WrittenItems.{all_written}
+use Rattle.p3_theory.specs.RingSolver.Solver.{V, free}
+use Rattle.p3_theory.specs.RingSolver.Reify.{yes}
+use Rattle.p3_theory.specs.RingSolver.StraightLine.{reads_list, sum_read, product_read, scaled_read, formula, variables}
 use Rattle.p3_products.proofs.binomial_products.quadratic_mul.Goals as goal
 
 pub returns : goal.returns
 returns g c =
     let o = g.A.PrimeCharacteristicRing.ops in
     let m = g.met.A.PrimeCharacteristicRing in
-    pair-set c.args.res.now c.add-low.result c.add-high.result c.requires.room
-    ∙ quadratic_product (ring_of m.ring) (g.A.Algebra.embed c.args.w) c.args.a.now c.args.b.now
-    c.index-a-0.result c.index-a-1.result c.index-b-0.result c.index-b-1.result c.add-low.result c.add-high.result
-    c.requires.left c.requires.right c.index-a-0.is c.index-a-1.is c.index-b-0.is c.index-b-1.is
-    (m.adds.answer _ _ _ c.add-low.ensures ∙ ap₂ o.add (m.muls.answer _ _ _ c.mul-constant.ensures)
-    (m.muls.answer _ _ _ c.mul-folded.ensures ∙ ap (o.mul c.index-a-1.result) (g.met.A.Algebra.mixed_muls.answer _ _ _ c.mul-b1_w.ensures)))
-    (m.adds.answer _ _ _ c.add-high.ensures ∙ ap₂ o.add (m.muls.answer _ _ _ c.mul-outer.ensures) (m.muls.answer _ _ _ c.mul-inner.ensures))
+    let x = g.met.A.Algebra in
+    let w = g.A.Algebra.embed c.args.w in
+    let a = c.index-a-0.result ∷ c.index-a-1.result ∷ [] in
+    let b = c.index-b-0.result ∷ c.index-b-1.result ∷ [] in
+    let places = c.add-low.result ∷ c.add-high.result ∷ [] in
+    all_written c.args.res.now places c.requires.room
+    ∙ formula o (a ++ b ++ w ∷ []) places m.ring
+    (λ P a0 a1 b0 b1 w_read. search (reads_list, sum_read o P m.adds, product_read o P m.muls, scaled_read o P x.mixed_muls, c.add-low.ensures, c.add-high.ensures, c.mul-constant.ensures, c.mul-folded.ensures, c.mul-outer.ensures, c.mul-inner.ensures, c.mul-b1_w.ensures) depth 99 fits 99999)
+    (quotient_mul free 2 (binomial free 2 (V 4)) (variables 0 2) (variables 2 2)) yes
+    ∙ ap₂ (quotient_mul o 2 (binomial o 2 w)) (sym (items_are c.args.a.now a c.requires.left search)) (sym (items_are c.args.b.now b c.requires.right search))

@@ -1,21 +1,22 @@
-use Rattle.std.proofs.Common.{◌∙◌, [], ◌∷◌, ap₂, sym}
-use Rattle.p3_theory.specs.Rings.Ring.{ring_of}
+use Rattle.std.proofs.Common.{◌++◌, ◌∙◌, [], ◌∷◌, ap₂, sym}
 use Rattle.p3_theory.specs.Polynomials.Polynomial.{quotient_mul}
-use Rattle.p3_theory.specs.Rings.DotProduct.{dot}
 use Rattle.p3_theory.specs.Lists.ListItems.{items_are}
-use Rattle.p3_theory.specs.Products.Trinomials.{cubic_trinomial, cubic_product}
-use Rattle.p3_theory.specs.Lists.WrittenItems.{triple-set}
+use Rattle.p3_theory.specs.Products.Trinomials.{cubic_trinomial}
+use Rattle.p3_theory.specs.Lists.WrittenItems.{all_written}
+use Rattle.p3_theory.specs.RingSolver.Solver.{free}
+use Rattle.p3_theory.specs.RingSolver.Reify.{yes}
+use Rattle.p3_theory.specs.RingSolver.StraightLine.{reads_list, sum_read, answer_read, formula, variables}
 use Rattle.p3_products.proofs.cubic_extension.trinomial_cubic_mul.Goals as goal
 
 pub returns : goal.returns
 returns g c =
     let o = g.R.PrimeCharacteristicRing.ops in
     let m = g.met.R.PrimeCharacteristicRing in
-    let outer = m.adds.answer _ _ _ c.add-b0_plus_b2.ensures in
-    let inner = m.adds.answer _ _ _ c.add-b1_plus_b2.ensures in
-    let e1 = c.dot_product-c1.ensures ∙ (λ i. dot o (c.index-a-0.result ∷ c.index-a-1.result ∷ c.index-a-2.result ∷ []) (c.index-b-1.result ∷ outer i ∷ inner i ∷ [])) in
-    let e2 = c.dot_product-c2.ensures ∙ (λ i. dot o (c.index-a-0.result ∷ c.index-a-1.result ∷ c.index-a-2.result ∷ []) (c.index-b-2.result ∷ c.index-b-1.result ∷ outer i ∷ [])) in
-    triple-set c.args.res.now c.dot_product-c0.result c.dot_product-c1.result c.dot_product-c2.result c.requires.room
-    ∙ (λ i. c.dot_product-c0.ensures i ∷ e1 i ∷ e2 i ∷ [])
-    ∙ cubic_product (ring_of m.ring) c.index-a-0.result c.index-a-1.result c.index-a-2.result c.index-b-0.result c.index-b-1.result c.index-b-2.result
-    ∙ ap₂ (quotient_mul o 3 (cubic_trinomial o)) (sym (items_are c.args.a.now (c.index-a-0.result ∷ c.index-a-1.result ∷ c.index-a-2.result ∷ []) c.requires.left (c.index-a-0.is, (c.index-a-1.is, (c.index-a-2.is, tt))))) (sym (items_are c.args.b.now (c.index-b-0.result ∷ c.index-b-1.result ∷ c.index-b-2.result ∷ []) c.requires.right (c.index-b-0.is, (c.index-b-1.is, (c.index-b-2.is, tt)))))
+    let a = c.index-a-0.result ∷ c.index-a-1.result ∷ c.index-a-2.result ∷ [] in
+    let b = c.index-b-0.result ∷ c.index-b-1.result ∷ c.index-b-2.result ∷ [] in
+    let places = c.dot_product-c0.result ∷ c.dot_product-c1.result ∷ c.dot_product-c2.result ∷ [] in
+    all_written c.args.res.now places c.requires.room
+    ∙ formula o (a ++ b) places m.ring
+    (λ P a0 a1 a2 b0 b1 b2. search (reads_list, sum_read o P m.adds, c.add-b0_plus_b2.ensures, c.add-b1_plus_b2.ensures, answer_read o P c.dot_product-c0.ensures, answer_read o P c.dot_product-c1.ensures, answer_read o P c.dot_product-c2.ensures) depth 99 fits 99999)
+    (quotient_mul free 3 (cubic_trinomial free) (variables 0 3) (variables 3 3)) yes
+    ∙ ap₂ (quotient_mul o 3 (cubic_trinomial o)) (sym (items_are c.args.a.now a c.requires.left search)) (sym (items_are c.args.b.now b c.requires.right search))

@@ -1,26 +1,22 @@
-use Rattle.std.proofs.Common.{◌∙◌, [], ◌∷◌, ap₂, sym}
-use Rattle.p3_theory.specs.Rings.Ring.{ring_of, subtract}
+use Rattle.std.proofs.Common.{◌++◌, ◌∙◌, [], ◌∷◌, ap₂, sym}
 use Rattle.p3_theory.specs.Polynomials.Polynomial.{quotient_mul}
 use Rattle.p3_theory.specs.Lists.ListItems.{items_are}
-use Rattle.p3_theory.specs.Products.Trinomials.{quintic_trinomial, quintic_product}
-use Rattle.p3_theory.specs.Lists.WrittenItems.{quintuple-set}
+use Rattle.p3_theory.specs.Products.Trinomials.{quintic_trinomial}
+use Rattle.p3_theory.specs.Lists.WrittenItems.{all_written}
+use Rattle.p3_theory.specs.RingSolver.Solver.{free}
+use Rattle.p3_theory.specs.RingSolver.Reify.{yes}
+use Rattle.p3_theory.specs.RingSolver.StraightLine.{reads_list, sum_read, difference_read, product_read, answer_read, formula, variables}
 use Rattle.p3_products.proofs.quintic_extension.trinomial_quintic_mul.Goals as goal
 
 pub returns : goal.returns
 returns g c =
     let o = g.R.PrimeCharacteristicRing.ops in
     let m = g.met.R.PrimeCharacteristicRing in
-    let c0 = m.muls.answer _ _ _ c.mul-c0.ensures in
-    let c8 = m.muls.answer _ _ _ c.mul-c8.ensures in
-    let less = m.subs.answer _ _ _ c.sub-c5_minus_c8.ensures ∙ ap₂ (subtract o) c.dot_product-c5.ensures c8 in
-    let e0 = m.adds.answer _ _ _ c.add-r0.ensures ∙ ap₂ o.add c0 less in
-    let e1 = m.adds.answer _ _ _ c.add-r1.ensures ∙ ap₂ o.add c.dot_product-c1.ensures c.dot_product-c6.ensures in
-    let e2 = m.adds.answer _ _ _ c.add-r2.ensures ∙ ap₂ o.add (m.subs.answer _ _ _ c.sub-rest2.ensures ∙ ap₂ (subtract o) c.dot_product-c2.ensures less) c.dot_product-c7.ensures in
-    let e3 = m.adds.answer _ _ _ c.add-r3.ensures ∙ ap₂ o.add (m.subs.answer _ _ _ c.sub-rest3.ensures ∙ ap₂ (subtract o) c.dot_product-c3.ensures c.dot_product-c6.ensures) c8 in
-    let e4 = m.subs.answer _ _ _ c.sub-r4.ensures ∙ ap₂ (subtract o) c.dot_product-c4.ensures c.dot_product-c7.ensures in
-    quintuple-set c.args.res.now c.add-r0.result c.add-r1.result c.add-r2.result c.add-r3.result c.sub-r4.result c.requires.room
-    ∙ (λ i. e0 i ∷ e1 i ∷ e2 i ∷ e3 i ∷ e4 i ∷ [])
-    ∙ quintic_product (ring_of m.ring) c.index-a-0.result c.index-a-1.result c.index-a-2.result c.index-a-3.result c.index-a-4.result c.index-b-0.result c.index-b-1.result c.index-b-2.result c.index-b-3.result c.index-b-4.result
-    ∙ ap₂ (quotient_mul o 5 (quintic_trinomial o))
-    (sym (items_are c.args.a.now (c.index-a-0.result ∷ c.index-a-1.result ∷ c.index-a-2.result ∷ c.index-a-3.result ∷ c.index-a-4.result ∷ []) c.requires.left (c.index-a-0.is, (c.index-a-1.is, (c.index-a-2.is, (c.index-a-3.is, (c.index-a-4.is, tt)))))))
-    (sym (items_are c.args.b.now (c.index-b-0.result ∷ c.index-b-1.result ∷ c.index-b-2.result ∷ c.index-b-3.result ∷ c.index-b-4.result ∷ []) c.requires.right (c.index-b-0.is, (c.index-b-1.is, (c.index-b-2.is, (c.index-b-3.is, (c.index-b-4.is, tt)))))))
+    let a = c.index-a-0.result ∷ c.index-a-1.result ∷ c.index-a-2.result ∷ c.index-a-3.result ∷ c.index-a-4.result ∷ [] in
+    let b = c.index-b-0.result ∷ c.index-b-1.result ∷ c.index-b-2.result ∷ c.index-b-3.result ∷ c.index-b-4.result ∷ [] in
+    let places = c.add-r0.result ∷ c.add-r1.result ∷ c.add-r2.result ∷ c.add-r3.result ∷ c.sub-r4.result ∷ [] in
+    all_written c.args.res.now places c.requires.room
+    ∙ formula o (a ++ b) places m.ring
+    (λ P a0 a1 a2 a3 a4 b0 b1 b2 b3 b4. search (reads_list, sum_read o P m.adds, difference_read o P m.subs, product_read o P m.muls, c.add-r0.ensures, c.add-r1.ensures, c.add-r2.ensures, c.add-r3.ensures, c.sub-r4.ensures, c.sub-rest2.ensures, c.sub-rest3.ensures, c.sub-c5_minus_c8.ensures, c.mul-c0.ensures, c.mul-c8.ensures, answer_read o P c.dot_product-c1.ensures, answer_read o P c.dot_product-c2.ensures, answer_read o P c.dot_product-c3.ensures, answer_read o P c.dot_product-c4.ensures, answer_read o P c.dot_product-c5.ensures, answer_read o P c.dot_product-c6.ensures, answer_read o P c.dot_product-c7.ensures) depth 99 fits 99999)
+    (quotient_mul free 5 (quintic_trinomial free) (variables 0 5) (variables 5 5)) yes
+    ∙ ap₂ (quotient_mul o 5 (quintic_trinomial o)) (sym (items_are c.args.a.now a c.requires.left search)) (sym (items_are c.args.b.now b c.requires.right search))
