@@ -1,2 +1,2 @@
-mod Sums
+mod ArrayItems
 mod WordProducts

@@ -6,7 +6,7 @@ ghost use Rattle.p3_bench_prime.specs.Elements.{of};
 
 use crate::baby_bear::{BabyBear, BabyBearModulus};
 use crate::binomial_constants::BinomialConstants;
-use crate::form::{Form, Plain};
+use crate::form::{Form, Plain, ShortForm};
 use crate::fp::Fp;
 use crate::small::{F2, F17, F17b, F31, M2, M15, M17, M17b, M31, Z15};
 use crate::trinomial_constants::{CubicConstants, QuinticConstants};
@@ -415,7 +415,7 @@ pub type F31c = Complex<F31>;
 
 /// The value with the residues of these numbers at `X^0` and at `X^1`.
 pub(crate) fn complex(real: u32, imag: u32) -> F31c
-    ensures { result ≡ complex_of (of ⟦<Plain<M31> as Form>⟧) (real ∷ imag ∷ []) }
+    ensures { result ≡ complex_of (of ⟦<Plain<M31> as Form<u32>>⟧) (real ∷ imag ∷ []) }
 {
     let real_part = F31::new(real);
     let imaginary_part = F31::new(imag);
@@ -427,9 +427,9 @@ impl ComplexExtendable for F31 {
     ghost use Rattle.p3_bench_prime.specs.Elements.{is};
     ghost use Rattle.p3_bench_residues.specs.Halves.{two_has_inverse};
 
-    ghost complex_generator = { λ i. of ⟦<Plain<M31> as Form>⟧ (get_or (3 ∷ 2 ∷ []) i 0) };
+    ghost complex_generator = { λ i. of ⟦<Plain<M31> as Form<u32>>⟧ (get_or (3 ∷ 2 ∷ []) i 0) };
 
-    ghost circle_two_adic = { λ bits. complex_of (of ⟦<Plain<M31> as Form>⟧) (get_or ((1 ∷ 0 ∷ []) ∷ (30 ∷ 0 ∷ []) ∷ (0 ∷ 30 ∷ []) ∷ (4 ∷ 27 ∷ []) ∷ (7 ∷ 13 ∷ []) ∷ (2 ∷ 11 ∷ []) ∷ []) bits []) };
+    ghost circle_two_adic = { λ bits. complex_of (of ⟦<Plain<M31> as Form<u32>>⟧) (get_or ((1 ∷ 0 ∷ []) ∷ (30 ∷ 0 ∷ []) ∷ (0 ∷ 30 ∷ []) ∷ (4 ∷ 27 ∷ []) ∷ (7 ∷ 13 ∷ []) ∷ (2 ∷ 11 ∷ []) ∷ []) bits []) };
 
     ghost CIRCLE_TWO_ADICITY = { 5 };
 
@@ -447,33 +447,33 @@ impl ComplexExtendable for F31 {
         complex(row[0], row[1])
     }
 
-    ghost two_has_an_inverse = { two_has_inverse (is ⟦<Plain<M31> as Form>⟧) refl };
+    ghost two_has_an_inverse = { two_has_inverse (is ⟦<Plain<M31> as Form<u32>>⟧) refl };
 }
 
-impl<W: Form> ByteCountFits<2> for Fp<W> {
+impl<W: ShortForm> ByteCountFits<2> for Fp<W> {
     ghost fits = { lit< tt };
 }
 
-impl<W: Form> NestedByteCountFits<2, 2> for Fp<W> {
+impl<W: ShortForm> NestedByteCountFits<2, 2> for Fp<W> {
     ghost nested_fits = { lit< tt };
 }
 
-impl<W: Form> ByteCountFits<3> for Fp<W> {
+impl<W: ShortForm> ByteCountFits<3> for Fp<W> {
     ghost fits = { lit< tt };
 }
 
-impl<W: Form> ByteCountFits<4> for Fp<W> {
+impl<W: ShortForm> ByteCountFits<4> for Fp<W> {
     ghost fits = { lit< tt };
 }
 
-impl<W: Form> ByteCountFits<5> for Fp<W> {
+impl<W: ShortForm> ByteCountFits<5> for Fp<W> {
     ghost fits = { lit< tt };
 }
 
-impl<W: Form> ByteCountFits<6> for Fp<W> {
+impl<W: ShortForm> ByteCountFits<6> for Fp<W> {
     ghost fits = { lit< tt };
 }
 
-impl<W: Form> ByteCountFits<8> for Fp<W> {
+impl<W: ShortForm> ByteCountFits<8> for Fp<W> {
     ghost fits = { lit< tt };
 }

@@ -14,7 +14,7 @@ use p3_field::extension::{
 
 /// The constants of the extension of `Fp` by `X^3 = X + 1`, as numbers, for the marker of a form. It
 /// stands for what upstream writes in each impl of `CubicTrinomialExtendable`.
-pub trait CubicConstants: Form {
+pub trait CubicConstants: Form<u32> {
     /// The image of X.
     ghost image: { List ℕ };
 
@@ -106,7 +106,7 @@ impl<W: CubicConstants> CubicTrinomialExtendable for Fp<W> {
 
 /// The constants of the extension of `Fp` by `X^5 = 1 - X^2`, as numbers, for the marker of a form. It
 /// stands for what upstream writes in each impl of `QuinticTrinomialExtendable`.
-pub trait QuinticConstants: Form {
+pub trait QuinticConstants: Form<u32> {
     /// The image of X.
     ghost image: { List ℕ };
 
