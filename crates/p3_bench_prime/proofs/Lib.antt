@@ -1,2 +1,3 @@
 mod ArrayItems
+mod PowerEntries
 mod WordProducts

@@ -9,10 +9,11 @@ use crate::binomial_constants::BinomialConstants;
 use crate::form::{Form, Plain, ShortForm};
 use crate::fp::Fp;
 use crate::small::{F2, F17, F17b, F31, M2, M15, M17, M17b, M31, Z15};
-use crate::trinomial_constants::{CubicConstants, QuinticConstants};
+use crate::trinomial_constants::TrinomialConstants;
 use p3_field::extension::{
     BinomialExtensionField, ByteCountFits, Complex, ComplexExtendable,
-    CubicTrinomialExtensionField, NestedByteCountFits, QuinticTrinomialExtensionField,
+    CubicTrinomial, CubicTrinomialExtensionField, NestedByteCountFits, QuinticTrinomial,
+    QuinticTrinomialExtensionField,
 };
 
 /// The extension of `F17` by `X^2 = 3`.
@@ -316,20 +317,18 @@ impl BinomialConstants<4> for Plain<BabyBearModulus> {
 /// The extension of `F31` by `X^3 = X + 1`.
 pub type F31t3 = CubicTrinomialExtensionField<F31>;
 
-impl CubicConstants for Plain<M31> {
+impl TrinomialConstants<3, CubicTrinomial> for Plain<M31> {
     ghost image = { 27 ∷ 6 ∷ 6 ∷ [] };
 
     ghost powers = { (1 ∷ 0 ∷ 0 ∷ []) ∷ (27 ∷ 6 ∷ 6 ∷ []) ∷ (26 ∷ 29 ∷ 24 ∷ []) ∷ [] };
 
     ghost dual = { (30 ∷ 18 ∷ 0 ∷ []) ∷ (13 ∷ 29 ∷ 0 ∷ []) ∷ [] };
 
-    ghost matrix = { (1 ∷ 27 ∷ 26 ∷ []) ∷ (0 ∷ 6 ∷ 29 ∷ []) ∷ (0 ∷ 6 ∷ 24 ∷ []) ∷ [] };
-
     ghost ext_generator = { 3 ∷ 0 ∷ 0 ∷ [] };
 
     #[inline]
-    fn frobenius_matrix(i: usize, j: usize) -> u32 {
-        [[1, 27, 26], [0, 6, 29], [0, 6, 24]][i][j]
+    fn power_of_image(j: usize, k: usize) -> u32 {
+        [[1, 0, 0], [27, 6, 6], [26, 29, 24]][j][k]
     }
 
     #[inline]
@@ -339,31 +338,30 @@ impl CubicConstants for Plain<M31> {
 
     ghost table = { record { width = refl; rows = refl; root = refl; order = refl; apart = refl } };
 
-    ghost matrix_of_image = { refl };
+    ghost powers_of_image = { refl };
 }
 
 /// The extension of `F17` by `X^5 = 1 - X^2`.
 pub type F17t5 = QuinticTrinomialExtensionField<F17>;
 
-impl QuinticConstants for Plain<M17> {
+impl TrinomialConstants<5, QuinticTrinomial> for Plain<M17> {
     ghost image = { 1 ∷ 3 ∷ 0 ∷ 13 ∷ 14 ∷ [] };
 
     ghost powers = { (1 ∷ 0 ∷ 0 ∷ 0 ∷ 0 ∷ []) ∷ (1 ∷ 3 ∷ 0 ∷ 13 ∷ 14 ∷ []) ∷ (8 ∷ 5 ∷ 9 ∷ 2 ∷ 14 ∷ []) ∷ (7 ∷ 11 ∷ 14 ∷ 7 ∷ 4 ∷ []) ∷ (10 ∷ 13 ∷ 7 ∷ 11 ∷ 14 ∷ []) ∷ [] };
 
     ghost dual = { (0 ∷ 14 ∷ 1 ∷ 0 ∷ 9 ∷ []) ∷ (2 ∷ 12 ∷ 13 ∷ 0 ∷ 3 ∷ []) ∷ (5 ∷ 8 ∷ 16 ∷ 0 ∷ 7 ∷ []) ∷ (12 ∷ 14 ∷ 14 ∷ 0 ∷ 2 ∷ []) ∷ [] };
 
-    ghost coeffs = { (1 ∷ 3 ∷ 0 ∷ 13 ∷ 14 ∷ []) ∷ (8 ∷ 5 ∷ 9 ∷ 2 ∷ 14 ∷ []) ∷ (7 ∷ 11 ∷ 14 ∷ 7 ∷ 4 ∷ []) ∷ (10 ∷ 13 ∷ 7 ∷ 11 ∷ 14 ∷ []) ∷ [] };
-
     ghost ext_generator = { 3 ∷ 0 ∷ 0 ∷ 0 ∷ 0 ∷ [] };
 
     #[inline]
-    fn frobenius_coeffs(i: usize, k: usize) -> u32 {
+    fn power_of_image(j: usize, k: usize) -> u32 {
         [
+            [1, 0, 0, 0, 0],
             [1, 3, 0, 13, 14],
             [8, 5, 9, 2, 14],
             [7, 11, 14, 7, 4],
             [10, 13, 7, 11, 14],
-        ][i][k]
+        ][j][k]
     }
 
     #[inline]
@@ -373,31 +371,30 @@ impl QuinticConstants for Plain<M17> {
 
     ghost table = { record { width = refl; rows = refl; root = refl; order = refl; apart = refl } };
 
-    ghost coeffs_of_image = { refl };
+    ghost powers_of_image = { refl };
 }
 
 /// The extension of `F2` by `X^5 = 1 - X^2`.
 pub type F2t5 = QuinticTrinomialExtensionField<F2>;
 
-impl QuinticConstants for Plain<M2> {
+impl TrinomialConstants<5, QuinticTrinomial> for Plain<M2> {
     ghost image = { 0 ∷ 0 ∷ 1 ∷ 0 ∷ 0 ∷ [] };
 
     ghost powers = { (1 ∷ 0 ∷ 0 ∷ 0 ∷ 0 ∷ []) ∷ (0 ∷ 0 ∷ 1 ∷ 0 ∷ 0 ∷ []) ∷ (0 ∷ 0 ∷ 0 ∷ 0 ∷ 1 ∷ []) ∷ (0 ∷ 1 ∷ 0 ∷ 1 ∷ 0 ∷ []) ∷ (1 ∷ 0 ∷ 1 ∷ 1 ∷ 0 ∷ []) ∷ [] };
 
     ghost dual = { (0 ∷ 0 ∷ 1 ∷ 0 ∷ 1 ∷ []) ∷ (1 ∷ 0 ∷ 0 ∷ 0 ∷ 1 ∷ []) ∷ (0 ∷ 1 ∷ 1 ∷ 0 ∷ 1 ∷ []) ∷ (1 ∷ 0 ∷ 0 ∷ 0 ∷ 0 ∷ []) ∷ [] };
 
-    ghost coeffs = { (0 ∷ 0 ∷ 1 ∷ 0 ∷ 0 ∷ []) ∷ (0 ∷ 0 ∷ 0 ∷ 0 ∷ 1 ∷ []) ∷ (0 ∷ 1 ∷ 0 ∷ 1 ∷ 0 ∷ []) ∷ (1 ∷ 0 ∷ 1 ∷ 1 ∷ 0 ∷ []) ∷ [] };
-
     ghost ext_generator = { 0 ∷ 1 ∷ 0 ∷ 0 ∷ 0 ∷ [] };
 
     #[inline]
-    fn frobenius_coeffs(i: usize, k: usize) -> u32 {
+    fn power_of_image(j: usize, k: usize) -> u32 {
         [
+            [1, 0, 0, 0, 0],
             [0, 0, 1, 0, 0],
             [0, 0, 0, 0, 1],
             [0, 1, 0, 1, 0],
             [1, 0, 1, 1, 0],
-        ][i][k]
+        ][j][k]
     }
 
     #[inline]
@@ -407,7 +404,7 @@ impl QuinticConstants for Plain<M2> {
 
     ghost table = { record { width = refl; rows = refl; root = refl; order = refl; apart = refl } };
 
-    ghost coeffs_of_image = { refl };
+    ghost powers_of_image = { refl };
 }
 
 /// The extension of `F31` by `X^2 = -1`.
