@@ -1,6 +1,5 @@
 use Rattle.std.proofs.Common.{refl}
 use Rattle.p3_bench_prime.specs.Elements.{is}
-use Rattle.p3_bench_residues.specs.GoldilocksElements as goldilocks
 use Rattle.p3_bench_residues.specs.Halves.{two_has_inverse}
 use Rattle.p3_field_testing.proofs.vectors.halves.Goals as goal
 
@@ -20,4 +19,4 @@ pub assert_halves-requires-5 : goal.assert_halves-requires-5
 assert_halves-requires-5 g c = two_has_inverse (is _) refl
 
 pub assert_halves-requires-6 : goal.assert_halves-requires-6
-assert_halves-requires-6 g c = two_has_inverse goldilocks.is refl
+assert_halves-requires-6 g c = two_has_inverse (is _) refl
