@@ -11,8 +11,8 @@ use crate::fp::Fp;
 use crate::small::{F2, F17, F17b, F31, M2, M15, M17, M17b, M31, Z15};
 use crate::trinomial_constants::TrinomialConstants;
 use p3_field::extension::{
-    BinomialExtensionField, ByteCountFits, Complex, ComplexExtendable,
-    CubicTrinomial, CubicTrinomialExtensionField, NestedByteCountFits, QuinticTrinomial,
+    BinomialExtensionField, ByteCountFits, Complex, ComplexExtendable, CubicTrinomial,
+    CubicTrinomialExtensionField, NestedByteCountFits, QuinticTrinomial,
     QuinticTrinomialExtensionField,
 };
 

@@ -62,7 +62,8 @@ pub trait TrinomialConstants<const D: usize, S: TrinomialShape<D>>: Form<u32> {
     ghost powers_of_image: { tabulate D (power (quotient_ops (residues Self.ORDER) D (S.polynomial Self.ORDER)) image) ≡ powers };
 }
 
-impl<W: TrinomialConstants<3, CubicTrinomial>> ExtensionProduct<Fp<W>, 3, CubicTrinomial> for Fp<W> {
+impl<W: TrinomialConstants<3, CubicTrinomial>> ExtensionProduct<Fp<W>, 3, CubicTrinomial>
+    for Fp<W> {
     ghost use Rattle.p3_theory.specs.Polynomials.Polynomial.{quotient_mul};
     ghost use Rattle.p3_bench_prime.specs.Elements.{ops};
 
@@ -74,7 +75,8 @@ impl<W: TrinomialConstants<3, CubicTrinomial>> ExtensionProduct<Fp<W>, 3, CubicT
     }
 }
 
-impl<W: TrinomialConstants<3, CubicTrinomial>> ExtensionAlgebra<Fp<W>, 3, CubicTrinomial> for Fp<W> {
+impl<W: TrinomialConstants<3, CubicTrinomial>> ExtensionAlgebra<Fp<W>, 3, CubicTrinomial>
+    for Fp<W> {
     ghost use Rattle.std.proofs.Common.{lit≤};
     ghost use Rattle.p3_theory.specs.Products.Trinomials.{cubic_trinomial_is_monic};
     ghost use Rattle.p3_bench_prime.specs.Elements.{ops};
@@ -119,7 +121,8 @@ impl<W: TrinomialConstants<3, CubicTrinomial>> CubicTrinomialExtendable for Fp<W
     ghost table_laws = { table_laws_of (is W.Form) 2 (cubic_trinomial (residues W.ORDER)) W.TrinomialConstants.image _ (cubic-along (of_keeps (is W.Form))) W.powers W.dual (cubic_trinomial_is_monic (residues W.ORDER)) W.table };
 }
 
-impl<W: TrinomialConstants<5, QuinticTrinomial>> ExtensionProduct<Fp<W>, 5, QuinticTrinomial> for Fp<W> {
+impl<W: TrinomialConstants<5, QuinticTrinomial>> ExtensionProduct<Fp<W>, 5, QuinticTrinomial>
+    for Fp<W> {
     ghost use Rattle.p3_theory.specs.Polynomials.Polynomial.{quotient_mul};
     ghost use Rattle.p3_bench_prime.specs.Elements.{ops};
 
@@ -131,7 +134,8 @@ impl<W: TrinomialConstants<5, QuinticTrinomial>> ExtensionProduct<Fp<W>, 5, Quin
     }
 }
 
-impl<W: TrinomialConstants<5, QuinticTrinomial>> ExtensionAlgebra<Fp<W>, 5, QuinticTrinomial> for Fp<W> {
+impl<W: TrinomialConstants<5, QuinticTrinomial>> ExtensionAlgebra<Fp<W>, 5, QuinticTrinomial>
+    for Fp<W> {
     ghost use Rattle.std.proofs.Common.{lit≤};
     ghost use Rattle.p3_theory.specs.Products.Trinomials.{quintic_trinomial_is_monic};
     ghost use Rattle.p3_bench_prime.specs.Elements.{ops};

@@ -11,7 +11,8 @@ use crate::binomial_constants::BinomialConstants;
 use crate::fp::Fp;
 use crate::trinomial_constants::{TrinomialConstants, TrinomialShape};
 use p3_field::extension::{
-    CubicTrinomial, HasTwoAdicBinomialExtension, HasTwoAdicCubicExtension, HasTwoAdicQuinticExtension, QuinticTrinomial,
+    CubicTrinomial, HasTwoAdicBinomialExtension, HasTwoAdicCubicExtension,
+    HasTwoAdicQuinticExtension, QuinticTrinomial,
 };
 
 /// Two-adic generators of the extension of `Fp` by `X^D = W`, as a table of numbers, for the marker
@@ -63,7 +64,10 @@ impl<W: TwoAdicBinomialConstants<D>, const D: usize> HasTwoAdicBinomialExtension
 /// Two-adic generators of the extension of `Fp` by the trinomial of a shape, as a table of numbers, for
 /// the marker of a form. It stands for what upstream writes in each impl of `HasTwoAdicCubicExtension`
 /// and `HasTwoAdicQuinticExtension`.
-pub trait TwoAdicTrinomialConstants<const D: usize, S: TrinomialShape<D>>: TrinomialConstants<D, S> {
+pub trait TwoAdicTrinomialConstants<const D: usize, S: TrinomialShape<D>>: TrinomialConstants<
+    D,
+    S,
+> {
     /// The coefficients of the generators, a row for each number of bits.
     ghost generator_table: { List (List ℕ) };
 
