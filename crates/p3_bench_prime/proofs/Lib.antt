@@ -1,2 +1,3 @@
-mod Sums
+mod ArrayItems
+mod PowerEntries
 mod WordProducts

@@ -1,4 +1,4 @@
--- The values of a prime field on words of 32 bits, as residues.
+-- The values of a prime field, in words of any type, as residues.
 use Rattle.std.specs.Prelude.{◌≡◌, ◌<◌, ◌%◌, ℕ}
 use Rattle.std.proofs.Common.{ap, ◌∙◌, subst}
 use Rattle.std.proofs.Math.Nat.{mod-eq_of_lt}
@@ -7,30 +7,27 @@ use Rattle.p3_theory.specs.Rings.Ring.{Ops}
 use Rattle.p3_theory.specs.ResidueRings.Residues.{IsResidues, residue_ops}
 use Rattle.p3_bench_residues.specs.Forms.{remainder_below}
 use Rattle.p3_bench_prime.specs.declared.fp.Fp.{Fp}
-use Rattle.p3_bench_prime.specs.declared.form.Form.{Ghosts}
+use Rattle.p3_bench_prime.specs.declared.form.Form as forms
+use Rattle.p3_bench_prime.specs.declared.form.Word as words
 
-module _ {W : Type 0} (form : Ghosts W) where
+module _ {W T : Type 0} (form : forms.Ghosts W T) {bounds : words.Ghosts T} where
   -- the canonical value
-  abbrev pub canon : Fp W form → ℕ
+  abbrev pub canon : Fp W T form bounds → ℕ
   canon x = form.canon x.word
 
-  -- the word that stands for the value
-  abbrev pub word : Fp W form → ℕ
-  word x = x.word
-
   -- the value of a number's residue
-  abbrev pub of : ℕ → Fp W form
+  abbrev pub of : ℕ → Fp W T form bounds
   of n = record { word = form.word (n % form.ORDER); of = record {}; below = form.is_form.word_below (n % form.ORDER) (remainder_below form.ORDER n form.is_form.above_one) }
 
   -- the operations of residues
-  abbrev pub ops : Ops (Fp W form)
+  abbrev pub ops : Ops (Fp W T form bounds)
   ops = residue_ops form.ORDER canon of
 
   -- the word settles the value
-  pub same_word : (x y : Fp W form) → x.word ≡ y.word → x ≡ y
+  pub same_word : (x y : Fp W T form bounds) → x.word ≡ y.word → x ≡ y
   same_word x y e =
-      let by : (w : ℕ) → w < form.ORDER → Fp W form = λ w h. record { word = w; of = record {}; below = h } in
-      (subst (λ (v : ℕ). (k : v < form.ORDER) → by x.word x.below ≡ by v k) e (λ k. ap (by x.word) (le_prop x.below k))) y.below
+      let by : (w : T) → form.number w < form.ORDER → Fp W T form bounds = λ w h. record { word = w; of = record {}; below = h } in
+      (subst (λ (v : T). (k : form.number v < form.ORDER) → by x.word x.below ≡ by v k) e (λ k. ap (by x.word) (le_prop x.below k))) y.below
 
   -- the values are the residues of the order
   pub is : IsResidues form.ORDER canon of
@@ -39,3 +36,7 @@ module _ {W : Type 0} (form : Ghosts W) where
     canon_of = λ n. form.is_form.canon_word (n % form.ORDER) (remainder_below form.ORDER n form.is_form.above_one);
     of_canon = λ x. same_word _ _ (ap form.word (mod-eq_of_lt (form.is_form.canon_below x.word x.below)) ∙ form.is_form.word_canon x.word x.below);
   }
+
+-- the word of a value as a number
+abbrev pub word_number : {W : Type 0} {form : forms.Ghosts W ℕ} {bounds : words.Ghosts ℕ} → Fp W ℕ form bounds → ℕ
+word_number x = x.word

@@ -9,7 +9,7 @@ use p3_products::binomial_extension::{ring_product, ring_square};
 
 /// The constants of the extension of `Fp` by `X^D = W`, as numbers, for the marker of a form. It
 /// stands for what upstream writes in each impl of `BinomiallyExtendable`.
-pub trait BinomialConstants<const D: usize>: Form {
+pub trait BinomialConstants<const D: usize>: Form<u32> {
     ghost W: { ℕ };
 
     ghost DTH_ROOT: { ℕ };

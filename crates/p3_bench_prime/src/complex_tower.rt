@@ -22,11 +22,11 @@ use p3_field::extension::{
 pub type F31cx2 = BinomialExtensionField<F31c, 2>;
 
 impl HasComplexBinomialExtension<2> for F31 {
-    ghost w = { complex_of (of ⟦<Plain<M31> as Form>⟧) tower_w };
+    ghost w = { complex_of (of ⟦<Plain<M31> as Form<u32>>⟧) tower_w };
 
-    ghost dth_root = { let o = complex_ops (ops ⟦<Plain<M31> as Form>⟧) in o.neg o.one };
+    ghost dth_root = { let o = complex_ops (ops ⟦<Plain<M31> as Form<u32>>⟧) in o.neg o.one };
 
-    ghost ext_generator = { let o = complex_ops (ops ⟦<Plain<M31> as Form>⟧) in λ i. get_or (o.zero ∷ o.one ∷ []) i o.zero };
+    ghost ext_generator = { let o = complex_ops (ops ⟦<Plain<M31> as Form<u32>>⟧) in λ i. get_or (o.zero ∷ o.one ∷ []) i o.zero };
 
     ghost complex_binomial_algebra_id = { codes "bench:f31cx2" };
 
@@ -52,13 +52,13 @@ impl HasComplexBinomialExtension<2> for F31 {
 
     ghost at_least_two = { lit≤ tt };
 
-    ghost root_power = { complex_root_power (ring_of (residue_laws (is ⟦<Plain<M31> as Form>⟧))) };
+    ghost root_power = { complex_root_power (ring_of (residue_laws (is ⟦<Plain<M31> as Form<u32>>⟧))) };
 
-    ghost apart = { complex_root_apart (ring_of (residue_laws (is ⟦<Plain<M31> as Form>⟧))) (two_has_inverse (is ⟦<Plain<M31> as Form>⟧) refl) };
+    ghost apart = { complex_root_apart (ring_of (residue_laws (is ⟦<Plain<M31> as Form<u32>>⟧))) (two_has_inverse (is ⟦<Plain<M31> as Form<u32>>⟧) refl) };
 }
 
 impl HasTwoAdicComplexBinomialExtension<2> for F31 {
-    ghost complex_ext_two_adic = { λ bits i. complex_of (of ⟦<Plain<M31> as Form>⟧) (tower_entry bits i) };
+    ghost complex_ext_two_adic = { λ bits i. complex_of (of ⟦<Plain<M31> as Form<u32>>⟧) (tower_entry bits i) };
 
     const COMPLEX_EXT_TWO_ADICITY: usize = 7;
 
@@ -79,7 +79,7 @@ impl HasTwoAdicComplexBinomialExtension<2> for F31 {
         complex(row[0], row[1])
     }
 
-    ghost complex_ext_generators = { tower_generators (is ⟦<Plain<M31> as Form>⟧) };
+    ghost complex_ext_generators = { tower_generators (is ⟦<Plain<M31> as Form<u32>>⟧) };
 
     ghost complex_ext_divides_order = { (7215, refl) };
 }

@@ -6,13 +6,14 @@ ghost use Rattle.p3_bench_prime.specs.Elements.{of};
 
 use crate::baby_bear::{BabyBear, BabyBearModulus};
 use crate::binomial_constants::BinomialConstants;
-use crate::form::{Form, Plain};
+use crate::form::{Form, Plain, ShortForm};
 use crate::fp::Fp;
 use crate::small::{F2, F17, F17b, F31, M2, M15, M17, M17b, M31, Z15};
-use crate::trinomial_constants::{CubicConstants, QuinticConstants};
+use crate::trinomial_constants::TrinomialConstants;
 use p3_field::extension::{
-    BinomialExtensionField, ByteCountFits, Complex, ComplexExtendable,
-    CubicTrinomialExtensionField, NestedByteCountFits, QuinticTrinomialExtensionField,
+    BinomialExtensionField, ByteCountFits, Complex, ComplexExtendable, CubicTrinomial,
+    CubicTrinomialExtensionField, NestedByteCountFits, QuinticTrinomial,
+    QuinticTrinomialExtensionField,
 };
 
 /// The extension of `F17` by `X^2 = 3`.
@@ -316,20 +317,18 @@ impl BinomialConstants<4> for Plain<BabyBearModulus> {
 /// The extension of `F31` by `X^3 = X + 1`.
 pub type F31t3 = CubicTrinomialExtensionField<F31>;
 
-impl CubicConstants for Plain<M31> {
+impl TrinomialConstants<3, CubicTrinomial> for Plain<M31> {
     ghost image = { 27 ∷ 6 ∷ 6 ∷ [] };
 
     ghost powers = { (1 ∷ 0 ∷ 0 ∷ []) ∷ (27 ∷ 6 ∷ 6 ∷ []) ∷ (26 ∷ 29 ∷ 24 ∷ []) ∷ [] };
 
     ghost dual = { (30 ∷ 18 ∷ 0 ∷ []) ∷ (13 ∷ 29 ∷ 0 ∷ []) ∷ [] };
 
-    ghost matrix = { (1 ∷ 27 ∷ 26 ∷ []) ∷ (0 ∷ 6 ∷ 29 ∷ []) ∷ (0 ∷ 6 ∷ 24 ∷ []) ∷ [] };
-
     ghost ext_generator = { 3 ∷ 0 ∷ 0 ∷ [] };
 
     #[inline]
-    fn frobenius_matrix(i: usize, j: usize) -> u32 {
-        [[1, 27, 26], [0, 6, 29], [0, 6, 24]][i][j]
+    fn power_of_image(j: usize, k: usize) -> u32 {
+        [[1, 0, 0], [27, 6, 6], [26, 29, 24]][j][k]
     }
 
     #[inline]
@@ -339,31 +338,30 @@ impl CubicConstants for Plain<M31> {
 
     ghost table = { record { width = refl; rows = refl; root = refl; order = refl; apart = refl } };
 
-    ghost matrix_of_image = { refl };
+    ghost powers_of_image = { refl };
 }
 
 /// The extension of `F17` by `X^5 = 1 - X^2`.
 pub type F17t5 = QuinticTrinomialExtensionField<F17>;
 
-impl QuinticConstants for Plain<M17> {
+impl TrinomialConstants<5, QuinticTrinomial> for Plain<M17> {
     ghost image = { 1 ∷ 3 ∷ 0 ∷ 13 ∷ 14 ∷ [] };
 
     ghost powers = { (1 ∷ 0 ∷ 0 ∷ 0 ∷ 0 ∷ []) ∷ (1 ∷ 3 ∷ 0 ∷ 13 ∷ 14 ∷ []) ∷ (8 ∷ 5 ∷ 9 ∷ 2 ∷ 14 ∷ []) ∷ (7 ∷ 11 ∷ 14 ∷ 7 ∷ 4 ∷ []) ∷ (10 ∷ 13 ∷ 7 ∷ 11 ∷ 14 ∷ []) ∷ [] };
 
     ghost dual = { (0 ∷ 14 ∷ 1 ∷ 0 ∷ 9 ∷ []) ∷ (2 ∷ 12 ∷ 13 ∷ 0 ∷ 3 ∷ []) ∷ (5 ∷ 8 ∷ 16 ∷ 0 ∷ 7 ∷ []) ∷ (12 ∷ 14 ∷ 14 ∷ 0 ∷ 2 ∷ []) ∷ [] };
 
-    ghost coeffs = { (1 ∷ 3 ∷ 0 ∷ 13 ∷ 14 ∷ []) ∷ (8 ∷ 5 ∷ 9 ∷ 2 ∷ 14 ∷ []) ∷ (7 ∷ 11 ∷ 14 ∷ 7 ∷ 4 ∷ []) ∷ (10 ∷ 13 ∷ 7 ∷ 11 ∷ 14 ∷ []) ∷ [] };
-
     ghost ext_generator = { 3 ∷ 0 ∷ 0 ∷ 0 ∷ 0 ∷ [] };
 
     #[inline]
-    fn frobenius_coeffs(i: usize, k: usize) -> u32 {
+    fn power_of_image(j: usize, k: usize) -> u32 {
         [
+            [1, 0, 0, 0, 0],
             [1, 3, 0, 13, 14],
             [8, 5, 9, 2, 14],
             [7, 11, 14, 7, 4],
             [10, 13, 7, 11, 14],
-        ][i][k]
+        ][j][k]
     }
 
     #[inline]
@@ -373,31 +371,30 @@ impl QuinticConstants for Plain<M17> {
 
     ghost table = { record { width = refl; rows = refl; root = refl; order = refl; apart = refl } };
 
-    ghost coeffs_of_image = { refl };
+    ghost powers_of_image = { refl };
 }
 
 /// The extension of `F2` by `X^5 = 1 - X^2`.
 pub type F2t5 = QuinticTrinomialExtensionField<F2>;
 
-impl QuinticConstants for Plain<M2> {
+impl TrinomialConstants<5, QuinticTrinomial> for Plain<M2> {
     ghost image = { 0 ∷ 0 ∷ 1 ∷ 0 ∷ 0 ∷ [] };
 
     ghost powers = { (1 ∷ 0 ∷ 0 ∷ 0 ∷ 0 ∷ []) ∷ (0 ∷ 0 ∷ 1 ∷ 0 ∷ 0 ∷ []) ∷ (0 ∷ 0 ∷ 0 ∷ 0 ∷ 1 ∷ []) ∷ (0 ∷ 1 ∷ 0 ∷ 1 ∷ 0 ∷ []) ∷ (1 ∷ 0 ∷ 1 ∷ 1 ∷ 0 ∷ []) ∷ [] };
 
     ghost dual = { (0 ∷ 0 ∷ 1 ∷ 0 ∷ 1 ∷ []) ∷ (1 ∷ 0 ∷ 0 ∷ 0 ∷ 1 ∷ []) ∷ (0 ∷ 1 ∷ 1 ∷ 0 ∷ 1 ∷ []) ∷ (1 ∷ 0 ∷ 0 ∷ 0 ∷ 0 ∷ []) ∷ [] };
 
-    ghost coeffs = { (0 ∷ 0 ∷ 1 ∷ 0 ∷ 0 ∷ []) ∷ (0 ∷ 0 ∷ 0 ∷ 0 ∷ 1 ∷ []) ∷ (0 ∷ 1 ∷ 0 ∷ 1 ∷ 0 ∷ []) ∷ (1 ∷ 0 ∷ 1 ∷ 1 ∷ 0 ∷ []) ∷ [] };
-
     ghost ext_generator = { 0 ∷ 1 ∷ 0 ∷ 0 ∷ 0 ∷ [] };
 
     #[inline]
-    fn frobenius_coeffs(i: usize, k: usize) -> u32 {
+    fn power_of_image(j: usize, k: usize) -> u32 {
         [
+            [1, 0, 0, 0, 0],
             [0, 0, 1, 0, 0],
             [0, 0, 0, 0, 1],
             [0, 1, 0, 1, 0],
             [1, 0, 1, 1, 0],
-        ][i][k]
+        ][j][k]
     }
 
     #[inline]
@@ -407,7 +404,7 @@ impl QuinticConstants for Plain<M2> {
 
     ghost table = { record { width = refl; rows = refl; root = refl; order = refl; apart = refl } };
 
-    ghost coeffs_of_image = { refl };
+    ghost powers_of_image = { refl };
 }
 
 /// The extension of `F31` by `X^2 = -1`.
@@ -415,7 +412,7 @@ pub type F31c = Complex<F31>;
 
 /// The value with the residues of these numbers at `X^0` and at `X^1`.
 pub(crate) fn complex(real: u32, imag: u32) -> F31c
-    ensures { result ≡ complex_of (of ⟦<Plain<M31> as Form>⟧) (real ∷ imag ∷ []) }
+    ensures { result ≡ complex_of (of ⟦<Plain<M31> as Form<u32>>⟧) (real ∷ imag ∷ []) }
 {
     let real_part = F31::new(real);
     let imaginary_part = F31::new(imag);
@@ -427,9 +424,9 @@ impl ComplexExtendable for F31 {
     ghost use Rattle.p3_bench_prime.specs.Elements.{is};
     ghost use Rattle.p3_bench_residues.specs.Halves.{two_has_inverse};
 
-    ghost complex_generator = { λ i. of ⟦<Plain<M31> as Form>⟧ (get_or (3 ∷ 2 ∷ []) i 0) };
+    ghost complex_generator = { λ i. of ⟦<Plain<M31> as Form<u32>>⟧ (get_or (3 ∷ 2 ∷ []) i 0) };
 
-    ghost circle_two_adic = { λ bits. complex_of (of ⟦<Plain<M31> as Form>⟧) (get_or ((1 ∷ 0 ∷ []) ∷ (30 ∷ 0 ∷ []) ∷ (0 ∷ 30 ∷ []) ∷ (4 ∷ 27 ∷ []) ∷ (7 ∷ 13 ∷ []) ∷ (2 ∷ 11 ∷ []) ∷ []) bits []) };
+    ghost circle_two_adic = { λ bits. complex_of (of ⟦<Plain<M31> as Form<u32>>⟧) (get_or ((1 ∷ 0 ∷ []) ∷ (30 ∷ 0 ∷ []) ∷ (0 ∷ 30 ∷ []) ∷ (4 ∷ 27 ∷ []) ∷ (7 ∷ 13 ∷ []) ∷ (2 ∷ 11 ∷ []) ∷ []) bits []) };
 
     ghost CIRCLE_TWO_ADICITY = { 5 };
 
@@ -447,33 +444,33 @@ impl ComplexExtendable for F31 {
         complex(row[0], row[1])
     }
 
-    ghost two_has_an_inverse = { two_has_inverse (is ⟦<Plain<M31> as Form>⟧) refl };
+    ghost two_has_an_inverse = { two_has_inverse (is ⟦<Plain<M31> as Form<u32>>⟧) refl };
 }
 
-impl<W: Form> ByteCountFits<2> for Fp<W> {
+impl<W: ShortForm> ByteCountFits<2> for Fp<W> {
     ghost fits = { lit< tt };
 }
 
-impl<W: Form> NestedByteCountFits<2, 2> for Fp<W> {
+impl<W: ShortForm> NestedByteCountFits<2, 2> for Fp<W> {
     ghost nested_fits = { lit< tt };
 }
 
-impl<W: Form> ByteCountFits<3> for Fp<W> {
+impl<W: ShortForm> ByteCountFits<3> for Fp<W> {
     ghost fits = { lit< tt };
 }
 
-impl<W: Form> ByteCountFits<4> for Fp<W> {
+impl<W: ShortForm> ByteCountFits<4> for Fp<W> {
     ghost fits = { lit< tt };
 }
 
-impl<W: Form> ByteCountFits<5> for Fp<W> {
+impl<W: ShortForm> ByteCountFits<5> for Fp<W> {
     ghost fits = { lit< tt };
 }
 
-impl<W: Form> ByteCountFits<6> for Fp<W> {
+impl<W: ShortForm> ByteCountFits<6> for Fp<W> {
     ghost fits = { lit< tt };
 }
 
-impl<W: Form> ByteCountFits<8> for Fp<W> {
+impl<W: ShortForm> ByteCountFits<8> for Fp<W> {
     ghost fits = { lit< tt };
 }

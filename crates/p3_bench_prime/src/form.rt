@@ -1,53 +1,111 @@
-ghost use Rattle.std.specs.Prelude.{◌≡◌, ◌<◌, ◌*◌, ◌%◌, ◌^◌, ℕ};
+ghost use Rattle.std.specs.Prelude.{◌≡◌, ◌<◌, ◌+◌, ◌-◌, ◌*◌, ◌%◌, ◌^◌, ℕ, length, ⊤};
 ghost use Rattle.p3_bench_residues.specs.Forms.{IsForm};
 
-use p3_bench_residues::remainder::{remainder_by_reciprocal, remainder_of_words};
+use crate::fp::Fp;
+use p3_bench_residues::remainder::{remainder_by_reciprocal, remainder_of_sum};
+use p3_bench_residues::short_words::{add_words, halve_word, negate_word, subtract_words};
+use std::alloc::AllocError;
 use std::marker::PhantomData;
 
-/// How words of 32 bits stand for the residues modulo an order. A type that implements it is a
-/// marker: `Fp` names its field by it.
-pub trait Form {
+/// A type of words that residues are stored in.
+pub trait Word: Copy {
+    /// The number that a word is.
+    ghost number: { Self → ℕ };
+}
+
+impl Word for u32 {
+    ghost number = { λ w. w };
+}
+
+impl Word for u64 {
+    ghost number = { λ w. w };
+}
+
+/// How words of a type stand for the residues modulo an order, and the operations on words. A type
+/// that implements it is a marker: `Fp` names its field by it.
+pub trait Form<T: Word>: Copy {
+    ghost use Rattle.p3_theory.specs.ResidueRings.SumsOfProducts.{sum_of_products};
+
     ghost ORDER: { ℕ };
 
+    /// The number that a word is.
+    ghost number: { T → ℕ };
+
     /// The residue that a word stands for.
-    ghost canon: { ℕ → ℕ };
+    ghost canon: { T → ℕ };
 
     /// The word that stands for a residue.
-    ghost word: { ℕ → ℕ };
+    ghost word: { ℕ → T };
 
     ghost GENERATOR: { ℕ };
 
-    ghost is_form: { IsForm ORDER canon word };
+    ghost is_form: { IsForm ORDER number canon word };
 
-    /// The order: how many residues there are. It is from 2 to 2^31 - 1, so that two words add up
-    /// to a word.
-    const ORDER: u32;
+    /// The order: how many residues there are. It is two or more.
+    const ORDER: u64;
 
     /// The residue that the field's `generator` answers.
-    const GENERATOR: u32;
+    const GENERATOR: u64;
 
     /// The residue that a word stands for.
-    fn decode(stored: u32) -> u32
-        requires { stored < ORDER }
+    fn decode(stored: T) -> u64
+        requires { number stored < ORDER }
         ensures { result ≡ canon stored };
 
     /// The word that stands for a residue.
-    fn encode(residue: u32) -> u32
+    fn encode(residue: u64) -> T
         requires { residue < ORDER }
         ensures { result ≡ word residue };
 
+    /// The word of the residue of the number that a word is.
+    fn reduce(value: T) -> T
+        ensures below { number result < ORDER }
+        ensures value { canon result ≡ T.number value % ORDER };
+
+    /// The word of the sum of two residues, from their words.
+    fn sum(left: T, right: T) -> T
+        requires left { number left < ORDER }
+        requires right { number right < ORDER }
+        ensures below { number result < ORDER }
+        ensures value { canon result ≡ (canon left + canon right) % ORDER };
+
+    /// The word of the difference of two residues, from their words.
+    fn difference(left: T, right: T) -> T
+        requires left { number left < ORDER }
+        requires right { number right < ORDER }
+        ensures below { number result < ORDER }
+        ensures value { canon result ≡ (canon left + (ORDER - canon right)) % ORDER };
+
+    /// The word of the negation of a residue, from its word.
+    fn negation(stored: T) -> T
+        requires { number stored < ORDER }
+        ensures below { number result < ORDER }
+        ensures value { canon result ≡ (ORDER - canon stored) % ORDER };
+
     /// The word of the product of two residues, from their words.
-    fn product(left: u32, right: u32) -> u32
-        requires left { left < ORDER }
-        requires right { right < ORDER }
-        ensures below { result < ORDER }
+    fn product(left: T, right: T) -> T
+        requires left { number left < ORDER }
+        requires right { number right < ORDER }
+        ensures below { number result < ORDER }
         ensures value { canon result ≡ (canon left * canon right) % ORDER };
 
-    /// The word of the residue that a sum of products of words stands for. A word w stands for w
-    /// times the residue of the word 1, and a product of words for that many times its square.
-    fn reduce_products(sum: u128) -> u32
-        ensures below { result < ORDER }
-        ensures value { canon result ≡ (sum * (canon 1 * canon 1)) % ORDER };
+    /// The word of half of a residue, from its word.
+    fn half(stored: T) -> T
+        requires odd { ORDER % 2 ≡ 1 }
+        requires below { number stored < ORDER }
+        ensures below { number result < ORDER }
+        ensures half { (canon result + canon result) % ORDER ≡ canon stored };
+
+    /// The word of the sum of the products of residues, position by position.
+    fn dot_product(u: &[Fp<Self, T>], v: &[Fp<Self, T>]) -> T
+        requires { length u.now ≡ length v.now }
+        ensures below { number result < ORDER }
+        ensures value { canon result ≡ sum_of_products (λ x. canon x.word) u.now v.now % ORDER };
+}
+
+/// A form in words of 32 bits whose order is below 2^31, so that two words add up to a word.
+pub trait ShortForm: Form<u32> {
+    ghost short: { Self.ORDER < 2 ^ 31 };
 }
 
 /// A marker of an order.
@@ -67,13 +125,28 @@ pub trait Modulus {
     const GENERATOR: u32;
 }
 
-/// The form in which each residue of the order of M is its own word.
+/// The form in which each residue of the order of M is its own word of 32 bits.
 pub struct Plain<M>(PhantomData<M>);
 
-impl<M: Modulus> Form for Plain<M> {
-    ghost use Rattle.p3_bench_residues.specs.Forms.{plain};
+impl<M> Clone for Plain<M> {
+    ghost is_clone = { λ x y. y ≡ x };
+
+    ghost is_infallible = { λ _. ⊤ };
+
+    #[inline]
+    fn clone(&self) -> Result<Self, AllocError> {
+        Ok(*self)
+    }
+}
+
+impl<M> Copy for Plain<M> {}
+
+impl<M: Modulus> Form<u32> for Plain<M> {
+    ghost use Rattle.p3_bench_residues.specs.Forms.{plain, order_below};
 
     ghost ORDER = { M.ORDER };
+
+    ghost number = { λ w. w };
 
     ghost canon = { λ w. w };
 
@@ -81,20 +154,40 @@ impl<M: Modulus> Form for Plain<M> {
 
     ghost GENERATOR = { M.GENERATOR };
 
-    ghost is_form = { plain M.ORDER M.above_one M.fits };
+    ghost is_form = { plain M.ORDER M.above_one (order_below M.ORDER M.fits) };
 
-    const ORDER: u32 = M::ORDER;
+    const ORDER: u64 = M::ORDER as u64;
 
-    const GENERATOR: u32 = M::GENERATOR;
+    const GENERATOR: u64 = M::GENERATOR as u64;
 
     #[inline]
-    fn decode(stored: u32) -> u32 {
-        stored
+    fn decode(stored: u32) -> u64 {
+        stored as u64
     }
 
     #[inline]
-    fn encode(residue: u32) -> u32 {
-        residue
+    fn encode(residue: u64) -> u32 {
+        residue as u32
+    }
+
+    #[inline]
+    fn reduce(value: u32) -> u32 {
+        value % M::ORDER
+    }
+
+    #[inline]
+    fn sum(left: u32, right: u32) -> u32 {
+        add_words(left, right, M::ORDER)
+    }
+
+    #[inline]
+    fn difference(left: u32, right: u32) -> u32 {
+        subtract_words(left, right, M::ORDER)
+    }
+
+    #[inline]
+    fn negation(stored: u32) -> u32 {
+        negate_word(stored, M::ORDER)
     }
 
     /// Where products fit 32 bits, their remainder there is the cheapest.
@@ -107,15 +200,19 @@ impl<M: Modulus> Form for Plain<M> {
         }
     }
 
-    /// Most short sums are one word.
     #[inline]
-    fn reduce_products(sum: u128) -> u32 {
-        let low = (sum & 0xffff_ffff_ffff_ffff) as u64;
-        let high = (sum >> 64) as u64;
-        if high == 0 {
-            (low % M::ORDER as u64) as u32
-        } else {
-            remainder_of_words(low, high, M::ORDER)
-        }
+    fn half(stored: u32) -> u32 {
+        halve_word(stored, M::ORDER)
     }
+
+    /// The sum of the products of the words, which is reduced once, at the end.
+    #[inline]
+    fn dot_product(u: &[Fp<Self, u32>], v: &[Fp<Self, u32>]) -> u32 {
+        let sum = Fp::sum_products(u, v);
+        remainder_of_sum(sum, M::ORDER)
+    }
+}
+
+impl<M: Modulus> ShortForm for Plain<M> {
+    ghost short = { M.fits };
 }

@@ -8,12 +8,12 @@ pub mod complex_tower;
 pub mod extensions;
 pub mod form;
 pub mod fp;
+pub mod goldilocks;
 pub mod koala_bear;
 pub mod monomials;
+mod short_sums;
 pub mod small;
 pub mod trinomial_constants;
 pub mod two_adic;
 pub mod two_adic_constants;
 mod two_adic_extensions;
-
-pub use p3_bench_residues::goldilocks as goldilocks;

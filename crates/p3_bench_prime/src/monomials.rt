@@ -4,7 +4,7 @@ ghost use Rattle.p3_theory.specs.Rings.Powers.{power};
 ghost use Rattle.p3_theory.specs.Roots.Monomials.{AreInverseExponents};
 
 use crate::baby_bear::BabyBearModulus;
-use crate::form::{Form, Plain};
+use crate::form::{Form, Plain, Word};
 use crate::fp::Fp;
 use crate::koala_bear::KoalaBearModulus;
 use crate::small::{M17, M31};
@@ -14,7 +14,7 @@ use p3_tools::exponentiation::{exp_1420470955, exp_1725656503};
 
 /// The power that undoes power N, for the marker of a form. It stands for what upstream writes in
 /// each impl of `PermutationMonomial`.
-pub trait MonomialConstants<const N: u64>: Form {
+pub trait MonomialConstants<T: Word, const N: u64>: Form<T> {
     ghost ROOT_EXPONENT: { ℕ };
 
     /// The power that undoes power N.
@@ -25,21 +25,21 @@ pub trait MonomialConstants<const N: u64>: Form {
     ghost inverse_exponents: { AreInverseExponents Self.ORDER N ROOT_EXPONENT };
 }
 
-impl<W: MonomialConstants<N>, const N: u64> InjectiveMonomial<N> for Fp<W> {
+impl<W: MonomialConstants<T, N>, T: Word, const N: u64> InjectiveMonomial<N> for Fp<W, T> {
     ghost use Rattle.p3_theory.specs.Roots.Monomials.{residue_injective_power};
     ghost use Rattle.p3_bench_prime.specs.Elements.{is};
 
     ghost injective = { λ domain. residue_injective_power (is W.Form) domain N W.ROOT_EXPONENT W.inverse_exponents };
 }
 
-impl<W: MonomialConstants<N>, const N: u64> PermutationMonomial<N> for Fp<W> {
+impl<W: MonomialConstants<T, N>, T: Word, const N: u64> PermutationMonomial<N> for Fp<W, T> {
     #[inline]
     fn injective_exp_root_n(&self) -> Self {
         W::root_power(*self)
     }
 }
 
-impl MonomialConstants<3> for Plain<M17> {
+impl MonomialConstants<u32, 3> for Plain<M17> {
     ghost ROOT_EXPONENT = { 11 };
 
     #[inline]
@@ -50,7 +50,7 @@ impl MonomialConstants<3> for Plain<M17> {
     ghost inverse_exponents = { (2, refl) };
 }
 
-impl MonomialConstants<7> for Plain<M31> {
+impl MonomialConstants<u32, 7> for Plain<M31> {
     ghost ROOT_EXPONENT = { 13 };
 
     #[inline]
@@ -61,7 +61,7 @@ impl MonomialConstants<7> for Plain<M31> {
     ghost inverse_exponents = { (3, refl) };
 }
 
-impl MonomialConstants<7> for Plain<BabyBearModulus> {
+impl MonomialConstants<u32, 7> for Plain<BabyBearModulus> {
     ghost ROOT_EXPONENT = { 1725656503 };
 
     #[inline]
@@ -72,7 +72,7 @@ impl MonomialConstants<7> for Plain<BabyBearModulus> {
     ghost inverse_exponents = { (6, refl) };
 }
 
-impl MonomialConstants<3> for Plain<KoalaBearModulus> {
+impl MonomialConstants<u32, 3> for Plain<KoalaBearModulus> {
     ghost ROOT_EXPONENT = { 1420470955 };
 
     #[inline]

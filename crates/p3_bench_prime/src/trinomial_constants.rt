@@ -1,6 +1,9 @@
-//! Extensions of `Fp` by `X^3 = X + 1` and `X^5 = 1 - X^2`: from a table of numbers to all laws.
+//! Extensions of `Fp` by trinomials, `X^3 = X + 1` and `X^5 = 1 - X^2`: from a table of numbers to all
+//! laws.
 ghost use Rattle.std.specs.Prelude.{◌≡◌, ◌<◌, ℕ, List, [], get_or};
-ghost use Rattle.p3_theory.specs.FrobeniusMaps.FrobeniusTable.{TableProof, matrix_of, coeffs_of};
+ghost use Rattle.p3_theory.specs.Polynomials.Polynomial.{quotient_ops, tabulate};
+ghost use Rattle.p3_theory.specs.Rings.Powers.{power};
+ghost use Rattle.p3_theory.specs.FrobeniusMaps.FrobeniusTable.{TableProof};
 ghost use Rattle.p3_theory.specs.ResidueRings.Residues.{residues};
 ghost use Rattle.p3_theory.specs.Products.Trinomials.{cubic_trinomial, quintic_trinomial};
 
@@ -12,42 +15,55 @@ use p3_field::extension::{
     trinomial_quintic_mul,
 };
 
-/// The constants of the extension of `Fp` by `X^3 = X + 1`, as numbers, for the marker of a form. It
-/// stands for what upstream writes in each impl of `CubicTrinomialExtendable`.
-pub trait CubicConstants: Form {
+/// A shape of extensions of degree D by a trinomial with one formula over every ring.
+pub trait TrinomialShape<const D: usize> {
+    /// The trinomial over the residues of an order, as numbers from its constant coefficient upward.
+    ghost polynomial: { ℕ → List ℕ };
+}
+
+impl TrinomialShape<3> for CubicTrinomial {
+    ghost polynomial = { λ n. cubic_trinomial (residues n) };
+}
+
+impl TrinomialShape<5> for QuinticTrinomial {
+    ghost polynomial = { λ n. quintic_trinomial (residues n) };
+}
+
+/// The constants of the extension of `Fp` by the trinomial of a shape, as numbers, for the marker of
+/// a form. It stands for what upstream writes in each impl of `CubicTrinomialExtendable` and
+/// `QuinticTrinomialExtendable`.
+pub trait TrinomialConstants<const D: usize, S: TrinomialShape<D>>: Form<u32> {
     /// The image of X.
     ghost image: { List ℕ };
 
-    /// The powers 0 to 2 of the image of X.
+    /// The powers 0 to D - 1 of the image of X.
     ghost powers: { List (List ℕ) };
 
     /// What leads back from the image of a value less the value to its coefficients past place 0.
     ghost dual: { List (List ℕ) };
 
-    /// The matrix of the map by rows: column j is power j of the image of X.
-    ghost matrix: { List (List ℕ) };
-
     /// The coefficients of the chosen element, from X^0 upward.
     ghost ext_generator: { List ℕ };
 
-    /// The entry of the matrix in row i and column j.
-    fn frobenius_matrix(i: usize, j: usize) -> u32
-        requires row { i < 3 }
-        requires column { j < 3 }
-        ensures { result ≡ get_or (get_or matrix i []) j 0 };
+    /// The coefficient at `X^k` of power j of the image of X.
+    fn power_of_image(j: usize, k: usize) -> u32
+        requires power { j < D }
+        requires place { k < D }
+        ensures { result ≡ get_or (get_or powers j []) k 0 };
 
     /// The coefficient at `X^i` of a chosen element.
     fn ext_generator(i: usize) -> u32
-        requires { i < 3 }
+        requires { i < D }
         ensures { result ≡ get_or ext_generator i 0 };
 
     /// The equations that the table owes, computed on numbers.
-    ghost table: { TableProof (residues Self.ORDER) 3 (cubic_trinomial (residues Self.ORDER)) image powers dual };
+    ghost table: { TableProof (residues Self.ORDER) D (S.polynomial Self.ORDER) image powers dual };
 
-    ghost matrix_of_image: { matrix_of (residues Self.ORDER) 3 (cubic_trinomial (residues Self.ORDER)) image ≡ matrix };
+    ghost powers_of_image: { tabulate D (power (quotient_ops (residues Self.ORDER) D (S.polynomial Self.ORDER)) image) ≡ powers };
 }
 
-impl<W: CubicConstants> ExtensionProduct<Fp<W>, 3, CubicTrinomial> for Fp<W> {
+impl<W: TrinomialConstants<3, CubicTrinomial>> ExtensionProduct<Fp<W>, 3, CubicTrinomial>
+    for Fp<W> {
     ghost use Rattle.p3_theory.specs.Polynomials.Polynomial.{quotient_mul};
     ghost use Rattle.p3_bench_prime.specs.Elements.{ops};
 
@@ -59,7 +75,8 @@ impl<W: CubicConstants> ExtensionProduct<Fp<W>, 3, CubicTrinomial> for Fp<W> {
     }
 }
 
-impl<W: CubicConstants> ExtensionAlgebra<Fp<W>, 3, CubicTrinomial> for Fp<W> {
+impl<W: TrinomialConstants<3, CubicTrinomial>> ExtensionAlgebra<Fp<W>, 3, CubicTrinomial>
+    for Fp<W> {
     ghost use Rattle.std.proofs.Common.{lit≤};
     ghost use Rattle.p3_theory.specs.Products.Trinomials.{cubic_trinomial_is_monic};
     ghost use Rattle.p3_bench_prime.specs.Elements.{ops};
@@ -78,20 +95,20 @@ impl<W: CubicConstants> ExtensionAlgebra<Fp<W>, 3, CubicTrinomial> for Fp<W> {
     ghost ext_products = { λ a b r h. h };
 }
 
-impl<W: CubicConstants> CubicTrinomialExtendable for Fp<W> {
+impl<W: TrinomialConstants<3, CubicTrinomial>> CubicTrinomialExtendable for Fp<W> {
     ghost use Rattle.std.specs.Prelude.{map, refl};
     ghost use Rattle.p3_theory.specs.FrobeniusMaps.TableEntries.{table_laws_of, cubic-along};
     ghost use Rattle.p3_theory.specs.ResidueRings.Residues.{of_keeps};
     ghost use Rattle.p3_theory.specs.Products.Trinomials.{cubic_trinomial_is_monic};
     ghost use Rattle.p3_bench_prime.specs.Elements.{of, is};
 
-    ghost image = { map (of W.Form) W.CubicConstants.image };
+    ghost image = { map (of W.Form) W.TrinomialConstants.image };
 
     ghost ext_generator = { λ i. of W.Form (get_or W.ext_generator i 0) };
 
     #[inline]
     fn frobenius_matrix(i: usize, j: usize) -> Self {
-        Self::new(W::frobenius_matrix(i, j))
+        Self::new(W::power_of_image(j, i))
     }
 
     #[inline]
@@ -101,45 +118,11 @@ impl<W: CubicConstants> CubicTrinomialExtendable for Fp<W> {
 
     ghost by_trinomial = { refl };
 
-    ghost table_laws = { table_laws_of (is W.Form) 2 (cubic_trinomial (residues W.ORDER)) W.CubicConstants.image _ (cubic-along (of_keeps (is W.Form))) W.powers W.dual (cubic_trinomial_is_monic (residues W.ORDER)) W.table };
+    ghost table_laws = { table_laws_of (is W.Form) 2 (cubic_trinomial (residues W.ORDER)) W.TrinomialConstants.image _ (cubic-along (of_keeps (is W.Form))) W.powers W.dual (cubic_trinomial_is_monic (residues W.ORDER)) W.table };
 }
 
-/// The constants of the extension of `Fp` by `X^5 = 1 - X^2`, as numbers, for the marker of a form. It
-/// stands for what upstream writes in each impl of `QuinticTrinomialExtendable`.
-pub trait QuinticConstants: Form {
-    /// The image of X.
-    ghost image: { List ℕ };
-
-    /// The powers 0 to 4 of the image of X.
-    ghost powers: { List (List ℕ) };
-
-    /// What leads back from the image of a value less the value to its coefficients past place 0.
-    ghost dual: { List (List ℕ) };
-
-    /// The powers 1 to 4 of the image of X.
-    ghost coeffs: { List (List ℕ) };
-
-    /// The coefficients of the chosen element, from X^0 upward.
-    ghost ext_generator: { List ℕ };
-
-    /// The coefficient at `X^k` of power i + 1 of the image of X.
-    fn frobenius_coeffs(i: usize, k: usize) -> u32
-        requires power { i < 4 }
-        requires place { k < 5 }
-        ensures { result ≡ get_or (get_or coeffs i []) k 0 };
-
-    /// The coefficient at `X^i` of a chosen element.
-    fn ext_generator(i: usize) -> u32
-        requires { i < 5 }
-        ensures { result ≡ get_or ext_generator i 0 };
-
-    /// The equations that the table owes, computed on numbers.
-    ghost table: { TableProof (residues Self.ORDER) 5 (quintic_trinomial (residues Self.ORDER)) image powers dual };
-
-    ghost coeffs_of_image: { coeffs_of (residues Self.ORDER) 5 (quintic_trinomial (residues Self.ORDER)) image ≡ coeffs };
-}
-
-impl<W: QuinticConstants> ExtensionProduct<Fp<W>, 5, QuinticTrinomial> for Fp<W> {
+impl<W: TrinomialConstants<5, QuinticTrinomial>> ExtensionProduct<Fp<W>, 5, QuinticTrinomial>
+    for Fp<W> {
     ghost use Rattle.p3_theory.specs.Polynomials.Polynomial.{quotient_mul};
     ghost use Rattle.p3_bench_prime.specs.Elements.{ops};
 
@@ -151,7 +134,8 @@ impl<W: QuinticConstants> ExtensionProduct<Fp<W>, 5, QuinticTrinomial> for Fp<W>
     }
 }
 
-impl<W: QuinticConstants> ExtensionAlgebra<Fp<W>, 5, QuinticTrinomial> for Fp<W> {
+impl<W: TrinomialConstants<5, QuinticTrinomial>> ExtensionAlgebra<Fp<W>, 5, QuinticTrinomial>
+    for Fp<W> {
     ghost use Rattle.std.proofs.Common.{lit≤};
     ghost use Rattle.p3_theory.specs.Products.Trinomials.{quintic_trinomial_is_monic};
     ghost use Rattle.p3_bench_prime.specs.Elements.{ops};
@@ -170,20 +154,20 @@ impl<W: QuinticConstants> ExtensionAlgebra<Fp<W>, 5, QuinticTrinomial> for Fp<W>
     ghost ext_products = { λ a b r h. h };
 }
 
-impl<W: QuinticConstants> QuinticTrinomialExtendable for Fp<W> {
+impl<W: TrinomialConstants<5, QuinticTrinomial>> QuinticTrinomialExtendable for Fp<W> {
     ghost use Rattle.std.specs.Prelude.{map, refl};
     ghost use Rattle.p3_theory.specs.FrobeniusMaps.TableEntries.{table_laws_of, quintic-along};
     ghost use Rattle.p3_theory.specs.ResidueRings.Residues.{of_keeps};
     ghost use Rattle.p3_theory.specs.Products.Trinomials.{quintic_trinomial_is_monic};
     ghost use Rattle.p3_bench_prime.specs.Elements.{of, is};
 
-    ghost image = { map (of W.Form) W.QuinticConstants.image };
+    ghost image = { map (of W.Form) W.TrinomialConstants.image };
 
     ghost ext_generator = { λ i. of W.Form (get_or W.ext_generator i 0) };
 
     #[inline]
     fn frobenius_coeffs(i: usize, k: usize) -> Self {
-        Self::new(W::frobenius_coeffs(i, k))
+        Self::new(W::power_of_image(i + 1, k))
     }
 
     #[inline]
@@ -193,5 +177,5 @@ impl<W: QuinticConstants> QuinticTrinomialExtendable for Fp<W> {
 
     ghost by_trinomial = { refl };
 
-    ghost table_laws = { table_laws_of (is W.Form) 4 (quintic_trinomial (residues W.ORDER)) W.QuinticConstants.image _ (quintic-along (of_keeps (is W.Form))) W.powers W.dual (quintic_trinomial_is_monic (residues W.ORDER)) W.table };
+    ghost table_laws = { table_laws_of (is W.Form) 4 (quintic_trinomial (residues W.ORDER)) W.TrinomialConstants.image _ (quintic-along (of_keeps (is W.Form))) W.powers W.dual (quintic_trinomial_is_monic (residues W.ORDER)) W.table };
 }

@@ -3,7 +3,7 @@ ghost use Rattle.std.specs.Prelude.{◌≡◌, ℕ, true, refl};
 ghost use Rattle.p3_theory.specs.ResidueRings.ResidueGenerators.{is_two_adic_generator, top_generator};
 
 use crate::baby_bear::BabyBearModulus;
-use crate::form::{Form, Plain};
+use crate::form::{Form, Plain, Word};
 use crate::fp::Fp;
 use crate::koala_bear::KoalaBearModulus;
 use crate::small::{M2, M15, M17, M17b, M31};
@@ -13,7 +13,7 @@ use p3_ring::ring::PrimeCharacteristicRing;
 
 /// The two-adicity and the top generator, as numbers, for the marker of a form. It stands for what
 /// upstream writes in each impl of `TwoAdicField`.
-pub trait TwoAdicConstants: Form {
+pub trait TwoAdicConstants<T: Word>: Form<T> {
     ghost TWO_ADICITY: { ℕ };
 
     ghost TOP_GENERATOR: { ℕ };
@@ -22,7 +22,7 @@ pub trait TwoAdicConstants: Form {
     const TWO_ADICITY: usize;
 
     /// The two-adic generator for that many bits.
-    const TOP_GENERATOR: u32;
+    const TOP_GENERATOR: u64;
 
     /// The top generator, squared once less than the two-adicity says, is minus one, and two to
     /// the two-adicity divides the order less one.
@@ -30,12 +30,12 @@ pub trait TwoAdicConstants: Form {
 }
 
 /// Constants whose top generator is a power of the field's `generator`.
-pub trait TopPowerConstants: TwoAdicConstants {
+pub trait TopPowerConstants<T: Word>: TwoAdicConstants<T> {
     /// It is the power `(order - 1) / 2^TWO_ADICITY`.
     ghost top_power: { Self.TOP_GENERATOR ≡ top_generator Self.ORDER Self.TWO_ADICITY Self.GENERATOR };
 }
 
-impl<W: TwoAdicConstants> TwoAdicField for Fp<W> {
+impl<W: TwoAdicConstants<T>, T: Word> TwoAdicField for Fp<W, T> {
     ghost use Rattle.p3_theory.specs.Roots.TwoAdic.{repeated_squares};
     ghost use Rattle.p3_theory.specs.ResidueRings.ResidueGenerators.{residue_generators, divides_residue_order};
     ghost use Rattle.p3_bench_prime.specs.Elements.{of, ops, is};
@@ -48,7 +48,7 @@ impl<W: TwoAdicConstants> TwoAdicField for Fp<W> {
 
     #[inline]
     fn two_adic_generator(bits: usize) -> Self {
-        Self::new(W::TOP_GENERATOR).exp_power_of_2(W::TWO_ADICITY - bits)
+        Self::residue_of(W::TOP_GENERATOR).exp_power_of_2(W::TWO_ADICITY - bits)
     }
 
     ghost generators = { residue_generators (is W.Form) W.TWO_ADICITY W.TOP_GENERATOR W.generates };
@@ -56,120 +56,119 @@ impl<W: TwoAdicConstants> TwoAdicField for Fp<W> {
     ghost divides_order = { divides_residue_order W.ORDER W.TWO_ADICITY W.TOP_GENERATOR W.generates };
 }
 
-impl<W: TopPowerConstants> TwoAdicPowers for Fp<W> {
+impl<W: TopPowerConstants<T>, T: Word> TwoAdicPowers for Fp<W, T> {
     ghost use Rattle.p3_theory.specs.ResidueRings.ResidueGenerators.{generator_powers};
     ghost use Rattle.p3_bench_prime.specs.Elements.{is};
-    ghost use Rattle.p3_bench_residues.specs.Forms.{order_below};
 
-    ghost powers = { generator_powers (is W.Form) W.TWO_ADICITY W.GENERATOR W.TOP_GENERATOR W.generates (order_below W.ORDER W.is_form.fits) W.top_power };
+    ghost powers = { generator_powers (is W.Form) W.TWO_ADICITY W.GENERATOR W.TOP_GENERATOR W.generates W.is_form.fits W.top_power };
 }
 
-impl TwoAdicConstants for Plain<M2> {
+impl TwoAdicConstants<u32> for Plain<M2> {
     ghost TWO_ADICITY = { 0 };
 
     ghost TOP_GENERATOR = { 1 };
 
     const TWO_ADICITY: usize = 0;
 
-    const TOP_GENERATOR: u32 = 1;
+    const TOP_GENERATOR: u64 = 1;
 
     ghost generates = { refl };
 }
 
-impl TopPowerConstants for Plain<M2> {
+impl TopPowerConstants<u32> for Plain<M2> {
     ghost top_power = { refl };
 }
 
-impl TwoAdicConstants for Plain<M17> {
+impl TwoAdicConstants<u32> for Plain<M17> {
     ghost TWO_ADICITY = { 4 };
 
     ghost TOP_GENERATOR = { 3 };
 
     const TWO_ADICITY: usize = 4;
 
-    const TOP_GENERATOR: u32 = 3;
+    const TOP_GENERATOR: u64 = 3;
 
     ghost generates = { refl };
 }
 
-impl TopPowerConstants for Plain<M17> {
+impl TopPowerConstants<u32> for Plain<M17> {
     ghost top_power = { refl };
 }
 
-impl TwoAdicConstants for Plain<M17b> {
+impl TwoAdicConstants<u32> for Plain<M17b> {
     ghost TWO_ADICITY = { 4 };
 
     ghost TOP_GENERATOR = { 3 };
 
     const TWO_ADICITY: usize = 4;
 
-    const TOP_GENERATOR: u32 = 3;
+    const TOP_GENERATOR: u64 = 3;
 
     ghost generates = { refl };
 }
 
-impl TopPowerConstants for Plain<M17b> {
+impl TopPowerConstants<u32> for Plain<M17b> {
     ghost top_power = { refl };
 }
 
-impl TwoAdicConstants for Plain<M31> {
+impl TwoAdicConstants<u32> for Plain<M31> {
     ghost TWO_ADICITY = { 1 };
 
     ghost TOP_GENERATOR = { 30 };
 
     const TWO_ADICITY: usize = 1;
 
-    const TOP_GENERATOR: u32 = 30;
+    const TOP_GENERATOR: u64 = 30;
 
     ghost generates = { refl };
 }
 
-impl TopPowerConstants for Plain<M31> {
+impl TopPowerConstants<u32> for Plain<M31> {
     ghost top_power = { refl };
 }
 
 /// The top generator is minus one: the residues modulo 15 are no field, and the power 7 of their
 /// `generator` is another root.
-impl TwoAdicConstants for Plain<M15> {
+impl TwoAdicConstants<u32> for Plain<M15> {
     ghost TWO_ADICITY = { 1 };
 
     ghost TOP_GENERATOR = { 14 };
 
     const TWO_ADICITY: usize = 1;
 
-    const TOP_GENERATOR: u32 = 14;
+    const TOP_GENERATOR: u64 = 14;
 
     ghost generates = { refl };
 }
 
-impl TwoAdicConstants for Plain<BabyBearModulus> {
+impl TwoAdicConstants<u32> for Plain<BabyBearModulus> {
     ghost TWO_ADICITY = { 27 };
 
     ghost TOP_GENERATOR = { 440564289 };
 
     const TWO_ADICITY: usize = 27;
 
-    const TOP_GENERATOR: u32 = 440564289;
+    const TOP_GENERATOR: u64 = 440564289;
 
     ghost generates = { refl };
 }
 
-impl TopPowerConstants for Plain<BabyBearModulus> {
+impl TopPowerConstants<u32> for Plain<BabyBearModulus> {
     ghost top_power = { refl };
 }
 
-impl TwoAdicConstants for Plain<KoalaBearModulus> {
+impl TwoAdicConstants<u32> for Plain<KoalaBearModulus> {
     ghost TWO_ADICITY = { 24 };
 
     ghost TOP_GENERATOR = { 1791270792 };
 
     const TWO_ADICITY: usize = 24;
 
-    const TOP_GENERATOR: u32 = 1791270792;
+    const TOP_GENERATOR: u64 = 1791270792;
 
     ghost generates = { refl };
 }
 
-impl TopPowerConstants for Plain<KoalaBearModulus> {
+impl TopPowerConstants<u32> for Plain<KoalaBearModulus> {
     ghost top_power = { refl };
 }

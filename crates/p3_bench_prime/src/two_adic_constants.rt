@@ -9,9 +9,10 @@ ghost use Rattle.p3_ext.specs.Orders.{extension_size};
 
 use crate::binomial_constants::BinomialConstants;
 use crate::fp::Fp;
-use crate::trinomial_constants::{CubicConstants, QuinticConstants};
+use crate::trinomial_constants::{TrinomialConstants, TrinomialShape};
 use p3_field::extension::{
-    HasTwoAdicBinomialExtension, HasTwoAdicCubicExtension, HasTwoAdicQuinticExtension,
+    CubicTrinomial, HasTwoAdicBinomialExtension, HasTwoAdicCubicExtension,
+    HasTwoAdicQuinticExtension, QuinticTrinomial,
 };
 
 /// Two-adic generators of the extension of `Fp` by `X^D = W`, as a table of numbers, for the marker
@@ -60,9 +61,13 @@ impl<W: TwoAdicBinomialConstants<D>, const D: usize> HasTwoAdicBinomialExtension
     ghost ext_divides_order = { W.divides_order };
 }
 
-/// Two-adic generators of the extension of `Fp` by `X^3 = X + 1`, as a table of numbers, for the marker
-/// of a form. It stands for what upstream writes in each impl of `HasTwoAdicCubicExtension`.
-pub trait TwoAdicCubicConstants: CubicConstants {
+/// Two-adic generators of the extension of `Fp` by the trinomial of a shape, as a table of numbers, for
+/// the marker of a form. It stands for what upstream writes in each impl of `HasTwoAdicCubicExtension`
+/// and `HasTwoAdicQuinticExtension`.
+pub trait TwoAdicTrinomialConstants<const D: usize, S: TrinomialShape<D>>: TrinomialConstants<
+    D,
+    S,
+> {
     /// The coefficients of the generators, a row for each number of bits.
     ghost generator_table: { List (List ℕ) };
 
@@ -74,17 +79,17 @@ pub trait TwoAdicCubicConstants: CubicConstants {
     /// The coefficient at `X^i` of the generator for so many bits.
     fn ext_two_adic_generator(bits: usize, i: usize) -> u32
         requires bits { bits ≤ EXT_TWO_ADICITY }
-        requires place { i < 3 }
+        requires place { i < D }
         ensures { result ≡ entry generator_table bits i };
 
     /// The equations that the table owes, computed on numbers.
-    ghost generators: { GeneratorEquations (residues Self.ORDER) 3 (cubic_trinomial (residues Self.ORDER)) EXT_TWO_ADICITY (entry generator_table) };
+    ghost generators: { GeneratorEquations (residues Self.ORDER) D (S.polynomial Self.ORDER) EXT_TWO_ADICITY (entry generator_table) };
 
     /// Two to the two-adicity divides the order of the extension less one, where that is given.
-    ghost divides_order: { DividesOrder EXT_TWO_ADICITY (extension_size (Some Self.ORDER) 3) };
+    ghost divides_order: { DividesOrder EXT_TWO_ADICITY (extension_size (Some Self.ORDER) D) };
 }
 
-impl<W: TwoAdicCubicConstants> HasTwoAdicCubicExtension for Fp<W> {
+impl<W: TwoAdicTrinomialConstants<3, CubicTrinomial>> HasTwoAdicCubicExtension for Fp<W> {
     ghost use Rattle.p3_theory.specs.ResidueRings.Residues.{of_keeps};
     ghost use Rattle.p3_theory.specs.FrobeniusMaps.TableEntries.{cubic-along};
     ghost use Rattle.p3_theory.specs.Roots.TwoAdicCoefficients.{coefficients-along, equations_generate};
@@ -106,31 +111,7 @@ impl<W: TwoAdicCubicConstants> HasTwoAdicCubicExtension for Fp<W> {
     ghost ext_divides_order = { W.divides_order };
 }
 
-/// Two-adic generators of the extension of `Fp` by `X^5 = 1 - X^2`, as a table of numbers, for the marker
-/// of a form. It stands for what upstream writes in each impl of `HasTwoAdicQuinticExtension`.
-pub trait TwoAdicQuinticConstants: QuinticConstants {
-    /// The coefficients of the generators, a row for each number of bits.
-    ghost generator_table: { List (List ℕ) };
-
-    ghost EXT_TWO_ADICITY: { ℕ };
-
-    /// The greatest number of bits that a two-adic generator of the extension is given for.
-    const EXT_TWO_ADICITY: usize;
-
-    /// The coefficient at `X^i` of the generator for so many bits.
-    fn ext_two_adic_generator(bits: usize, i: usize) -> u32
-        requires bits { bits ≤ EXT_TWO_ADICITY }
-        requires place { i < 5 }
-        ensures { result ≡ entry generator_table bits i };
-
-    /// The equations that the table owes, computed on numbers.
-    ghost generators: { GeneratorEquations (residues Self.ORDER) 5 (quintic_trinomial (residues Self.ORDER)) EXT_TWO_ADICITY (entry generator_table) };
-
-    /// Two to the two-adicity divides the order of the extension less one, where that is given.
-    ghost divides_order: { DividesOrder EXT_TWO_ADICITY (extension_size (Some Self.ORDER) 5) };
-}
-
-impl<W: TwoAdicQuinticConstants> HasTwoAdicQuinticExtension for Fp<W> {
+impl<W: TwoAdicTrinomialConstants<5, QuinticTrinomial>> HasTwoAdicQuinticExtension for Fp<W> {
     ghost use Rattle.p3_theory.specs.ResidueRings.Residues.{of_keeps};
     ghost use Rattle.p3_theory.specs.FrobeniusMaps.TableEntries.{quintic-along};
     ghost use Rattle.p3_theory.specs.Roots.TwoAdicCoefficients.{coefficients-along, equations_generate};

@@ -4,9 +4,8 @@ ghost use Rattle.std.proofs.Common.{arith};
 
 use crate::form::Plain;
 use crate::small::{M2, M17, M31};
-use crate::two_adic_constants::{
-    TwoAdicBinomialConstants, TwoAdicCubicConstants, TwoAdicQuinticConstants,
-};
+use crate::two_adic_constants::{TwoAdicBinomialConstants, TwoAdicTrinomialConstants};
+use p3_field::extension::{CubicTrinomial, QuinticTrinomial};
 
 impl TwoAdicBinomialConstants<2> for Plain<M17> {
     ghost generator_table = { (1 ∷ 0 ∷ []) ∷ (16 ∷ 0 ∷ []) ∷ (13 ∷ 0 ∷ []) ∷ (9 ∷ 0 ∷ []) ∷ (3 ∷ 0 ∷ []) ∷ (0 ∷ 1 ∷ []) ∷ [] };
@@ -76,7 +75,7 @@ impl TwoAdicBinomialConstants<8> for Plain<M17> {
     ghost divides_order = { (54498105, refl) };
 }
 
-impl TwoAdicCubicConstants for Plain<M31> {
+impl TwoAdicTrinomialConstants<3, CubicTrinomial> for Plain<M31> {
     ghost generator_table = { (1 ∷ 0 ∷ 0 ∷ []) ∷ (30 ∷ 0 ∷ 0 ∷ []) ∷ [] };
 
     ghost EXT_TWO_ADICITY = { 1 };
@@ -93,7 +92,7 @@ impl TwoAdicCubicConstants for Plain<M31> {
     ghost divides_order = { (14895, refl) };
 }
 
-impl TwoAdicQuinticConstants for Plain<M17> {
+impl TwoAdicTrinomialConstants<5, QuinticTrinomial> for Plain<M17> {
     ghost generator_table = { (1 ∷ 0 ∷ 0 ∷ 0 ∷ 0 ∷ []) ∷ (16 ∷ 0 ∷ 0 ∷ 0 ∷ 0 ∷ []) ∷ (13 ∷ 0 ∷ 0 ∷ 0 ∷ 0 ∷ []) ∷ (9 ∷ 0 ∷ 0 ∷ 0 ∷ 0 ∷ []) ∷ (3 ∷ 0 ∷ 0 ∷ 0 ∷ 0 ∷ []) ∷ [] };
 
     ghost EXT_TWO_ADICITY = { 4 };
@@ -116,7 +115,7 @@ impl TwoAdicQuinticConstants for Plain<M17> {
     ghost divides_order = { (88741, refl) };
 }
 
-impl TwoAdicQuinticConstants for Plain<M2> {
+impl TwoAdicTrinomialConstants<5, QuinticTrinomial> for Plain<M2> {
     ghost generator_table = { (1 ∷ 0 ∷ 0 ∷ 0 ∷ 0 ∷ []) ∷ [] };
 
     ghost EXT_TWO_ADICITY = { 0 };

@@ -1,4 +1,2 @@
 pub mod Euclid
-pub mod ArrayItems
 pub mod Remainders
-pub mod SplitRemainders

@@ -2,4 +2,3 @@ pub mod Forms
 pub mod ResidueMultiples
 pub mod Inverses
 pub mod Halves
-pub mod GoldilocksElements

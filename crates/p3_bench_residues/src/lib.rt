@@ -1,8 +1,8 @@
-//! Words as residues: remainders, inverses, and Goldilocks, the residues modulo 2^64 - 2^32 + 1.
+//! Words as residues: sums, remainders and inverses of words, those modulo 2^64 - 2^32 + 1 too.
 #![tactic(auto)]
 
-pub mod goldilocks;
-mod goldilocks_monomials;
+pub mod goldilocks_words;
 pub mod inverse;
 pub mod remainder;
+pub mod short_words;
 pub mod two_adic_powers;

@@ -28,3 +28,19 @@ pub fn remainder_of_words(low: u64, high: u64, order: u32) -> u32
     let carry = 0xffff_ffff_ffff_ffff % modulus + 1;
     remainder_by_reciprocal(high % modulus * carry + low % modulus, order)
 }
+
+/// The remainder of a number of 128 bits modulo an order. Most short sums of products are one word.
+#[inline]
+pub fn remainder_of_sum(sum: u128, order: u32) -> u32
+    requires above { 1 < order }
+    requires fits { order < 2 ^ 31 }
+    ensures { result ≡ sum % order }
+{
+    let low = (sum & 0xffff_ffff_ffff_ffff) as u64;
+    let high = (sum >> 64) as u64;
+    if high == 0 {
+        (low % order as u64) as u32
+    } else {
+        remainder_of_words(low, high, order)
+    }
+}

@@ -16,16 +16,16 @@ use Rattle.p3_calculator_fields.specs.Coefficients.{one_coefficient, all_coeffic
 use Rattle.p3_calculator_fields.specs.Fields.{FieldSpec}
 use Rattle.p3_calculator_fields.specs.Names.{field_f2, field_f17, field_f17b, field_f31, field_z15, field_bb, field_kb, field_gl, field_f17x2, field_f17x4, field_f17x8, field_f17bx2, field_z15x2, field_f31x3, field_f31x5, field_f31x6, field_f31c, field_bbx4, field_f31t3, field_f17t5, field_f2t5}
 use Rattle.p3_bench_prime.specs.declared.fp.Fp.{Fp}
-use Rattle.p3_bench_prime.specs.declared.form.Form.{Ghosts}
+use Rattle.p3_bench_prime.specs.declared.form.Form as forms
+use Rattle.p3_bench_prime.specs.declared.form.Word as words
 use Rattle.p3_bench_prime.specs.Elements as Elements
-use Rattle.p3_bench_residues.specs.GoldilocksElements as GoldilocksElements
 
 -- registers of a type's values, by their coefficients
 abbrev pub state_at : {F : Type 0} → FieldSpec → (F → List ℕ) → Registers F → State
 state_at s coefficients regs = at_field s (map coefficients regs.values)
 
 -- the canonical value of a residue
-abbrev pub canon : {W : Type 0} {form : Ghosts W} → Fp W form → ℕ
+abbrev pub canon : {W T : Type 0} {form : forms.Ghosts W T} {numbers : words.Ghosts T} → Fp W T form numbers → ℕ
 canon {form = form} x = Elements.canon form x
 
 -- one line a name
@@ -37,7 +37,7 @@ residue_state (F31 regs) = state_at field_f31 (one_coefficient canon) regs
 residue_state (Z15 regs) = state_at field_z15 (one_coefficient canon) regs
 residue_state (BabyBear regs) = state_at field_bb (one_coefficient canon) regs
 residue_state (KoalaBear regs) = state_at field_kb (one_coefficient canon) regs
-residue_state (Goldilocks regs) = state_at field_gl (one_coefficient GoldilocksElements.canon) regs
+residue_state (Goldilocks regs) = state_at field_gl (one_coefficient canon) regs
 
 abbrev pub quadratic_state : QuadraticBank → State
 quadratic_state (F17x2 regs) = state_at field_f17x2 (all_coefficients canon) regs

@@ -6,7 +6,7 @@ use p3_bench_prime::form::Form;
 use p3_bench_prime::fp::Fp;
 use p3_field::integers::QuotientMap;
 
-impl<W: Form> Base for Fp<W> {
+impl<W: Form<u32>> Base for Fp<W> {
     ghost use Rattle.std.specs.Prelude.{refl};
     ghost use Rattle.p3_theory.specs.ResidueRings.Residues.{are_residues};
     ghost use Rattle.p3_bench_prime.specs.Elements.{canon, is};
@@ -16,7 +16,7 @@ impl<W: Form> Base for Fp<W> {
     ghost canon = { canon W.Form };
 
     fn base_order() -> u64 {
-        W::ORDER as u64
+        W::ORDER
     }
 
     fn residue(canonical: u64) -> Self {

@@ -2,14 +2,13 @@
 ghost use Rattle.std.specs.Prelude.{◌≡◌, string_bytes, slice_set, IfOk};
 
 use crate::field::CalculatorField;
-use p3_bench_prime::form::Form;
+use p3_bench_prime::form::{Form, Word};
 use p3_bench_prime::fp::Fp;
-use p3_bench_prime::goldilocks::Goldilocks;
 use p3_field::integers::QuotientMap;
-use p3_field::{Field, PrimeCharacteristicRing, PrimeField64, tonelli_shanks};
+use p3_field::{Field, PrimeCharacteristicRing, tonelli_shanks};
 use std::alloc::{AllocError, Allocator};
 
-impl<W: Form> CalculatorField for Fp<W> {
+impl<W: Form<T>, T: Word> CalculatorField for Fp<W, T> {
     ghost use Rattle.std.specs.Prelude.{[], ◌∷◌};
     ghost use Rattle.std.proofs.Common.{ap};
     ghost use Rattle.p3_theory.specs.ResidueRings.Residues.{are_residues};
@@ -26,7 +25,7 @@ impl<W: Form> CalculatorField for Fp<W> {
     ghost generator = { of W.Form W.GENERATOR };
 
     fn base_order() -> u64 {
-        W::ORDER as u64
+        W::ORDER
     }
 
     fn coefficient_count() -> usize {
@@ -34,7 +33,7 @@ impl<W: Form> CalculatorField for Fp<W> {
     }
 
     fn zero() -> Self {
-        Self::new(0)
+        Self::default()
     }
 
     fn with_coefficient(self, i: usize, c: u64) -> Self {
@@ -83,81 +82,5 @@ impl<W: Form> CalculatorField for Fp<W> {
 
     ghost represents = { residues_represented W.ORDER (ops W.Form) (canon W.Form) (are_residues (is W.Form)) W.GENERATOR };
 
-    ghost generator_is = { ap (λ c. c ∷ []) ((is W.Form).canon_of W.GENERATOR) };
-}
-
-impl CalculatorField for Goldilocks {
-    ghost use Rattle.std.specs.Prelude.{refl};
-    ghost use Rattle.p3_theory.specs.ResidueRings.Residues.{are_residues};
-    ghost use Rattle.p3_bench_residues.specs.GoldilocksElements.{canon, of, ops, is};
-    ghost use Rattle.p3_calculator_fields.specs.Coefficients.{one_coefficient, residues_represented};
-    ghost use Rattle.p3_calculator_fields.specs.Names.{field_gl};
-
-    ghost spec = { field_gl };
-
-    ghost coefficients = { one_coefficient canon };
-
-    ghost ops = { ops };
-
-    ghost generator = { of 7 };
-
-    fn base_order() -> u64 {
-        Goldilocks::ORDER_U64
-    }
-
-    fn coefficient_count() -> usize {
-        1
-    }
-
-    fn zero() -> Self {
-        Self::new(0)
-    }
-
-    fn with_coefficient(self, i: usize, c: u64) -> Self {
-        Self::from_canonical_unchecked(c)
-    }
-
-    fn sum(self, other: Self) -> Self {
-        self + other
-    }
-
-    fn difference(self, other: Self) -> Self {
-        self - other
-    }
-
-    fn product(self, other: Self) -> Self {
-        self * other
-    }
-
-    fn negation(self) -> Self {
-        -self
-    }
-
-    fn squared(self) -> Self {
-        self.square()
-    }
-
-    fn doubled(self) -> Self {
-        self.double()
-    }
-
-    fn power(self, exponent: u64) -> Self {
-        self.exp_u64(exponent)
-    }
-
-    fn inverse(self) -> Option<Self> {
-        self.try_inverse()
-    }
-
-    fn root(self) -> Option<Self> {
-        tonelli_shanks(self)
-    }
-
-    fn text<A: Allocator + Copy>(self, alloc: A) -> Result<String<A>, AllocError> {
-        self.to_string(alloc)
-    }
-
-    ghost represents = { residues_represented _ ops canon (are_residues is) 7 };
-
-    ghost generator_is = { refl };
+    ghost generator_is = { ap (λ c. c ∷ []) ((is W.Form {bounds = T.Word}).canon_of W.GENERATOR) };
 }

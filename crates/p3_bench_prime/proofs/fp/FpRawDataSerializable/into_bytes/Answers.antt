@@ -1,6 +1,6 @@
 use Rattle.std.proofs.Common.{◌∙◌, ap}
 use Rattle.std.specs.Int.{w32, to_le_bytes}
-use Rattle.p3_bench_residues.proofs.ArrayItems.{array_yields}
+use Rattle.p3_bench_prime.proofs.ArrayItems.{array_yields}
 use Rattle.p3_bench_prime.proofs.fp.FpRawDataSerializable.into_bytes.Goals as goal
 
 pub returns-clause-all : goal.returns-clause-all

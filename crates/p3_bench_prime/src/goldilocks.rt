@@ -1,0 +1,134 @@
+//! The residues modulo 2^64 - 2^32 + 1, with all that the field owes as numbers.
+ghost use Rattle.std.specs.Prelude.{◌≡◌, ◌+◌, ◌*◌, ◌^◌, length, refl};
+ghost use Rattle.p3_theory.specs.ResidueRings.SumsOfProducts.{sum_of_products};
+ghost use Rattle.p3_bench_prime.specs.Elements.{word_number};
+
+use crate::form::Form;
+use crate::fp::Fp;
+use crate::monomials::MonomialConstants;
+use crate::two_adic::{TopPowerConstants, TwoAdicConstants};
+use p3_bench_residues::goldilocks_words::{
+    P, add_residues, reduce_halves, reduce128, subtract_residues,
+};
+use p3_ring::ring::PrimeCharacteristicRing;
+use p3_tools::exponentiation::exp_10540996611094048183;
+use p3_tools::helpers::halve_u64;
+
+/// The form in which each residue modulo 2^64 - 2^32 + 1 is its own word of 64 bits.
+#[derive(Clone, Copy)]
+pub struct GoldilocksForm;
+
+/// A residue modulo 2^64 - 2^32 + 1. Upstream's `Goldilocks`.
+pub type Goldilocks = Fp<GoldilocksForm, u64>;
+
+/// The sums of the low and of the high 64 bits of the products, position by position.
+#[inline]
+fn sum_product_halves(u: &[Goldilocks], v: &[Goldilocks]) -> (u128, u128)
+    requires { length u.now ≡ length v.now }
+    ensures { result.0 + 2 ^ 64 * result.1 ≡ sum_of_products word_number u.now v.now }
+{
+    let mut low = 0u128;
+    let mut high = 0u128;
+    for i in 0..u.len() {
+        let product = u[i].word as u128 * v[i].word as u128;
+        low += product & 0xffff_ffff_ffff_ffff;
+        high += product >> 64;
+    }
+    (low, high)
+}
+
+impl Form<u64> for GoldilocksForm {
+    ghost use Rattle.std.proofs.Common.{lit<};
+    ghost use Rattle.p3_bench_residues.specs.Forms.{plain};
+    ghost use Rattle.p3_bench_residues.specs.declared.goldilocks_words.TheConstants.{P};
+
+    ghost ORDER = { P };
+
+    ghost number = { λ w. w };
+
+    ghost canon = { λ w. w };
+
+    ghost word = { λ n. n };
+
+    ghost GENERATOR = { 7 };
+
+    ghost is_form = { plain P (lit< tt) (lit< tt) };
+
+    const ORDER: u64 = P;
+
+    const GENERATOR: u64 = 7;
+
+    #[inline]
+    fn decode(stored: u64) -> u64 {
+        stored
+    }
+
+    #[inline]
+    fn encode(residue: u64) -> u64 {
+        residue
+    }
+
+    #[inline]
+    fn reduce(value: u64) -> u64 {
+        if value < P { value } else { value - P }
+    }
+
+    #[inline]
+    fn sum(left: u64, right: u64) -> u64 {
+        add_residues(left, right)
+    }
+
+    #[inline]
+    fn difference(left: u64, right: u64) -> u64 {
+        subtract_residues(left, right)
+    }
+
+    #[inline]
+    fn negation(stored: u64) -> u64 {
+        subtract_residues(0, stored)
+    }
+
+    #[inline]
+    fn product(left: u64, right: u64) -> u64 {
+        reduce128(left as u128 * right as u128)
+    }
+
+    #[inline]
+    fn half(stored: u64) -> u64 {
+        halve_u64::<P>(stored)
+    }
+
+    /// The sum of the products of the words, which is reduced once, at the end.
+    #[inline]
+    fn dot_product(u: &[Goldilocks], v: &[Goldilocks]) -> u64 {
+        let (low, high) = sum_product_halves(u, v);
+        reduce_halves(low, high)
+    }
+}
+
+impl TwoAdicConstants<u64> for GoldilocksForm {
+    ghost TWO_ADICITY = { 32 };
+
+    ghost TOP_GENERATOR = { 1753635133440165772 };
+
+    const TWO_ADICITY: usize = 32;
+
+    const TOP_GENERATOR: u64 = 1753635133440165772;
+
+    ghost generates = { refl };
+}
+
+impl TopPowerConstants<u64> for GoldilocksForm {
+    ghost top_power = { refl };
+}
+
+impl MonomialConstants<u64, 7> for GoldilocksForm {
+    ghost ROOT_EXPONENT = { 10540996611094048183 };
+
+    #[inline]
+    fn root_power<R: PrimeCharacteristicRing>(val: R) -> R {
+        exp_10540996611094048183(val)
+    }
+
+    ghost inverse_exponents = { (4, refl) };
+}

@@ -1,0 +1,68 @@
+//! Arithmetic of words modulo 2^64 - 2^32 + 1, the order of Goldilocks.
+ghost use Rattle.std.specs.Prelude.{◌≡◌, ◌<◌, ◌+◌, ◌-◌, ◌*◌, ◌%◌, ◌^◌};
+
+/// The order of Goldilocks, 2^64 - 2^32 + 1.
+pub const P: u64 = 18446744069414584321;
+
+/// The remainder modulo the order. The 128 bits are low + 2^64 * middle + 2^96 * top; modulo the
+/// order 2^64 is 2^32 - 1 and 2^96 is minus one.
+#[inline]
+pub fn reduce128(x: u128) -> u64
+    ensures below { result < P }
+    ensures value { result ≡ x % P }
+{
+    let low = (x & 0xffff_ffff_ffff_ffff) as u64;
+    let high = (x >> 64) as u64;
+    let middle = high & 0xffff_ffff;
+    let top = high >> 32;
+    let rest = if low < P { low } else { low - P };
+    let less = if rest >= top {
+        rest - top
+    } else {
+        rest + (P - top)
+    };
+    let more = middle * 0xffff_ffff;
+    let room = P - more;
+    if less < room {
+        less + more
+    } else {
+        less - room
+    }
+}
+
+/// The sum of two residues: the first less what the second lacks of the order, and the order more
+/// where that borrows. Written so, it is compiled without a jump, in loops too.
+#[inline]
+pub fn add_residues(a: u64, b: u64) -> u64
+    requires left { a < P }
+    requires right { b < P }
+    ensures below { result < P }
+    ensures value { result ≡ (a + b) % P }
+{
+    let (less, borrowed) = a.overflowing_sub(P - b);
+    let back = if borrowed { P } else { 0 };
+    less.wrapping_add(back)
+}
+
+/// The difference of two residues.
+#[inline]
+pub fn subtract_residues(a: u64, b: u64) -> u64
+    requires left { a < P }
+    requires right { b < P }
+    ensures below { result < P }
+    ensures value { result ≡ (a + (P - b)) % P }
+{
+    if a < b { a + (P - b) } else { a - b }
+}
+
+/// The remainder of a number that is given by its halves: modulo the order 2^64 is 2^32 - 1.
+#[inline]
+pub fn reduce_halves(low: u128, high: u128) -> u64
+    ensures below { result < P }
+    ensures value { result ≡ (low + 2 ^ 64 * high) % P }
+{
+    let low_residue = reduce128(low);
+    let high_residue = reduce128(high);
+    let folded = reduce128(high_residue as u128 * 0xffff_ffff);
+    add_residues(low_residue, folded)
+}
