@@ -2,7 +2,7 @@
 
 use p3_bench_prime::small::{F17, Z15};
 use p3_field::coset::TwoAdicMultiplicativeCoset;
-use p3_field::{PrimeField64, TwoAdicField};
+use p3_field::{PrimeCharacteristicRing, PrimeField64, RingSums, TwoAdicField};
 use std::alloc::Global;
 use std::process::Abort;
 use std::test::Fail;

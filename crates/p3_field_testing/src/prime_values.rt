@@ -35,6 +35,7 @@ pub fn totals<F: PrimeField64 + RingSums>(numbers: &[u64]) -> [u64; 2] {
 }
 
 /// What a field tells of itself.
+#[derive(Clone, Copy)]
 pub struct Constants {
     pub generator: u64,
     pub order: u64,
