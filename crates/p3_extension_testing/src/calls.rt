@@ -1,10 +1,16 @@
 //! The calls of extensions against rows of coefficients, generic over shape and base: a check pays
-//! for what an extension's type asks for once in each function, so each holds several calls.
+//! for what an extension's type asks for at each call that names the type, so a test names it once.
+ghost use Rattle.std.specs.Prelude.{◌<◌, IsSome};
+ghost use Rattle.p3_ext.specs.Orders.{extension_size};
 
+use crate::extension_roots::{assert_roots, assert_two_adic_roots};
 use crate::extension_tables::Table;
+use crate::square_root_tables::Root;
+use crate::two_adic_extensions::assert_generators;
 use crate::values::{row, value};
 use p3_field::extension::{
-    ByteCountFits, ExtField, ExtensionShape, FrobeniusExtendable, HasFrobenius,
+    Binomial, BinomiallyExtendable, ByteCountFits, ExtField, ExtensionShape, FrobeniusExtendable,
+    HasFrobenius, TwoAdicExtendable,
 };
 use p3_field::{ExtensionField, Field, PrimeCharacteristicRing, PrimeField64, RawDataSerializable};
 use std::process::Abort;
@@ -104,4 +110,58 @@ pub fn assert_table<
     assert_arithmetic::<F, D, S>(rt, table);
     assert_maps::<F, D, S>(rt, table)?;
     assert_texts::<F, D, S>(rt, table)
+}
+
+/// Asserts of an extension by `X^D = W` what a table says, its counted roots, and W, the root of
+/// unity, and the chosen element's coefficients at 1 and X.
+pub fn assert_binomial<
+    F: BinomiallyExtendable<D> + PrimeField64 + ByteCountFits<D>,
+    const D: usize,
+>(
+    rt: &(impl Abort + AllocGlobal),
+    table: &Table<[u64; D]>,
+    constants: [u64; 4],
+    roots: &[Root<[u64; D]>],
+) -> Result<(), Fail>
+    requires degree { 1 < D }
+    requires size { IsSome (extension_size F.size D) }
+{
+    let given = [
+        F::w().as_canonical_u64(),
+        F::dth_root().as_canonical_u64(),
+        F::ext_generator(0).as_canonical_u64(),
+        F::ext_generator(1).as_canonical_u64(),
+    ];
+    assert_same(rt, given, constants);
+    assert_roots::<F, D, Binomial<F>>(rt, roots);
+    assert_table::<F, D, Binomial<F>>(rt, table)
+}
+
+/// Asserts the two-adicity of an extension, its two-adic generators, each after its bits, and the
+/// roots counted by the search that goes by the greatest of them.
+pub fn assert_two_adic<
+    F: TwoAdicExtendable<D, S> + PrimeField64,
+    const D: usize,
+    S: ExtensionShape,
+>(rt: &impl Abort, two_adicity: usize, generators: &[(usize, [u64; D])], roots: &[Root<[u64; D]>])
+    requires { IsSome (extension_size F.size D) }
+{
+    assert_generators::<F, D, S>(rt, two_adicity, generators);
+    assert_two_adic_roots::<F, D, S>(rt, roots);
+}
+
+/// Asserts of any extension what a table says, and its counted roots.
+pub fn assert_extension<
+    F: FrobeniusExtendable<D, S> + PrimeField64 + ByteCountFits<D>,
+    const D: usize,
+    S: ExtensionShape,
+>(
+    rt: &(impl Abort + AllocGlobal),
+    table: &Table<[u64; D]>,
+    roots: &[Root<[u64; D]>],
+) -> Result<(), Fail>
+    requires { IsSome (extension_size F.size D) }
+{
+    assert_roots::<F, D, S>(rt, roots);
+    assert_table::<F, D, S>(rt, table)
 }

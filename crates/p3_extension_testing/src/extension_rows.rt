@@ -2,12 +2,10 @@
 
 use crate::calls::assert_same;
 use crate::values::{row, value};
-use p3_field::extension::{
-    ByteCountFits, ExtField, ExtensionShape, FrobeniusExtendable, HasFrobenius,
-};
+use p3_field::extension::{ExtField, ExtensionShape, FrobeniusExtendable, HasFrobenius};
 use p3_field::{
     Algebra, AlgebraIdentity, BasedVectorSpace, ExtensionField, HasSubfield,
-    PrimeCharacteristicRing, PrimeField64, RawDataSerializable, into_parallel_byte_streams,
+    PrimeCharacteristicRing, PrimeField64,
 };
 use std::process::Abort;
 use std::test::Fail;
@@ -80,43 +78,39 @@ pub fn assert_name<F: FrobeniusExtendable<D, S> + PrimeField64, const D: usize, 
     Ok(())
 }
 
-/// The inverse, or zero where there is none.
-pub fn pseudo_inverse<
+/// Asserts the inverses, or zeros where there is none.
+pub fn assert_pseudo_inverses<
     F: FrobeniusExtendable<D, S> + PrimeField64,
     const D: usize,
     S: ExtensionShape,
->(x: [u64; D]) -> [u64; D] {
-    row(value::<F, D, S>(x).pseudo_inv())
+>(rt: &impl Abort, rows: &[([u64; D], [u64; D])]) {
+    for entry in rows {
+        let (x, inverse) = *entry;
+        assert_same(rt, row(value::<F, D, S>(x).pseudo_inv()), inverse);
+    }
 }
 
-/// Asserts the bytes of a value, its words, and its bytes beside those of another value.
-pub fn assert_bytes<
-    F: FrobeniusExtendable<D, S> + PrimeField64 + ByteCountFits<D>,
+/// What is worked by hand of one extension: a value, the element of the base 2, and the five values
+/// of `assert_mixed`; the name; a value and the product of its orbit; values and their inverses, or
+/// zero.
+#[derive(Clone, Copy)]
+pub struct Worked<'a, const D: usize> {
+    pub mixed: ([u64; D], [[u64; D]; 5]),
+    pub name: &'a [u8],
+    pub orbit: ([u64; D], [u64; D]),
+    pub pseudo_inverses: &'a [([u64; D], [u64; D])],
+}
+
+/// Asserts the calls that no table has.
+pub fn assert_worked<
+    F: FrobeniusExtendable<D, S> + PrimeField64,
     const D: usize,
     S: ExtensionShape,
->(
-    rt: &(impl Abort + AllocGlobal),
-    x: [u64; D],
-    bytes: &[u8],
-    words: &[u32],
-    y: [u64; D],
-    side_by_side: &[[u8; 2]],
-) -> Result<(), Fail> {
-    let x = value::<F, D, S>(x);
-    assert!(rt; <ExtField<F, D, S> as RawDataSerializable>::NUM_BYTES == bytes.len());
-    let items = [x];
-    let given: Vec<u8> = ExtField::<F, D, S>::into_byte_stream(items.iter().copied()).collect(
-        rt.alloc(),
-    )?;
-    assert!(rt; given.as_slice() == bytes);
-    let stream: Vec<u32> = ExtField::<F, D, S>::into_u32_stream(items.iter().copied()).collect(
-        rt.alloc(),
-    )?;
-    assert!(rt; stream.as_slice() == words);
-    let rows = [[x, value(y)]];
-    let columns: Vec<[u8; 2]> = into_parallel_byte_streams::<ExtField<F, D, S>, 2, _>(
-        rows.iter().copied(),
-    ).collect(rt.alloc())?;
-    assert!(rt; columns.as_slice() == side_by_side);
-    Ok(())
+>(rt: &(impl Abort + AllocGlobal), worked: &Worked<D>) -> Result<(), Fail> {
+    let (x, answers) = worked.mixed;
+    assert_basis::<F, D, S>(rt);
+    assert_mixed::<F, D, S>(rt, x, 2, answers);
+    assert_pseudo_inverses::<F, D, S>(rt, worked.pseudo_inverses);
+    let (x, product) = worked.orbit;
+    assert_name::<F, D, S>(rt, worked.name, x, product)
 }

@@ -7,8 +7,6 @@ mod calls;
 #[cfg(test)]
 mod complex_values;
 #[cfg(test)]
-mod extension_constants;
-#[cfg(test)]
 mod extension_root_tables;
 #[cfg(test)]
 mod extension_roots;

@@ -1,12 +1,21 @@
 //! Values of a second program, which works from the definitions alone, checked against the original
 //! Rust crate. Written by a script out of its list: a line of that list, `call type arguments answer`,
-//! is an entry here. Numbers are canonical values.
+//! is an entry here; refused cosets, worked ones and the first entries of some lists are worked by
+//! hand. Numbers are canonical values.
 
 use crate::cosets::CosetTable;
 
 pub static F17: CosetTable = CosetTable {
-    members: &[(16, 1, 16, true), (16, 2, 15, false), (1, 3, 1, true)],
-    elements: &[(16, 0, 8040088690185312346, 16)],
+    refused: &[(1, 5), (0, 1)],
+    worked: &[(3, 2, [6, 13, 0, 4]), (9, 1, [2, 16, 0, 4])],
+    members: &[
+        (3, 2, 6, false),
+        (3, 2, 14, true),
+        (16, 1, 16, true),
+        (16, 2, 15, false),
+        (1, 3, 1, true),
+    ],
+    elements: &[(3, 2, 5, 5), (9, 1, 1, 8), (16, 0, 8040088690185312346, 16)],
     cosets: &[
         (14, 2, &[14, 12, 3, 5]),
         (14, 3, &[14, 7, 12, 6, 3, 10, 5, 11]),
@@ -19,6 +28,8 @@ pub static F17: CosetTable = CosetTable {
 };
 
 pub static F31: CosetTable = CosetTable {
+    refused: &[],
+    worked: &[],
     members: &[],
     elements: &[
         (24, 0, 10018673944602958434, 24),
@@ -28,12 +39,16 @@ pub static F31: CosetTable = CosetTable {
 };
 
 pub static Z15: CosetTable = CosetTable {
-    members: &[(13, 0, 13, true)],
+    refused: &[(3, 1)],
+    worked: &[(1, 1, [1, 14, 0, 14])],
+    members: &[(1, 1, 4, true), (13, 0, 13, true)],
     elements: &[],
     cosets: &[(14, 1, &[14, 1])],
 };
 
 pub static BABY_BEAR: CosetTable = CosetTable {
+    refused: &[(1, 28)],
+    worked: &[],
     members: &[
         (2013265920, 1, 1, true),
         (1215081018, 2, 2013265920, false),
@@ -68,6 +83,8 @@ pub static BABY_BEAR: CosetTable = CosetTable {
 };
 
 pub static GOLDILOCKS: CosetTable = CosetTable {
+    refused: &[],
+    worked: &[],
     members: &[
         (16718890181116959925, 0, 16718890181116959925, true),
         (1, 5, 0, false),
@@ -175,4 +192,13 @@ pub static GOLDILOCKS: CosetTable = CosetTable {
             ],
         ),
     ],
+};
+
+/// No values.
+pub static NONE: CosetTable = CosetTable {
+    refused: &[],
+    worked: &[],
+    members: &[],
+    elements: &[],
+    cosets: &[],
 };

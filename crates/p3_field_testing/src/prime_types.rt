@@ -1,9 +1,8 @@
-//! A test for each prime type: arithmetic, constants, halves, polynomials and cosets.
+//! A test for each prime type.
 
-use crate::coset_tables;
-use crate::cosets::assert_cosets;
+use crate::coset_tables as cosets;
 use crate::prime_values::{
-    Constants, assert_constants, assert_halves, assert_polynomials, assert_results, totals,
+    PrimeTable, assert_odd_prime, assert_prime, assert_small, assert_streams,
 };
 use crate::vector_tables::{
     BABY_BEAR_HALVES, BABY_BEAR_POLYNOMIALS, F2_BYTE_STREAMS, F2_INVERSES, F2_POLYNOMIALS,
@@ -15,15 +14,174 @@ use p3_bench_prime::baby_bear::BabyBear;
 use p3_bench_prime::goldilocks::Goldilocks;
 use p3_bench_prime::koala_bear::KoalaBear;
 use p3_bench_prime::small::{F2, F17, F17b, F31, Z15};
-use p3_field::coset::TwoAdicMultiplicativeCoset;
 use p3_field::integers::QuotientMap;
-use p3_field::{
-    Algebra, Field, PrimeCharacteristicRing, PrimeField, PrimeField32, PrimeField64,
-    RawDataSerializable,
-};
+use p3_field::{Algebra, PrimeCharacteristicRing, PrimeField, PrimeField32, PrimeField64};
 use std::collections::hash_map::DefaultHasher;
 use std::hash::{Hash, Hasher};
 use std::test::Fail;
+
+static F2_TABLE: PrimeTable = PrimeTable {
+    generator: 1,
+    order: 2,
+    bits: 2,
+    two_adicity: 0,
+    dots: [0, 1, 1, 0, 1, 1],
+    generators: &[(0, 1)],
+    results: &[(1, 1, [0, 0, 1, 1])],
+    totals: &[],
+};
+
+static F17_TABLE: PrimeTable = PrimeTable {
+    generator: 3,
+    order: 17,
+    bits: 5,
+    two_adicity: 4,
+    dots: [0, 1, 3, 4, 5, 0],
+    generators: &[(0, 1), (1, 16), (2, 13), (3, 9), (4, 3)],
+    results: &[(3, 5, [8, 15, 15, 4])],
+    totals: &[],
+};
+
+static F17B_TABLE: PrimeTable = PrimeTable {
+    generator: 3,
+    order: 17,
+    bits: 5,
+    two_adicity: 4,
+    dots: [0, 1, 3, 4, 5, 0],
+    generators: &[(2, 13)],
+    results: &[(20, 22, [8, 15, 15, 4])],
+    totals: &[],
+};
+
+static F31_TABLE: PrimeTable = PrimeTable {
+    generator: 3,
+    order: 31,
+    bits: 5,
+    two_adicity: 1,
+    dots: [0, 1, 3, 4, 5, 17],
+    generators: &[(0, 1), (1, 30)],
+    results: &[(3, 5, [8, 29, 15, 13])],
+    totals: &[(&[3, 5, 30], [7, 16])],
+};
+
+static Z15_TABLE: PrimeTable = PrimeTable {
+    generator: 2,
+    order: 15,
+    bits: 4,
+    two_adicity: 1,
+    dots: [0, 1, 3, 4, 5, 2],
+    generators: &[(1, 14)],
+    results: &[(4, 2, [6, 2, 8, 2]), (4, 3, [7, 1, 12, 0])],
+    totals: &[],
+};
+
+static BABY_BEAR_TABLE: PrimeTable = PrimeTable {
+    generator: 31,
+    order: 2013265921,
+    bits: 31,
+    two_adicity: 27,
+    dots: [0, 1, 3, 4, 5, 17],
+    generators: &[(1, 2013265920), (2, 1728404513)],
+    results: &[(2013265920, 2, [1, 2013265918, 2013265919, 1006632960])],
+    totals: &[],
+};
+
+static KOALA_BEAR_TABLE: PrimeTable = PrimeTable {
+    generator: 3,
+    order: 2130706433,
+    bits: 31,
+    two_adicity: 24,
+    dots: [0, 1, 3, 4, 5, 17],
+    generators: &[(1, 2130706432)],
+    results: &[(2130706432, 2, [1, 2130706430, 2130706431, 1065353216])],
+    totals: &[],
+};
+
+static GOLDILOCKS_TABLE: PrimeTable = PrimeTable {
+    generator: 7,
+    order: 18446744069414584321,
+    bits: 64,
+    two_adicity: 32,
+    dots: [0, 1, 3, 4, 5, 17],
+    generators: &[(0, 1), (4, 17293822564807737345)],
+    results: &[(
+        18446744069414584320,
+        2,
+        [
+            1,
+            18446744069414584318,
+            18446744069414584319,
+            9223372034707292160,
+        ],
+    )],
+    totals: &[(&[], [0, 1])],
+};
+
+#[test]
+fn f2(rt: HostRuntime) -> Result<(), Fail> {
+    assert_small::<F2>(
+        &rt,
+        &F2_POWERS,
+        &F2_INVERSES,
+        &F2_RESIDUES_I8,
+        &F2_RESIDUES_U128,
+    );
+    assert_streams::<F2>(&rt, &F2_BYTE_STREAMS, &F2_U64_STREAMS)?;
+    assert_prime::<F2>(&rt, &F2_TABLE, &F2_POLYNOMIALS, &cosets::NONE)
+}
+
+#[test]
+fn f17(rt: HostRuntime) -> Result<(), Fail> {
+    assert_odd_prime::<F17>(&rt, &F17_TABLE, &F17_POLYNOMIALS, &cosets::F17, &F17_HALVES)
+}
+
+#[test]
+fn f17b(rt: HostRuntime) -> Result<(), Fail> {
+    assert_prime::<F17b>(&rt, &F17B_TABLE, &[], &cosets::NONE)
+}
+
+#[test]
+fn f31(rt: HostRuntime) -> Result<(), Fail> {
+    assert_odd_prime::<F31>(&rt, &F31_TABLE, &F31_POLYNOMIALS, &cosets::F31, &F31_HALVES)
+}
+
+#[test]
+fn z15(rt: HostRuntime) -> Result<(), Fail> {
+    assert_odd_prime::<Z15>(&rt, &Z15_TABLE, &Z15_POLYNOMIALS, &cosets::Z15, &Z15_HALVES)
+}
+
+#[test]
+fn baby_bear(rt: HostRuntime) -> Result<(), Fail> {
+    assert_odd_prime::<BabyBear>(
+        &rt,
+        &BABY_BEAR_TABLE,
+        &BABY_BEAR_POLYNOMIALS,
+        &cosets::BABY_BEAR,
+        &BABY_BEAR_HALVES,
+    )
+}
+
+#[test]
+fn koala_bear(rt: HostRuntime) -> Result<(), Fail> {
+    assert_odd_prime::<KoalaBear>(
+        &rt,
+        &KOALA_BEAR_TABLE,
+        &KOALA_BEAR_POLYNOMIALS,
+        &cosets::NONE,
+        &KOALA_BEAR_HALVES,
+    )
+}
+
+#[test]
+fn goldilocks(rt: HostRuntime) -> Result<(), Fail> {
+    assert_odd_prime::<Goldilocks>(
+        &rt,
+        &GOLDILOCKS_TABLE,
+        &GOLDILOCKS_POLYNOMIALS,
+        &cosets::GOLDILOCKS,
+        &GOLDILOCKS_HALVES,
+    )
+}
 
 fn hash_of<T: Hash>(x: &T) -> u64 {
     let mut hasher = DefaultHasher::new();
@@ -34,61 +192,6 @@ fn hash_of<T: Hash>(x: &T) -> u64 {
 /// A field element plus one of the algebra.
 fn mixed<F: PrimeCharacteristicRing, A: Algebra<F>>(x: A, f: F) -> A {
     x + f
-}
-
-#[test]
-fn f2(rt: HostRuntime) -> Result<(), Fail> {
-    assert_results::<F2>(&rt, 1, 1, [0, 0, 1, 1]);
-    let constants = Constants {
-        generator: 1,
-        order: 2,
-        bits: 2,
-        two_adicity: 0,
-        dots: [0, 1, 1, 0, 1, 1],
-    };
-    assert_constants::<F2>(&rt, &constants, &[(0, 1)]);
-    assert_polynomials::<F2>(&rt, &F2_POLYNOMIALS);
-    for (base, exponent, power) in F2_POWERS {
-        assert!(rt; F2::from_u64(base).exp_u64(exponent) == F2::from_u64(power));
-    }
-    for (x, inverse) in F2_INVERSES {
-        assert!(rt; F2::from_u64(x).try_inverse() == Some(F2::from_u64(inverse)));
-    }
-    for (int, residue) in F2_RESIDUES_I8 {
-        assert!(rt; F2::from_int(int).as_canonical_u64() == residue);
-    }
-    for (int, residue) in F2_RESIDUES_U128 {
-        assert!(rt; F2::from_int(int).as_canonical_u64() == residue);
-    }
-    for row in &F2_BYTE_STREAMS {
-        let (items, bytes) = *row;
-        let values = items.iter().map(|x| F2::from_u64(*x));
-        let stream: Vec<u8> = F2::into_byte_stream(values).collect(rt.alloc())?;
-        assert!(rt; stream.as_slice() == bytes);
-    }
-    for row in &F2_U64_STREAMS {
-        let (items, words) = *row;
-        let values = items.iter().map(|x| F2::from_u64(*x));
-        let stream: Vec<u64> = F2::into_u64_stream(values).collect(rt.alloc())?;
-        assert!(rt; stream.as_slice() == words);
-    }
-    Ok(())
-}
-
-#[test]
-fn f17(rt: HostRuntime) -> Result<(), Fail> {
-    assert_results::<F17>(&rt, 3, 5, [8, 15, 15, 4]);
-    let constants = Constants {
-        generator: 3,
-        order: 17,
-        bits: 5,
-        two_adicity: 4,
-        dots: [0, 1, 3, 4, 5, 0],
-    };
-    assert_constants::<F17>(&rt, &constants, &[(0, 1), (1, 16), (2, 13), (3, 9), (4, 3)]);
-    assert_halves::<F17>(&rt, &F17_HALVES);
-    assert_polynomials::<F17>(&rt, &F17_POLYNOMIALS);
-    assert_cosets::<F17>(&rt, rt.alloc(), &coset_tables::F17)
 }
 
 #[test]
@@ -109,103 +212,6 @@ fn residues_of_order_17(rt: HostRuntime) -> Result<(), Fail> {
     let x = F17::from_int(-1i8);
     assert!(rt; format!(in rt.alloc(); "{x} {x:?}")?.as_str() == "16 16");
     Ok(())
-}
-
-#[test]
-fn f17b(rt: HostRuntime) {
-    assert_results::<F17b>(&rt, 20, 22, [8, 15, 15, 4]);
-    let constants = Constants {
-        generator: 3,
-        order: 17,
-        bits: 5,
-        two_adicity: 4,
-        dots: [0, 1, 3, 4, 5, 0],
-    };
-    assert_constants::<F17b>(&rt, &constants, &[(2, 13)]);
-}
-
-#[test]
-fn f31(rt: HostRuntime) -> Result<(), Fail> {
-    assert_results::<F31>(&rt, 3, 5, [8, 29, 15, 13]);
-    assert_eq!(rt; totals::<F31>(&[3, 5, 30]), [7, 16]);
-    let constants = Constants {
-        generator: 3,
-        order: 31,
-        bits: 5,
-        two_adicity: 1,
-        dots: [0, 1, 3, 4, 5, 17],
-    };
-    assert_constants::<F31>(&rt, &constants, &[(0, 1), (1, 30)]);
-    assert_halves::<F31>(&rt, &F31_HALVES);
-    assert_polynomials::<F31>(&rt, &F31_POLYNOMIALS);
-    assert_cosets::<F31>(&rt, rt.alloc(), &coset_tables::F31)
-}
-
-#[test]
-fn z15(rt: HostRuntime) -> Result<(), Fail> {
-    assert_results::<Z15>(&rt, 4, 2, [6, 2, 8, 2]);
-    assert_results::<Z15>(&rt, 4, 3, [7, 1, 12, 0]);
-    let constants = Constants {
-        generator: 2,
-        order: 15,
-        bits: 4,
-        two_adicity: 1,
-        dots: [0, 1, 3, 4, 5, 2],
-    };
-    assert_constants::<Z15>(&rt, &constants, &[(1, 14)]);
-    assert_halves::<Z15>(&rt, &Z15_HALVES);
-    assert_polynomials::<Z15>(&rt, &Z15_POLYNOMIALS);
-    assert_cosets::<Z15>(&rt, rt.alloc(), &coset_tables::Z15)
-}
-
-#[test]
-fn baby_bear(rt: HostRuntime) -> Result<(), Fail> {
-    assert_results::<BabyBear>(&rt, 2013265920, 2, [1, 2013265918, 2013265919, 1006632960]);
-    let constants = Constants {
-        generator: 31,
-        order: 2013265921,
-        bits: 31,
-        two_adicity: 27,
-        dots: [0, 1, 3, 4, 5, 17],
-    };
-    assert_constants::<BabyBear>(&rt, &constants, &[(1, 2013265920), (2, 1728404513)]);
-    assert_halves::<BabyBear>(&rt, &BABY_BEAR_HALVES);
-    assert_polynomials::<BabyBear>(&rt, &BABY_BEAR_POLYNOMIALS);
-    assert!(rt; TwoAdicMultiplicativeCoset::new(BabyBear::new(1), 28).is_none());
-    assert_cosets::<BabyBear>(&rt, rt.alloc(), &coset_tables::BABY_BEAR)
-}
-
-#[test]
-fn koala_bear(rt: HostRuntime) {
-    assert_results::<KoalaBear>(&rt, 2130706432, 2, [1, 2130706430, 2130706431, 1065353216]);
-    let constants = Constants {
-        generator: 3,
-        order: 2130706433,
-        bits: 31,
-        two_adicity: 24,
-        dots: [0, 1, 3, 4, 5, 17],
-    };
-    assert_constants::<KoalaBear>(&rt, &constants, &[(1, 2130706432)]);
-    assert_halves::<KoalaBear>(&rt, &KOALA_BEAR_HALVES);
-    assert_polynomials::<KoalaBear>(&rt, &KOALA_BEAR_POLYNOMIALS);
-}
-
-#[test]
-fn goldilocks(rt: HostRuntime) -> Result<(), Fail> {
-    let last = 18446744069414584320;
-    assert_results::<Goldilocks>(&rt, last, 2, [1, last - 2, last - 1, 9223372034707292160]);
-    assert_eq!(rt; totals::<Goldilocks>(&[]), [0, 1]);
-    let constants = Constants {
-        generator: 7,
-        order: last + 1,
-        bits: 64,
-        two_adicity: 32,
-        dots: [0, 1, 3, 4, 5, 17],
-    };
-    assert_constants::<Goldilocks>(&rt, &constants, &[(0, 1), (4, 17293822564807737345)]);
-    assert_halves::<Goldilocks>(&rt, &GOLDILOCKS_HALVES);
-    assert_polynomials::<Goldilocks>(&rt, &GOLDILOCKS_POLYNOMIALS);
-    assert_cosets::<Goldilocks>(&rt, rt.alloc(), &coset_tables::GOLDILOCKS)
 }
 
 #[test]
