@@ -7,10 +7,10 @@ use crate::extension_roots::{assert_roots, assert_two_adic_roots};
 use crate::extension_tables::Table;
 use crate::square_root_tables::Root;
 use crate::two_adic_extensions::assert_generators;
-use crate::values::{row, value};
+use crate::values::{OfRow, row, value};
 use p3_field::extension::{
-    Binomial, BinomiallyExtendable, ByteCountFits, ExtField, ExtensionShape, FrobeniusExtendable,
-    HasFrobenius, TwoAdicExtendable,
+    Binomial, BinomiallyExtendable, ExtField, ExtensionShape, FrobeniusExtendable, HasFrobenius,
+    TwoAdicExtendable,
 };
 use p3_field::{ExtensionField, Field, PrimeCharacteristicRing, PrimeField64, RawDataSerializable};
 use std::process::Abort;
@@ -79,45 +79,46 @@ fn assert_maps<F: FrobeniusExtendable<D, S> + PrimeField64, const D: usize, S: E
     Ok(())
 }
 
-/// Asserts the texts and the words of a table.
-fn assert_texts<
-    F: FrobeniusExtendable<D, S> + PrimeField64 + ByteCountFits<D>,
-    const D: usize,
-    S: ExtensionShape,
->(rt: &(impl Abort + AllocGlobal), table: &Table<[u64; D]>) -> Result<(), Fail> {
-    for entry in table.texts {
+/// Asserts the texts of a table.
+fn assert_texts<F: FrobeniusExtendable<D, S> + PrimeField64, const D: usize, S: ExtensionShape>(
+    rt: &(impl Abort + AllocGlobal),
+    rows: &[([u64; D], &str)],
+) -> Result<(), Fail> {
+    for entry in rows {
         let (x, text) = *entry;
         let answer = value::<F, D, S>(x).to_string(rt.alloc())?;
         assert!(rt; answer.as_str() == text);
     }
-    for entry in table.streams {
+    Ok(())
+}
+
+/// Asserts that each row has values and the words of their bytes.
+pub fn assert_streams<T: RawDataSerializable + OfRow>(
+    rt: &(impl Abort + AllocGlobal),
+    rows: &[(&[T::Row], &[u64])],
+) -> Result<(), Fail> {
+    for entry in rows {
         let (items, words) = *entry;
-        let values = items.iter().map(|x| value::<F, D, S>(*x));
-        let stream: Vec<u64> = <ExtField<F, D, S> as RawDataSerializable>::into_u64_stream(
-            values,
-        ).collect(rt.alloc())?;
+        let values = items.iter().map(|x| T::of_row(*x));
+        let stream: Vec<u64> = T::into_u64_stream(values).collect(rt.alloc())?;
         assert!(rt; stream.as_slice() == words);
     }
     Ok(())
 }
 
 /// Asserts what a table says of an extension.
-pub fn assert_table<
-    F: FrobeniusExtendable<D, S> + PrimeField64 + ByteCountFits<D>,
-    const D: usize,
-    S: ExtensionShape,
->(rt: &(impl Abort + AllocGlobal), table: &Table<[u64; D]>) -> Result<(), Fail> {
+pub fn assert_table<F: FrobeniusExtendable<D, S> + PrimeField64, const D: usize, S: ExtensionShape>(
+    rt: &(impl Abort + AllocGlobal),
+    table: &Table<[u64; D]>,
+) -> Result<(), Fail> {
     assert_arithmetic::<F, D, S>(rt, table);
     assert_maps::<F, D, S>(rt, table)?;
-    assert_texts::<F, D, S>(rt, table)
+    assert_texts::<F, D, S>(rt, table.texts)
 }
 
 /// Asserts of an extension by `X^D = W` what a table says, its counted roots, and W, the root of
 /// unity, and the chosen element's coefficients at 1 and X.
-pub fn assert_binomial<
-    F: BinomiallyExtendable<D> + PrimeField64 + ByteCountFits<D>,
-    const D: usize,
->(
+pub fn assert_binomial<F: BinomiallyExtendable<D> + PrimeField64, const D: usize>(
     rt: &(impl Abort + AllocGlobal),
     table: &Table<[u64; D]>,
     constants: [u64; 4],
@@ -152,7 +153,7 @@ pub fn assert_two_adic<
 
 /// Asserts of any extension what a table says, and its counted roots.
 pub fn assert_extension<
-    F: FrobeniusExtendable<D, S> + PrimeField64 + ByteCountFits<D>,
+    F: FrobeniusExtendable<D, S> + PrimeField64,
     const D: usize,
     S: ExtensionShape,
 >(

@@ -26,3 +26,21 @@ pub fn row<F: FrobeniusExtendable<D, S> + PrimeField64, const D: usize, S: Exten
     }
     row
 }
+
+/// A type whose values are told by rows of canonical coefficients. Calls that ask for room for a
+/// value take this in place of the shape and the base, from which no room is known.
+pub trait OfRow: Copy {
+    type Row: Copy;
+
+    /// The value with these canonical coefficients.
+    fn of_row(row: Self::Row) -> Self;
+}
+
+impl<F: FrobeniusExtendable<D, S> + PrimeField64, const D: usize, S: ExtensionShape> OfRow
+    for ExtField<F, D, S> {
+    type Row = [u64; D];
+
+    fn of_row(row: [u64; D]) -> Self {
+        value(row)
+    }
+}

@@ -64,6 +64,7 @@ fn assert_worked<F: TwoAdicField + PrimeField64 + RingSums>(rt: &impl Abort, tab
         let (shift, log_size, expected) = *row;
         let coset: TwoAdicMultiplicativeCoset<F> = coset_of(rt, shift, log_size);
         assert!(rt; coset.log_size() < 64);
+        assert!(rt; log_size < 64);
         assert!(rt; coset.size() == 1 << log_size);
         assert!(rt; coset.shift().as_canonical_u64() == shift);
         let sum: F = (&coset).into_iter().sum();

@@ -127,27 +127,54 @@ fn f2(rt: HostRuntime) -> Result<(), Fail> {
         &F2_RESIDUES_U128,
     );
     assert_streams::<F2>(&rt, &F2_BYTE_STREAMS, &F2_U64_STREAMS)?;
-    assert_prime::<F2>(&rt, &F2_TABLE, &F2_POLYNOMIALS, &cosets::NONE)
+    assert_prime::<F2>(
+        &rt,
+        &F2_TABLE,
+        &F2_POLYNOMIALS,
+        &cosets::NONE,
+        &[F2::neg_one(); 17],
+    )
 }
 
 #[test]
 fn f17(rt: HostRuntime) -> Result<(), Fail> {
-    assert_odd_prime::<F17>(&rt, &F17_TABLE, &F17_POLYNOMIALS, &cosets::F17, &F17_HALVES)
+    assert_odd_prime::<F17>(
+        &rt,
+        &F17_TABLE,
+        &F17_POLYNOMIALS,
+        &cosets::F17,
+        &[F17::neg_one(); 17],
+        &F17_HALVES,
+    )
 }
 
 #[test]
 fn f17b(rt: HostRuntime) -> Result<(), Fail> {
-    assert_prime::<F17b>(&rt, &F17B_TABLE, &[], &cosets::NONE)
+    assert_prime::<F17b>(&rt, &F17B_TABLE, &[], &cosets::NONE, &[F17b::neg_one(); 17])
 }
 
 #[test]
 fn f31(rt: HostRuntime) -> Result<(), Fail> {
-    assert_odd_prime::<F31>(&rt, &F31_TABLE, &F31_POLYNOMIALS, &cosets::F31, &F31_HALVES)
+    assert_odd_prime::<F31>(
+        &rt,
+        &F31_TABLE,
+        &F31_POLYNOMIALS,
+        &cosets::F31,
+        &[F31::neg_one(); 17],
+        &F31_HALVES,
+    )
 }
 
 #[test]
 fn z15(rt: HostRuntime) -> Result<(), Fail> {
-    assert_odd_prime::<Z15>(&rt, &Z15_TABLE, &Z15_POLYNOMIALS, &cosets::Z15, &Z15_HALVES)
+    assert_odd_prime::<Z15>(
+        &rt,
+        &Z15_TABLE,
+        &Z15_POLYNOMIALS,
+        &cosets::Z15,
+        &[Z15::neg_one(); 17],
+        &Z15_HALVES,
+    )
 }
 
 #[test]
@@ -157,6 +184,7 @@ fn baby_bear(rt: HostRuntime) -> Result<(), Fail> {
         &BABY_BEAR_TABLE,
         &BABY_BEAR_POLYNOMIALS,
         &cosets::BABY_BEAR,
+        &[BabyBear::neg_one(); 17],
         &BABY_BEAR_HALVES,
     )
 }
@@ -168,6 +196,7 @@ fn koala_bear(rt: HostRuntime) -> Result<(), Fail> {
         &KOALA_BEAR_TABLE,
         &KOALA_BEAR_POLYNOMIALS,
         &cosets::NONE,
+        &[KoalaBear::neg_one(); 17],
         &KOALA_BEAR_HALVES,
     )
 }
@@ -179,6 +208,7 @@ fn goldilocks(rt: HostRuntime) -> Result<(), Fail> {
         &GOLDILOCKS_TABLE,
         &GOLDILOCKS_POLYNOMIALS,
         &cosets::GOLDILOCKS,
+        &[Goldilocks::neg_one(); 17],
         &GOLDILOCKS_HALVES,
     )
 }

@@ -80,23 +80,26 @@ fn assert_constants<F: TwoAdicField + PrimeField64>(rt: &impl Abort, table: &Pri
         assert!(rt; bits <= F::TWO_ADICITY);
         assert!(rt; F::two_adic_generator(bits).as_canonical_u64() == generator);
     }
-    let items = [F::neg_one(); 17];
+}
+
+/// Asserts the dot products of the first 0, 1, 3, 4, 5 and 17 of the values with themselves.
+fn assert_dots<F: PrimeField64>(rt: &impl Abort, values: &[F], dots: [u64; 6]) {
     for (i, count) in [0usize, 1, 3, 4, 5, 17].into_iter().enumerate() {
-        let first = &items[..count];
-        assert_eq!(rt;
-            F::dot_product(first, first).as_canonical_u64(),
-            table.dots[i]
-        );
+        assert!(rt; count <= values.len());
+        let first = &values[..count];
+        assert!(rt; F::dot_product(first, first).as_canonical_u64() == dots[i]);
     }
 }
 
-/// Asserts what a table says of a prime type.
+/// Asserts what a table says of a prime type, of which seventeen minus ones are given.
 pub fn assert_prime<F: TwoAdicField + PrimeField64 + RingSums>(
     rt: &(impl Abort + AllocGlobal),
     table: &PrimeTable,
     polynomials: &[Polynomial],
     cosets: &CosetTable,
+    minus_ones: &[F],
 ) -> Result<(), Fail> {
+    assert_dots(rt, minus_ones, table.dots);
     assert_arithmetic::<F>(rt, table);
     assert_constants::<F>(rt, table);
     assert_polynomials::<F>(rt, polynomials);
@@ -110,6 +113,7 @@ pub fn assert_odd_prime<F: TwoAdicField + PrimeField64 + RingSums>(
     table: &PrimeTable,
     polynomials: &[Polynomial],
     cosets: &CosetTable,
+    minus_ones: &[F],
     halves: &[(u64, u64)],
 ) -> Result<(), Fail>
     requires { Invertible F.ops (two F.ops) }
@@ -118,7 +122,7 @@ pub fn assert_odd_prime<F: TwoAdicField + PrimeField64 + RingSums>(
         let (x, half) = *row;
         assert_eq!(rt; F::from_u64(x).halve().as_canonical_u64(), half, "{x}");
     }
-    assert_prime::<F>(rt, table, polynomials, cosets)
+    assert_prime::<F>(rt, table, polynomials, cosets, minus_ones)
 }
 
 /// Powers, inverses and residues of a prime type: a base, an exponent and the power; a number and

@@ -10,7 +10,6 @@ use p3_field::{
     chunked_linear_combination, chunked_mixed_dot_product, dispatch_chunked_mixed_dot_product,
     exp_const_u64, sum_array,
 };
-use std::process::Abort;
 
 /// The forms of zeros and ones of two residues: exclusive or, and not, the exclusive or of three
 /// ones, the check that a residue is zero or one, and both truth values.
@@ -88,37 +87,26 @@ fn combinations<F: PrimeField64>(values: &[F], coefficients: &[F]) -> [u64; 6]
     ]
 }
 
-/// Asserts the combinations of three, four, eight and ten products, a sum, and a sum in place.
-fn assert_combinations<F: PrimeField64>(rt: &impl Abort) {
-    let three = [F::from_u64(2), F::from_u64(3), F::from_u64(5)];
-    let factors = [F::from_u64(7), F::from_u64(11), F::from_u64(13)];
-    assert_eq!(rt; combinations(&three, &factors), [112; 6]);
-    assert_eq!(rt; sum_array::<F, 3>(&three).as_canonical_u64(), 10);
-    let four = [
-        F::from_u64(2),
-        F::from_u64(3),
-        F::from_u64(5),
-        F::from_u64(7),
-    ];
-    let factors = [
-        F::from_u64(11),
-        F::from_u64(13),
-        F::from_u64(17),
-        F::from_u64(19),
-    ];
-    assert_eq!(rt; combinations(&four, &factors), [279; 6]);
-    let ones = [F::one(); 10];
-    let mut to_ten = [F::zero(); 10];
-    for i in 0..10 {
-        to_ten[i] = F::from_usize(i + 1);
+/// The residues of some numbers.
+fn residues<const N: usize>(numbers: [u32; N]) -> [BabyBear; N] {
+    let mut residues = [BabyBear::zero(); N];
+    for i in 0..N {
+        residues[i] = BabyBear::new(numbers[i]);
     }
-    assert_eq!(rt; combinations(&to_ten, &ones), [55; 6]);
-    assert_eq!(rt; combinations(&to_ten[..8], &ones[..8]), [36; 6]);
-    F::add_slices(&mut to_ten, &ones);
-    assert_eq!(rt; combinations(&to_ten, &ones), [65; 6]);
+    residues
 }
 
 #[test]
 fn combinations_of_products(rt: HostRuntime) {
-    assert_combinations::<BabyBear>(&rt);
+    let three = residues([2, 3, 5]);
+    assert_eq!(rt; combinations(&three, &residues([7, 11, 13])), [112; 6]);
+    assert_eq!(rt; sum_array::<BabyBear, 3>(&three), BabyBear::new(10));
+    let four = residues([2, 3, 5, 7]);
+    assert_eq!(rt; combinations(&four, &residues([11, 13, 17, 19])), [279; 6]);
+    let ones = [BabyBear::one(); 10];
+    let mut to_ten = residues([1, 2, 3, 4, 5, 6, 7, 8, 9, 10]);
+    assert_eq!(rt; combinations(&to_ten, &ones), [55; 6]);
+    assert_eq!(rt; combinations(&to_ten[..8], &ones[..8]), [36; 6]);
+    BabyBear::add_slices(&mut to_ten, &ones);
+    assert_eq!(rt; combinations(&to_ten, &ones), [65; 6]);
 }

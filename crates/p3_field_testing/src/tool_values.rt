@@ -1,4 +1,4 @@
-//! Worked values of the exponentiation chains and the helpers, generic over the field.
+//! Worked values of the exponentiation chains and the helpers.
 
 use p3_bench_prime::baby_bear::BabyBear;
 use p3_bench_prime::small::F17;
@@ -6,12 +6,11 @@ use p3_field::exponentiation::{
     exp_1420470955, exp_1717986917, exp_1725656503, exp_10540996611094048183,
 };
 use p3_field::{
-    HornerIter, PrimeField64, RingSums, add_scaled_slice_in_place,
+    HornerIter, PrimeCharacteristicRing, PrimeField64, RingSums, add_scaled_slice_in_place,
     cyclic_subgroup_coset_known_order, cyclic_subgroup_known_order, dot_product, field_to_array,
     halve_u32, halve_u64, par_add_scaled_slice_in_place, par_scale_slice_in_place,
     scale_slice_in_place_single_core,
 };
-use std::process::Abort;
 
 /// The four fixed powers of a residue, the sum of a cyclic subgroup of order 4, and the product of
 /// three items of its coset.
@@ -41,40 +40,46 @@ fn powers_and_subgroups_of_order_17(rt: HostRuntime) {
     assert_eq!(rt; halve_u64::<17>(5), 11);
 }
 
-/// Asserts polynomials at a point, a dot product of iterators, and slices that are scaled and
-/// added, over a field of a large order.
-fn assert_helpers<F: PrimeField64 + RingSums>(rt: &impl Abort) {
-    let coefficients = [3u32, 5, 7, 11, 13];
-    let value: F = coefficients
+#[test]
+fn polynomials_at_a_point(rt: HostRuntime) {
+    let coefficients = [3, 5, 7, 11, 13];
+    let value: BabyBear = coefficients
         .iter()
-        .map(|c| F::from_u32(*c))
-        .horner(F::from_u32(4));
-    assert!(rt; value == F::from_u32(4167));
-    let coefficients = [F::from_u32(2), F::from_u32(3), F::from_u32(5)];
+        .map(|c| BabyBear::from_u32(*c))
+        .horner(BabyBear::new(4));
+    assert_eq!(rt; value, BabyBear::new(4167));
+    let coefficients = [BabyBear::new(2), BabyBear::new(3), BabyBear::new(5)];
     let value = coefficients
         .iter()
         .copied()
-        .horner_acc(F::from_u32(73), F::from_u32(6));
-    assert!(rt; value == F::from_u32(15968));
-    let right = [F::from_u32(3), F::from_u32(5)];
-    let sum: F = dot_product(coefficients.iter().copied(), right.iter().copied());
-    assert!(rt; sum == F::from_u32(21));
-    let array = field_to_array::<F, 4>(F::from_u32(9));
-    assert!(rt; array == [F::from_u32(9), F::zero(), F::zero(), F::zero()]);
-    let other = [F::from_u32(10), F::from_u32(20)];
-    let scale = F::from_u32(3);
-    let mut slice = [F::from_u32(1), F::from_u32(2)];
-    add_scaled_slice_in_place(&mut slice, &other, scale);
-    assert!(rt; slice == [F::from_u32(31), F::from_u32(62)]);
-    par_add_scaled_slice_in_place(&mut slice, &other, scale);
-    assert!(rt; slice == [F::from_u32(61), F::from_u32(122)]);
-    scale_slice_in_place_single_core(&mut slice, scale);
-    assert!(rt; slice == [F::from_u32(183), F::from_u32(366)]);
-    par_scale_slice_in_place(&mut slice, scale);
-    assert!(rt; slice == [F::from_u32(549), F::from_u32(1098)]);
+        .horner_acc(BabyBear::new(73), BabyBear::new(6));
+    assert_eq!(rt; value, BabyBear::new(15968));
 }
 
 #[test]
-fn helpers(rt: HostRuntime) {
-    assert_helpers::<BabyBear>(&rt);
+fn slices_in_place(rt: HostRuntime) {
+    let other = [BabyBear::new(10), BabyBear::new(20)];
+    let scale = BabyBear::new(3);
+    let mut slice = [BabyBear::new(1), BabyBear::new(2)];
+    add_scaled_slice_in_place(&mut slice, &other, scale);
+    assert_eq!(rt; slice, [BabyBear::new(31), BabyBear::new(62)]);
+    par_add_scaled_slice_in_place(&mut slice, &other, scale);
+    assert_eq!(rt; slice, [BabyBear::new(61), BabyBear::new(122)]);
+    scale_slice_in_place_single_core(&mut slice, scale);
+    assert_eq!(rt; slice, [BabyBear::new(183), BabyBear::new(366)]);
+    par_scale_slice_in_place(&mut slice, scale);
+    assert_eq!(rt; slice, [BabyBear::new(549), BabyBear::new(1098)]);
+}
+
+#[test]
+fn arrays_and_sums(rt: HostRuntime) {
+    let zero = BabyBear::zero();
+    assert_eq!(rt;
+        field_to_array::<BabyBear, 4>(BabyBear::new(9)),
+        [BabyBear::new(9), zero, zero, zero]
+    );
+    let left = [BabyBear::new(2), BabyBear::new(4)];
+    let right = [BabyBear::new(3), BabyBear::new(5), BabyBear::new(7)];
+    let sum: BabyBear = dot_product(left.iter().copied(), right.iter().copied());
+    assert_eq!(rt; sum, BabyBear::new(26));
 }
