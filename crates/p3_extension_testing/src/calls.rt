@@ -1,168 +1,150 @@
-//! The calls of extensions against rows of coefficients, generic over shape and base: a check pays
-//! for what an extension's type asks for at each call that names the type, so a test names it once.
+//! The calls of extensions against rows of coefficients. A check pays for what an extension's type
+//! asks for at each call that names the type, so a test names it in few calls.
 ghost use Rattle.std.specs.Prelude.{◌<◌, IsSome};
-ghost use Rattle.p3_ext.specs.Orders.{extension_size};
 
-use crate::extension_roots::{assert_roots, assert_two_adic_roots};
 use crate::extension_tables::Table;
 use crate::square_root_tables::Root;
-use crate::two_adic_extensions::assert_generators;
-use crate::values::{OfRow, row, value};
-use p3_field::extension::{
-    Binomial, BinomiallyExtendable, ExtField, ExtensionShape, FrobeniusExtendable, HasFrobenius,
-    TwoAdicExtendable,
-};
-use p3_field::{ExtensionField, Field, PrimeCharacteristicRing, PrimeField64, RawDataSerializable};
+use crate::values::{Tabled, TwoAdicTabled};
+use p3_field::extension::BinomiallyExtendable;
+use p3_field::{PrimeField64, RawDataSerializable};
 use std::process::Abort;
 use std::test::Fail;
 
-/// Asserts that two lists of coefficients are the same.
-pub fn assert_same<const D: usize>(rt: &impl Abort, answer: [u64; D], expected: [u64; D]) {
-    assert_eq!(rt; answer, expected);
-}
-
 /// Asserts the squares, products, inverses and elements of the base of a table.
-fn assert_arithmetic<
-    F: FrobeniusExtendable<D, S> + PrimeField64,
-    const D: usize,
-    S: ExtensionShape,
->(rt: &impl Abort, table: &Table<[u64; D]>) {
+fn assert_arithmetic<T: Tabled>(rt: &impl Abort, table: &Table<T::Row>) {
     for entry in table.squares {
         let (x, square) = *entry;
-        assert_same(rt, row(value::<F, D, S>(x).square()), square);
+        assert!(rt; T::of(x).squared().row() == square);
     }
     for entry in table.products {
         let (x, y, product) = *entry;
-        assert_same(rt, row(value::<F, D, S>(x) * value::<F, D, S>(y)), product);
+        assert!(rt; T::of(x).times(T::of(y)).row() == product);
     }
     for entry in table.inverses {
         let (x, inverse) = *entry;
-        match (value::<F, D, S>(x).try_inverse(), inverse) {
-            (Some(y), Some(inverse)) => assert_same(rt, row(y), inverse),
-            (y, inverse) => assert!(rt; y.is_none() && inverse.is_none()),
-        }
+        let answer = match T::of(x).inverse() {
+            Some(y) => Some(y.row()),
+            None => None,
+        };
+        assert_eq!(rt; answer, inverse);
     }
     for entry in table.base_values {
         let (x, base) = *entry;
-        match ExtensionField::<F>::as_base(&value::<F, D, S>(x)) {
-            Some(c) => assert!(rt; base == Some(c.as_canonical_u64())),
-            None => assert!(rt; base.is_none()),
-        }
+        assert!(rt; T::of(x).base_value() == base);
     }
 }
 
-/// Asserts the images under the Frobenius map and the orbits of a table.
-fn assert_maps<F: FrobeniusExtendable<D, S> + PrimeField64, const D: usize, S: ExtensionShape>(
+/// Asserts the images under the Frobenius map, the orbits and the texts of a table.
+fn assert_maps<T: Tabled>(
     rt: &(impl Abort + AllocGlobal),
-    table: &Table<[u64; D]>,
+    table: &Table<T::Row>,
 ) -> Result<(), Fail> {
     for entry in table.images {
         let (x, image) = *entry;
-        assert_same(rt, row(value::<F, D, S>(x).frobenius()), image);
+        assert!(rt; T::of(x).image().row() == image);
     }
     for entry in table.repeated {
         let (x, count, image) = *entry;
-        assert_same(
-            rt,
-            row(value::<F, D, S>(x).repeated_frobenius(count)),
-            image,
-        );
+        assert!(rt; T::of(x).image_after(count).row() == image);
     }
     for entry in table.orbits {
         let (x, orbit) = *entry;
-        let answer = value::<F, D, S>(x).galois_orbit(rt.alloc())?;
+        let answer = T::of(x).orbit(rt.alloc())?;
         assert!(rt; answer.len() == orbit.len());
         for i in 0..orbit.len() {
-            assert_same(rt, row(answer[i]), orbit[i]);
+            assert!(rt; answer[i].row() == orbit[i]);
         }
     }
-    Ok(())
-}
-
-/// Asserts the texts of a table.
-fn assert_texts<F: FrobeniusExtendable<D, S> + PrimeField64, const D: usize, S: ExtensionShape>(
-    rt: &(impl Abort + AllocGlobal),
-    rows: &[([u64; D], &str)],
-) -> Result<(), Fail> {
-    for entry in rows {
+    for entry in table.texts {
         let (x, text) = *entry;
-        let answer = value::<F, D, S>(x).to_string(rt.alloc())?;
+        let answer = T::of(x).text(rt.alloc())?;
         assert!(rt; answer.as_str() == text);
     }
     Ok(())
 }
 
 /// Asserts that each row has values and the words of their bytes.
-pub fn assert_streams<T: RawDataSerializable + OfRow>(
+fn assert_streams<T: RawDataSerializable + Tabled>(
     rt: &(impl Abort + AllocGlobal),
     rows: &[(&[T::Row], &[u64])],
 ) -> Result<(), Fail> {
     for entry in rows {
         let (items, words) = *entry;
-        let values = items.iter().map(|x| T::of_row(*x));
+        let values = items.iter().map(|x| T::of(*x));
         let stream: Vec<u64> = T::into_u64_stream(values).collect(rt.alloc())?;
         assert!(rt; stream.as_slice() == words);
     }
     Ok(())
 }
 
-/// Asserts what a table says of an extension.
-pub fn assert_table<F: FrobeniusExtendable<D, S> + PrimeField64, const D: usize, S: ExtensionShape>(
-    rt: &(impl Abort + AllocGlobal),
-    table: &Table<[u64; D]>,
-) -> Result<(), Fail> {
-    assert_arithmetic::<F, D, S>(rt, table);
-    assert_maps::<F, D, S>(rt, table)?;
-    assert_texts::<F, D, S>(rt, table.texts)
+/// The answer of a search by canonical coefficients.
+fn in_row<T: Tabled>(answer: (Option<T>, u32)) -> (Option<T::Row>, u32) {
+    let (root, turns) = answer;
+    match root {
+        Some(r) => (Some(r.row()), turns),
+        None => (None, turns),
+    }
 }
 
-/// Asserts of an extension by `X^D = W` what a table says, its counted roots, and W, the root of
-/// unity, and the chosen element's coefficients at 1 and X.
-pub fn assert_binomial<F: BinomiallyExtendable<D> + PrimeField64, const D: usize>(
+/// Asserts of an extension what a table says, and that each row of roots has a value, the root
+/// that is answered, if one is, and the turns.
+pub fn assert_extension<T: Tabled + RawDataSerializable>(
     rt: &(impl Abort + AllocGlobal),
-    table: &Table<[u64; D]>,
-    constants: [u64; 4],
-    roots: &[Root<[u64; D]>],
+    table: &Table<T::Row>,
+    roots: &[Root<T::Row>],
 ) -> Result<(), Fail>
-    requires degree { 1 < D }
-    requires size { IsSome (extension_size F.size D) }
+    requires { IsSome T.Tabled.size }
 {
-    let given = [
+    for entry in roots {
+        let (x, root, turns) = *entry;
+        assert_eq!(rt; in_row(T::of(x).counted()), (root, turns), "{x:?}");
+    }
+    assert_arithmetic::<T>(rt, table);
+    assert_streams::<T>(rt, table.streams)?;
+    assert_maps::<T>(rt, table)
+}
+
+/// Asserts the two-adicity of an extension, its two-adic generators, each after its bits, and the
+/// roots of the search by the greatest of them.
+pub fn assert_two_adic<T: TwoAdicTabled>(
+    rt: &impl Abort,
+    two_adicity: usize,
+    generators: &[(usize, T::Row)],
+    roots: &[Root<T::Row>],
+)
+    requires { IsSome T.Tabled.size }
+{
+    assert!(rt; T::two_adicity() == two_adicity);
+    for entry in generators {
+        let (bits, generator) = *entry;
+        match T::generator(bits) {
+            Some(g) => assert!(rt; g.row() == generator),
+            None => assert!(rt; false),
+        }
+    }
+    assert!(rt; T::generator(64).is_none());
+    for entry in roots {
+        let (x, root, turns) = *entry;
+        assert_eq!(rt; in_row(T::of(x).two_adic_counted()), (root, turns), "{x:?}");
+    }
+}
+
+/// Asserts inverses, or zeros where there is none.
+pub fn assert_inverses_or_zero<T: Tabled>(rt: &impl Abort, rows: &[(T::Row, T::Row)]) {
+    for entry in rows {
+        let (x, inverse) = *entry;
+        assert!(rt; T::of(x).inverse_or_zero().row() == inverse);
+    }
+}
+
+/// W, the root, and the chosen element's coefficients at 1 and X, as canonical values.
+pub fn constants<F: BinomiallyExtendable<D> + PrimeField64, const D: usize>() -> [u64; 4]
+    requires { 1 < D }
+{
+    [
         F::w().as_canonical_u64(),
         F::dth_root().as_canonical_u64(),
         F::ext_generator(0).as_canonical_u64(),
         F::ext_generator(1).as_canonical_u64(),
-    ];
-    assert_same(rt, given, constants);
-    assert_roots::<F, D, Binomial<F>>(rt, roots);
-    assert_table::<F, D, Binomial<F>>(rt, table)
-}
-
-/// Asserts the two-adicity of an extension, its two-adic generators, each after its bits, and the
-/// roots counted by the search that goes by the greatest of them.
-pub fn assert_two_adic<
-    F: TwoAdicExtendable<D, S> + PrimeField64,
-    const D: usize,
-    S: ExtensionShape,
->(rt: &impl Abort, two_adicity: usize, generators: &[(usize, [u64; D])], roots: &[Root<[u64; D]>])
-    requires { IsSome (extension_size F.size D) }
-{
-    assert_generators::<F, D, S>(rt, two_adicity, generators);
-    assert_two_adic_roots::<F, D, S>(rt, roots);
-}
-
-/// Asserts of any extension what a table says, and its counted roots.
-pub fn assert_extension<
-    F: FrobeniusExtendable<D, S> + PrimeField64,
-    const D: usize,
-    S: ExtensionShape,
->(
-    rt: &(impl Abort + AllocGlobal),
-    table: &Table<[u64; D]>,
-    roots: &[Root<[u64; D]>],
-) -> Result<(), Fail>
-    requires { IsSome (extension_size F.size D) }
-{
-    assert_roots::<F, D, S>(rt, roots);
-    assert_table::<F, D, S>(rt, table)
+    ]
 }

@@ -9,8 +9,6 @@ mod complex_values;
 #[cfg(test)]
 mod extension_root_tables;
 #[cfg(test)]
-mod extension_roots;
-#[cfg(test)]
 mod extension_rows;
 #[cfg(test)]
 mod extension_tables;
@@ -28,7 +26,5 @@ mod square_root_tables;
 mod square_roots;
 #[cfg(test)]
 mod trinomial_tables;
-#[cfg(test)]
-mod two_adic_extensions;
 #[cfg(test)]
 mod values;

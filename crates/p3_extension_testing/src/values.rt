@@ -1,46 +1,153 @@
-//! Extension values by their canonical coefficients, from X^0 upward, generic over shape and base: a
-//! call at one extension costs what its base costs.
+//! Extension values by their canonical coefficients, from X^0 upward, and the calls of the tables.
+ghost use Rattle.std.specs.Prelude.{ℕ, Option, IsSome};
 
-use p3_field::PrimeField64;
-use p3_field::extension::{ExtField, ExtensionShape, FrobeniusExtendable};
+use p3_field::extension::{
+    ExtField, ExtensionShape, FrobeniusExtendable, HasFrobenius, TwoAdicExtendable,
+};
+use p3_field::{
+    ExtensionField, Field, PrimeCharacteristicRing, PrimeField64, TwoAdicField,
+    tonelli_shanks_counted, tonelli_shanks_two_adic_counted,
+};
+use std::alloc::{AllocError, Global};
+use std::fmt::Debug;
 
-/// The value with these canonical coefficients.
-pub fn value<F: FrobeniusExtendable<D, S> + PrimeField64, const D: usize, S: ExtensionShape>(
-    row: [u64; D],
-) -> ExtField<F, D, S> {
-    let mut coefficients = [F::zero(); D];
-    for i in 0..D {
-        coefficients[i] = F::from_u64(row[i]);
-    }
-    ExtField::new(coefficients)
-}
+/// A type whose values stand in a table, by their canonical coefficients: just the calls that the
+/// tables have, since a bound by the whole field trait meets the step limit at each type, and room
+/// for a value is known of a type and not of a shape and a base.
+pub trait Tabled: Copy {
+    type Row: Copy + PartialEq + Debug;
 
-/// The canonical coefficients.
-pub fn row<F: FrobeniusExtendable<D, S> + PrimeField64, const D: usize, S: ExtensionShape>(
-    x: ExtField<F, D, S>,
-) -> [u64; D] {
-    let mut row = [0; D];
-    for i in 0..D {
-        let c = x.value[i];
-        row[i] = c.as_canonical_u64();
-    }
-    row
-}
-
-/// A type whose values are told by rows of canonical coefficients. Calls that ask for room for a
-/// value take this in place of the shape and the base, from which no room is known.
-pub trait OfRow: Copy {
-    type Row: Copy;
+    /// How many values there are, where that is given.
+    ghost size: { Option ℕ };
 
     /// The value with these canonical coefficients.
-    fn of_row(row: Self::Row) -> Self;
+    fn of(row: Self::Row) -> Self;
+
+    /// The canonical coefficients.
+    fn row(&self) -> Self::Row;
+
+    fn squared(&self) -> Self;
+
+    fn times(self, other: Self) -> Self;
+
+    fn inverse(&self) -> Option<Self>;
+
+    /// The inverse, or zero where there is none.
+    fn inverse_or_zero(&self) -> Self;
+
+    fn image(&self) -> Self;
+
+    fn image_after(&self, count: usize) -> Self;
+
+    fn base_value(&self) -> Option<u64>;
+
+    fn orbit(self, alloc: Global) -> Result<Vec<Self>, AllocError>;
+
+    fn text(&self, alloc: Global) -> Result<String, AllocError>;
+
+    /// The root that is answered and the turns of the search.
+    fn counted(self) -> (Option<Self>, u32)
+        requires { IsSome size };
 }
 
-impl<F: FrobeniusExtendable<D, S> + PrimeField64, const D: usize, S: ExtensionShape> OfRow
-    for ExtField<F, D, S> {
+/// A type with two-adic generators too.
+pub trait TwoAdicTabled: Tabled {
+    fn two_adicity() -> usize;
+
+    /// The two-adic generator for so many bits, where there is one.
+    fn generator(bits: usize) -> Option<Self>;
+
+    /// The root that the search by the greatest generator answers, and its turns.
+    fn two_adic_counted(self) -> (Option<Self>, u32)
+        requires { IsSome Self.size };
+}
+
+impl<F: FrobeniusExtendable<D, S> + PrimeField64, const D: usize, S: ExtensionShape> Tabled
+    for ExtField<F, D, S, F> {
+    ghost use Rattle.p3_ext.specs.Orders.{extension_size};
+
     type Row = [u64; D];
 
-    fn of_row(row: [u64; D]) -> Self {
-        value(row)
+    ghost size = { extension_size F.size D };
+
+    fn of(row: [u64; D]) -> Self {
+        let mut coefficients = [F::zero(); D];
+        for i in 0..D {
+            coefficients[i] = F::from_u64(row[i]);
+        }
+        ExtField::<F, D, S, F>::new(coefficients)
+    }
+
+    fn row(&self) -> [u64; D] {
+        let mut row = [0; D];
+        for i in 0..D {
+            let c = self.value[i];
+            row[i] = c.as_canonical_u64();
+        }
+        row
+    }
+
+    fn squared(&self) -> Self {
+        self.square()
+    }
+
+    fn times(self, other: Self) -> Self {
+        self * other
+    }
+
+    fn inverse(&self) -> Option<Self> {
+        self.try_inverse()
+    }
+
+    fn inverse_or_zero(&self) -> Self {
+        self.pseudo_inv()
+    }
+
+    fn image(&self) -> Self {
+        self.frobenius()
+    }
+
+    fn image_after(&self, count: usize) -> Self {
+        self.repeated_frobenius(count)
+    }
+
+    fn base_value(&self) -> Option<u64> {
+        match ExtensionField::<F>::as_base(self) {
+            Some(c) => Some(c.as_canonical_u64()),
+            None => None,
+        }
+    }
+
+    fn orbit(self, alloc: Global) -> Result<Vec<Self>, AllocError> {
+        self.galois_orbit(alloc)
+    }
+
+    fn text(&self, alloc: Global) -> Result<String, AllocError> {
+        self.to_string(alloc)
+    }
+
+    fn counted(self) -> (Option<Self>, u32) {
+        let (root, turns) = tonelli_shanks_counted(self);
+        (root, turns.count())
+    }
+}
+
+impl<F: TwoAdicExtendable<D, S> + PrimeField64, const D: usize, S: ExtensionShape> TwoAdicTabled
+    for ExtField<F, D, S, F> {
+    fn two_adicity() -> usize {
+        <Self as TwoAdicField>::TWO_ADICITY
+    }
+
+    fn generator(bits: usize) -> Option<Self> {
+        if bits <= <Self as TwoAdicField>::TWO_ADICITY {
+            Some(<Self as TwoAdicField>::two_adic_generator(bits))
+        } else {
+            None
+        }
+    }
+
+    fn two_adic_counted(self) -> (Option<Self>, u32) {
+        let (root, turns) = tonelli_shanks_two_adic_counted(self);
+        (root, turns.count())
     }
 }
