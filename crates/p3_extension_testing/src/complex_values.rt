@@ -40,7 +40,7 @@ fn assert_generators<F: HasTwoAdicComplexBinomialExtension<2> + PrimeField64>(
     circle: &[[u64; 2]],
     tower: &[(usize, [[u64; 2]; 2])],
 ) {
-    assert!(rt; F::CIRCLE_TWO_ADICITY + 1 == circle.len());
+    assert!(rt; F::CIRCLE_TWO_ADICITY < circle.len());
     for bits in 0..circle.len() {
         assert!(rt; bits <= F::CIRCLE_TWO_ADICITY);
         assert!(rt; pair(F::circle_two_adic_generator(bits)) == circle[bits]);
