@@ -33,16 +33,6 @@ fn basis_calls(rt: HostRuntime) {
 }
 
 #[test]
-fn combinations_of_the_basis(rt: HostRuntime) {
-    let one = F17x4::one();
-    let x = F17x4::new(mod_17([0, 1, 0, 0]));
-    let sum = ExtensionField::<F17>::from_ext_basis_coefficients(&[one, x, one, x]);
-    assert_eq!(rt; sum, Some(F17x4::new(mod_17([4, 0, 2, 0]))));
-    let none: Option<F17x4> = ExtensionField::<F17>::from_ext_basis_coefficients(&[one, x]);
-    assert_eq!(rt; none, None);
-}
-
-#[test]
 fn mixed_operators(rt: HostRuntime) {
     let x = F17x4::new(mod_17([1, 2, 3, 4]));
     let two = F17::new(2);
