@@ -1,5 +1,5 @@
 -- Values by their canonical coefficients: the coefficient lists represent them, and their text is that of the lists.
-use Rattle.std.specs.Prelude.{◌≡◌, ◌==◌, ◌+◌, ℕ, List, [], ◌∷◌, ◌++◌, length, map, refl, get_or, codes, decimal}
+use Rattle.std.specs.Prelude.{◌≡◌, ℕ, List, [], ◌∷◌, ◌++◌, length, map, refl, get_or, codes, decimal}
 use Rattle.std.proofs.Common.{ap, ap₂, arith, ◌∙◌, sym, append-nil, cond, inl, inr, drop, subst}
 use Rattle.std.proofs.lemmas.Bool.{cases_eq, ne_eqb}
 use Rattle.std.proofs.lemmas.Fmt.{decimal_digit}

@@ -1,4 +1,5 @@
 pub mod Bank
+pub mod Bases
 pub mod Coefficients
 pub mod Display
 pub mod Fields

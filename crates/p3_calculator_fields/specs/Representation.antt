@@ -1,7 +1,8 @@
 -- What a type owes to be a field of the calculator.
-use Rattle.std.specs.Prelude.{◌≡◌, ◌≢◌, ◌<◌, ℕ, List, Option, MatchOption}
+use Rattle.std.specs.Prelude.{◌≡◌, ◌≢◌, ◌<◌, ℕ, List, Option, Some, MatchOption, decimal}
 use Rattle.p3_theory.specs.Rings.Ring.{Ops, Hom, IsInverse}
 use Rattle.p3_theory.specs.Rings.Powers.{power}
+use Rattle.p3_theory.specs.ResidueRings.Residues.{AreResidues}
 use Rattle.p3_theory.specs.Roots.SquareRoots.{IsSquareRoot, FiniteFieldPremise}
 use Rattle.p3_calculator_fields.specs.Fields.{FieldSpec, ops, order, IsValue}
 
@@ -12,6 +13,13 @@ pub record Represents {A : Type 0} (s : FieldSpec) (O : Ops A) (coefficients : A
   pub every : (cs : List ℕ) → IsValue s cs → (x : A) × (coefficients x ≡ cs)
   pub same : (x y : A) → coefficients x ≡ coefficients y → x ≡ y
   pub keeps : Hom O (ops s) coefficients
+
+-- the canonical values are one to one onto the numbers below n, with the operations of residues; there
+-- are n values, and each is written as its canonical value
+pub record IsBase {A : Type 0} (n : ℕ) (canon : A → ℕ) (O : Ops A) (size : Option ℕ) (text : A → List ℕ) : Type 0 where
+  pub residues : AreResidues n O canon
+  pub size_is : size ≡ Some n
+  pub texts : (x : A) → text x ≡ decimal (canon x)
 
 -- `Some` of an inverse of x, and `None` where there is none
 abbrev pub InverseOrNone : {A : Type 0} → Ops A → A → Option A → Type 0

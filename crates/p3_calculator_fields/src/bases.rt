@@ -7,9 +7,7 @@ use p3_bench_prime::fp::Fp;
 use p3_field::integers::QuotientMap;
 
 impl<W: Form<u32>> Base for Fp<W> {
-    ghost use Rattle.std.specs.Prelude.{refl};
-    ghost use Rattle.p3_theory.specs.ResidueRings.Residues.{are_residues};
-    ghost use Rattle.p3_bench_prime.specs.Elements.{canon, is};
+    ghost use Rattle.p3_bench_prime.specs.Elements.{canon};
 
     ghost base_order = { W.ORDER };
 
@@ -22,10 +20,4 @@ impl<W: Form<u32>> Base for Fp<W> {
     fn residue(canonical: u64) -> Self {
         Self::from_canonical_unchecked(canonical)
     }
-
-    ghost residues = { are_residues (is W.Form) };
-
-    ghost size_is = { refl };
-
-    ghost texts = { λ x. refl };
 }

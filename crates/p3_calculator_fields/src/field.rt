@@ -1,11 +1,10 @@
-ghost use Rattle.std.specs.Prelude.{◌≡◌, ◌<◌, ◌^◌, ℕ, List, Option, Some, map, decimal, slice_set, string_bytes, IfOk};
+ghost use Rattle.std.specs.Prelude.{◌≡◌, ◌<◌, ◌^◌, ℕ, List, Option, map, slice_set, string_bytes, IfOk};
 ghost use Rattle.p3_theory.specs.Rings.Ring.{Ops, subtract};
 ghost use Rattle.p3_theory.specs.Rings.Powers.{power};
 ghost use Rattle.p3_theory.specs.Polynomials.Polynomial.{tabulate};
-ghost use Rattle.p3_theory.specs.ResidueRings.Residues.{AreResidues};
 ghost use Rattle.p3_calculator_fields.specs.Display.{display};
 ghost use Rattle.p3_calculator_fields.specs.Fields.{FieldSpec, PolynomialsModulo, order, dimension, value_count, generator_of};
-ghost use Rattle.p3_calculator_fields.specs.Representation.{Represents, InverseOrNone, RootOrNone};
+ghost use Rattle.p3_calculator_fields.specs.Representation.{IsBase, Represents, InverseOrNone, RootOrNone};
 
 use p3_field::extension::{ExtField, ExtensionShape, FrobeniusExtendable};
 use p3_field::{Field, PrimeCharacteristicRing, tonelli_shanks};
@@ -92,8 +91,9 @@ pub trait CalculatorField: Copy {
     ghost generator_is: { coefficients generator ≡ generator_of spec };
 }
 
-/// A base of the calculator's extensions: residues by their canonical values.
-pub trait Base: Field {
+/// A base of the calculator's extensions: residues by their canonical values. It asks for no other
+/// trait, since a call at a name's own type passes all that the trait stands on.
+pub trait Base: Copy {
     /// The order.
     ghost base_order: { ℕ };
 
@@ -108,16 +108,6 @@ pub trait Base: Field {
     fn residue(canonical: u64) -> Self
         requires { canonical < base_order }
         ensures { canon result ≡ canonical };
-
-    /// The canonical values are one to one onto the numbers below the order, and the operations
-    /// are those of residues.
-    ghost residues: { AreResidues base_order Self.ops canon };
-
-    /// There are as many values as the order says.
-    ghost size_is: { Self.size ≡ Some base_order };
-
-    /// A value is written as its canonical value.
-    ghost texts: { (x : Self) → Self.text x ≡ decimal (canon x) };
 }
 
 /// A base whose extension of degree D by the shape S has a name in the calculator: what a name adds.
@@ -130,6 +120,9 @@ pub trait Named<const D: usize, S: ExtensionShape>: Base + FrobeniusExtendable<D
 
     /// The order of the extension is below 2^128, so that it is given.
     ghost order_fits: { Self.base_order ^ D < 2 ^ 128 };
+
+    /// The field's own operations, size and text are those of residues.
+    ghost is_base: { IsBase Self.base_order Self.canon Self.ops Self.size Self.text };
 }
 
 impl<F: Named<D, S>, const D: usize, S: ExtensionShape> CalculatorField for ExtField<F, D, S, F> {
@@ -203,7 +196,7 @@ impl<F: Named<D, S>, const D: usize, S: ExtensionShape> CalculatorField for ExtF
         self.to_string(alloc)
     }
 
-    ghost represents = { spec_represented F.base_order F.ops F.canon F.residues D F.modulus (map F.canon (tabulate D F.generator_coefficients)) F.spec F.is_spec };
+    ghost represents = { spec_represented F.base_order F.ops F.canon F.is_base.residues D F.modulus (map F.canon (tabulate D F.generator_coefficients)) F.spec F.is_spec };
 
     ghost generator_is = { spec_generator F.spec F.is_spec };
 }

@@ -1,6 +1,7 @@
 //! The extensions that have a name in the calculator: what each adds to its base is its numbers.
 ghost use Rattle.std.specs.Prelude.{◌≡◌, ◌<◌, ◌^◌, refl};
 ghost use Rattle.std.proofs.Common.{lit<};
+ghost use Rattle.p3_calculator_fields.specs.Bases.{residues_are_base};
 ghost use Rattle.p3_calculator_fields.specs.Names.{field_f17x2, field_f17x4, field_f17x8, field_f17bx2, field_z15x2, field_f31x3, field_f31x5, field_f31x6, field_f31c, field_bbx4, field_f31t3, field_f17t5, field_f2t5};
 
 use crate::field::Named;
@@ -14,6 +15,8 @@ impl Named<2, Binomial<F17>> for F17 {
     ghost is_spec = { refl };
 
     ghost order_fits = { lit< tt };
+
+    ghost is_base = { residues_are_base };
 }
 
 impl Named<4, Binomial<F17>> for F17 {
@@ -22,6 +25,8 @@ impl Named<4, Binomial<F17>> for F17 {
     ghost is_spec = { refl };
 
     ghost order_fits = { lit< tt };
+
+    ghost is_base = { residues_are_base };
 }
 
 impl Named<8, Binomial<F17>> for F17 {
@@ -30,6 +35,8 @@ impl Named<8, Binomial<F17>> for F17 {
     ghost is_spec = { refl };
 
     ghost order_fits = { lit< tt };
+
+    ghost is_base = { residues_are_base };
 }
 
 impl Named<2, Binomial<F17b>> for F17b {
@@ -38,6 +45,8 @@ impl Named<2, Binomial<F17b>> for F17b {
     ghost is_spec = { refl };
 
     ghost order_fits = { lit< tt };
+
+    ghost is_base = { residues_are_base };
 }
 
 impl Named<2, Binomial<Z15>> for Z15 {
@@ -46,6 +55,8 @@ impl Named<2, Binomial<Z15>> for Z15 {
     ghost is_spec = { refl };
 
     ghost order_fits = { lit< tt };
+
+    ghost is_base = { residues_are_base };
 }
 
 impl Named<3, Binomial<F31>> for F31 {
@@ -54,6 +65,8 @@ impl Named<3, Binomial<F31>> for F31 {
     ghost is_spec = { refl };
 
     ghost order_fits = { lit< tt };
+
+    ghost is_base = { residues_are_base };
 }
 
 impl Named<5, Binomial<F31>> for F31 {
@@ -62,6 +75,8 @@ impl Named<5, Binomial<F31>> for F31 {
     ghost is_spec = { refl };
 
     ghost order_fits = { lit< tt };
+
+    ghost is_base = { residues_are_base };
 }
 
 impl Named<6, Binomial<F31>> for F31 {
@@ -70,6 +85,8 @@ impl Named<6, Binomial<F31>> for F31 {
     ghost is_spec = { refl };
 
     ghost order_fits = { lit< tt };
+
+    ghost is_base = { residues_are_base };
 }
 
 impl Named<2, Binomial<F31>> for F31 {
@@ -78,6 +95,8 @@ impl Named<2, Binomial<F31>> for F31 {
     ghost is_spec = { refl };
 
     ghost order_fits = { lit< tt };
+
+    ghost is_base = { residues_are_base };
 }
 
 impl Named<4, Binomial<BabyBear>> for BabyBear {
@@ -86,6 +105,8 @@ impl Named<4, Binomial<BabyBear>> for BabyBear {
     ghost is_spec = { refl };
 
     ghost order_fits = { lit< tt };
+
+    ghost is_base = { residues_are_base };
 }
 
 impl Named<3, CubicTrinomial> for F31 {
@@ -94,6 +115,8 @@ impl Named<3, CubicTrinomial> for F31 {
     ghost is_spec = { refl };
 
     ghost order_fits = { lit< tt };
+
+    ghost is_base = { residues_are_base };
 }
 
 impl Named<5, QuinticTrinomial> for F17 {
@@ -102,6 +125,8 @@ impl Named<5, QuinticTrinomial> for F17 {
     ghost is_spec = { refl };
 
     ghost order_fits = { lit< tt };
+
+    ghost is_base = { residues_are_base };
 }
 
 impl Named<5, QuinticTrinomial> for F2 {
@@ -110,4 +135,6 @@ impl Named<5, QuinticTrinomial> for F2 {
     ghost is_spec = { refl };
 
     ghost order_fits = { lit< tt };
+
+    ghost is_base = { residues_are_base };
 }

@@ -4,9 +4,9 @@ ghost use Rattle.std.specs.Prelude.{◌<◌, IsSome};
 
 use crate::extension_tables::Table;
 use crate::square_root_tables::Root;
-use crate::values::{Tabled, TwoAdicTabled};
+use crate::values::{Canonical, Tabled, TwoAdicTabled};
 use p3_field::extension::BinomiallyExtendable;
-use p3_field::{PrimeField64, RawDataSerializable};
+use p3_field::RawDataSerializable;
 use std::process::Abort;
 use std::test::Fail;
 
@@ -138,13 +138,13 @@ pub fn assert_inverses_or_zero<T: Tabled>(rt: &impl Abort, rows: &[(T::Row, T::R
 }
 
 /// W, the root, and the chosen element's coefficients at 1 and X, as canonical values.
-pub fn constants<F: BinomiallyExtendable<D> + PrimeField64, const D: usize>() -> [u64; 4]
+pub fn constants<F: BinomiallyExtendable<D> + Canonical, const D: usize>() -> [u64; 4]
     requires { 1 < D }
 {
     [
-        F::w().as_canonical_u64(),
-        F::dth_root().as_canonical_u64(),
-        F::ext_generator(0).as_canonical_u64(),
-        F::ext_generator(1).as_canonical_u64(),
+        F::w().canonical(),
+        F::dth_root().canonical(),
+        F::ext_generator(0).canonical(),
+        F::ext_generator(1).canonical(),
     ]
 }

@@ -1,6 +1,8 @@
 //! Extension values by their canonical coefficients, from X^0 upward, and the calls of the tables.
 ghost use Rattle.std.specs.Prelude.{ℕ, Option, IsSome};
 
+use p3_bench_prime::form::{Form, Word};
+use p3_bench_prime::fp::Fp;
 use p3_field::extension::{
     ExtField, ExtensionShape, FrobeniusExtendable, HasFrobenius, TwoAdicExtendable,
 };
@@ -10,6 +12,18 @@ use p3_field::{
 };
 use std::alloc::{AllocError, Global};
 use std::fmt::Debug;
+
+/// A residue's canonical value alone: `PrimeField64` has all integer maps among its bounds, which each
+/// call at a type's own name would pass.
+pub trait Canonical: Copy {
+    fn canonical(self) -> u64;
+}
+
+impl<W: Form<T>, T: Word> Canonical for Fp<W, T> {
+    fn canonical(self) -> u64 {
+        self.as_canonical_u64()
+    }
+}
 
 /// A type whose values stand in a table, by their canonical coefficients: just the calls that the
 /// tables have, since a bound by the whole field trait meets the step limit at each type, and room
@@ -62,7 +76,7 @@ pub trait TwoAdicTabled: Tabled {
         requires { IsSome Self.size };
 }
 
-impl<F: FrobeniusExtendable<D, S> + PrimeField64, const D: usize, S: ExtensionShape> Tabled
+impl<F: FrobeniusExtendable<D, S> + Canonical, const D: usize, S: ExtensionShape> Tabled
     for ExtField<F, D, S, F> {
     ghost use Rattle.p3_ext.specs.Orders.{extension_size};
 
@@ -82,7 +96,7 @@ impl<F: FrobeniusExtendable<D, S> + PrimeField64, const D: usize, S: ExtensionSh
         let mut row = [0; D];
         for i in 0..D {
             let c = self.value[i];
-            row[i] = c.as_canonical_u64();
+            row[i] = c.canonical();
         }
         row
     }
@@ -113,7 +127,7 @@ impl<F: FrobeniusExtendable<D, S> + PrimeField64, const D: usize, S: ExtensionSh
 
     fn base_value(&self) -> Option<u64> {
         match ExtensionField::<F>::as_base(self) {
-            Some(c) => Some(c.as_canonical_u64()),
+            Some(c) => Some(c.canonical()),
             None => None,
         }
     }
@@ -132,7 +146,7 @@ impl<F: FrobeniusExtendable<D, S> + PrimeField64, const D: usize, S: ExtensionSh
     }
 }
 
-impl<F: TwoAdicExtendable<D, S> + PrimeField64, const D: usize, S: ExtensionShape> TwoAdicTabled
+impl<F: TwoAdicExtendable<D, S> + Canonical, const D: usize, S: ExtensionShape> TwoAdicTabled
     for ExtField<F, D, S, F> {
     fn two_adicity() -> usize {
         <Self as TwoAdicField>::TWO_ADICITY

@@ -73,7 +73,7 @@ pub trait PrimeCharacteristicRing: Copy
     final fn from_u8(int: u8) -> Self
         ensures { result ≡ of_nat ops int }
     {
-        let residue = Self::PrimeSubfield::of_u8(int);
+        let residue = Self::PrimeSubfield::of_integer::<u8>(int);
         Self::from_prime_subfield(residue)
     }
 
@@ -82,7 +82,7 @@ pub trait PrimeCharacteristicRing: Copy
     final fn from_u16(int: u16) -> Self
         ensures { result ≡ of_nat ops int }
     {
-        let residue = Self::PrimeSubfield::of_u16(int);
+        let residue = Self::PrimeSubfield::of_integer::<u16>(int);
         Self::from_prime_subfield(residue)
     }
 
@@ -91,7 +91,7 @@ pub trait PrimeCharacteristicRing: Copy
     final fn from_u32(int: u32) -> Self
         ensures { result ≡ of_nat ops int }
     {
-        let residue = Self::PrimeSubfield::of_u32(int);
+        let residue = Self::PrimeSubfield::of_integer::<u32>(int);
         Self::from_prime_subfield(residue)
     }
 
@@ -100,7 +100,7 @@ pub trait PrimeCharacteristicRing: Copy
     final fn from_u64(int: u64) -> Self
         ensures { result ≡ of_nat ops int }
     {
-        let residue = Self::PrimeSubfield::of_u64(int);
+        let residue = Self::PrimeSubfield::of_integer::<u64>(int);
         Self::from_prime_subfield(residue)
     }
 
@@ -109,7 +109,7 @@ pub trait PrimeCharacteristicRing: Copy
     final fn from_u128(int: u128) -> Self
         ensures { result ≡ of_nat ops int }
     {
-        let residue = Self::PrimeSubfield::of_u128(int);
+        let residue = Self::PrimeSubfield::of_integer::<u128>(int);
         Self::from_prime_subfield(residue)
     }
 
@@ -118,7 +118,7 @@ pub trait PrimeCharacteristicRing: Copy
     final fn from_usize(int: usize) -> Self
         ensures { result ≡ of_nat ops int }
     {
-        let residue = Self::PrimeSubfield::of_usize(int);
+        let residue = Self::PrimeSubfield::of_integer::<usize>(int);
         Self::from_prime_subfield(residue)
     }
 
@@ -127,7 +127,7 @@ pub trait PrimeCharacteristicRing: Copy
     final fn from_i8(int: i8) -> Self
         ensures { result ≡ of_int ops int }
     {
-        let residue = Self::PrimeSubfield::of_i8(int);
+        let residue = Self::PrimeSubfield::of_integer::<i8>(int);
         Self::from_prime_subfield(residue)
     }
 
@@ -136,7 +136,7 @@ pub trait PrimeCharacteristicRing: Copy
     final fn from_i16(int: i16) -> Self
         ensures { result ≡ of_int ops int }
     {
-        let residue = Self::PrimeSubfield::of_i16(int);
+        let residue = Self::PrimeSubfield::of_integer::<i16>(int);
         Self::from_prime_subfield(residue)
     }
 
@@ -145,7 +145,7 @@ pub trait PrimeCharacteristicRing: Copy
     final fn from_i32(int: i32) -> Self
         ensures { result ≡ of_int ops int }
     {
-        let residue = Self::PrimeSubfield::of_i32(int);
+        let residue = Self::PrimeSubfield::of_integer::<i32>(int);
         Self::from_prime_subfield(residue)
     }
 
@@ -154,7 +154,7 @@ pub trait PrimeCharacteristicRing: Copy
     final fn from_i64(int: i64) -> Self
         ensures { result ≡ of_int ops int }
     {
-        let residue = Self::PrimeSubfield::of_i64(int);
+        let residue = Self::PrimeSubfield::of_integer::<i64>(int);
         Self::from_prime_subfield(residue)
     }
 
@@ -163,7 +163,7 @@ pub trait PrimeCharacteristicRing: Copy
     final fn from_i128(int: i128) -> Self
         ensures { result ≡ of_int ops int }
     {
-        let residue = Self::PrimeSubfield::of_i128(int);
+        let residue = Self::PrimeSubfield::of_integer::<i128>(int);
         Self::from_prime_subfield(residue)
     }
 
@@ -172,7 +172,7 @@ pub trait PrimeCharacteristicRing: Copy
     final fn from_isize(int: isize) -> Self
         ensures { result ≡ of_int ops int }
     {
-        let residue = Self::PrimeSubfield::of_isize(int);
+        let residue = Self::PrimeSubfield::of_integer::<isize>(int);
         Self::from_prime_subfield(residue)
     }
 

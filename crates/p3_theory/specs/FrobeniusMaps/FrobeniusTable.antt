@@ -60,7 +60,3 @@ module _ {A : Type 0} (o : Ops A) where
   -- the powers of phi from the first on, as rows
   abbrev pub coeffs_of : ℕ → List A → List A → List (List A)
   coeffs_of D f phi = tabulate (pred D) (λ i. power (quotient_ops o D f) phi (suc i))
-
-  -- the sum of rows where the rows stand as columns
-  abbrev pub matrix_sum : ℕ → List (List A) → List A → List A
-  matrix_sum D m a = tabulate D (λ k. sum_of o D (λ i. o.mul (at o a i) (at o (row m k) i)))

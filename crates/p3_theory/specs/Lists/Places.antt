@@ -1,9 +1,8 @@
 -- Lists of a given length, place by place.
-use Rattle.std.specs.Prelude.{◌≡◌, ◌<◌, ◌+◌, ◌∷◌, ℕ, List, [], length, replicate, refl, get_or}
-use Rattle.std.proofs.Common.{ap, arith, ◌∙◌, sym, zero, suc, subst}
+use Rattle.std.specs.Prelude.{◌≡◌, ◌<◌, ◌∷◌, ℕ, List, [], length, replicate, refl, get_or}
+use Rattle.std.proofs.Common.{ap, arith, ◌∙◌, sym, zero, suc}
 use Rattle.std.proofs.Math.ListN.{set}
-use Rattle.std.proofs.lemmas.List.{get_or-set_same, get_or-set_other, ext_get_or, get_or_default}
-use borrow.Author.Count.{below_more}
+use Rattle.std.proofs.lemmas.List.{ext_get_or, get_or_default}
 use Rattle.p3_theory.specs.Rings.Ring.{Ops}
 use Rattle.p3_theory.specs.Polynomials.Polynomial as P
 use Rattle.p3_theory.specs.Polynomials.Coefficients.{length-tabulate}
@@ -36,16 +35,3 @@ module _ {A : Type 0} where
 
   pub read_at : (xs : List A) (i : ℕ) (x d : A) → i < length xs → x ≡ get_or xs i x → get_or xs i d ≡ x
   read_at xs i x d h e = sym (e ∙ get_or_default xs i x d h)
-
-  -- one more place of three lists, and of two, meets P
-  pub three_more : (P : A → A → A → Type 0) (d : A) (n : ℕ) (xs ys out : List A) (i : ℕ) (v : A) → length out ≡ n → i < n
-      → ((k : ℕ) → k < i → P (get_or xs k d) (get_or ys k d) (get_or out k d))
-      → P (get_or xs i d) (get_or ys i d) v
-      → (k : ℕ) → k < i + 1 → P (get_or xs k d) (get_or ys k d) (get_or (set out i v) k d)
-  three_more P d n xs ys out i v l b h p =
-      below_more (λ k. P (get_or xs k d) (get_or ys k d) (get_or (set out i v) k d)) i
-      (λ k w. let Q : A → Type 0 = λ z. P (get_or xs k d) (get_or ys k d) z in subst Q (sym (get_or-set_other out i k v d (omega arith))) (h k w))
-      (let Q : A → Type 0 = λ z. P (get_or xs i d) (get_or ys i d) z in subst Q (sym (get_or-set_same out i v d (omega arith))) p)
-
-  pub carry : (P : A → A → Type 0) {a b c d : A} → a ≡ b → c ≡ d → P a c → P b d
-  carry P {a} {b} {c} {d} p q h = let Q : A → Type 0 = λ z. P z d in subst Q p (let S : A → Type 0 = λ z. P a z in subst S q h)

@@ -44,9 +44,6 @@ module _ {A : Type 0} (R : Ring A) where
   pub neg-ends : (n : ℕ) (s : ℕ → A) → Ends n s → Ends n (λ k. neg (s k))
   neg-ends n s h k le = ap neg (h k le) ∙ neg-zero
 
-  pub tail-ends : (n : ℕ) (s : ℕ → A) → Ends n s → (m : ℕ) → m ≤ n → Ends n s
-  tail-ends n s h m le = h
-
   pub convolve-ends : (a : List A) (n : ℕ) (t : ℕ → A) → Ends n t → Ends (length a + n) (convolve R.ops (at R.ops a) t)
   convolve-ends [] n t h k le = ap (λ s. s k) (B.zero_sequence-mul R t)
   convolve-ends (x ∷ a) n t h zero le = ap (λ y. x ⊗ y) (h zero (omega arith)) ∙ B.mul-zero R x

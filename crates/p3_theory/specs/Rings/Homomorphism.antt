@@ -6,7 +6,7 @@ use Rattle.p3_theory.specs.Rings.Ring.{Ops, Hom}
 use Rattle.p3_theory.specs.Polynomials.Polynomial.{tabulate, at, convolve, convolution, remainder, quotient_ops, quotient_add, quotient_mul, embed, monomial}
 use Rattle.p3_theory.specs.Rings.Powers.{sum_of, power}
 use Rattle.p3_theory.specs.FrobeniusMaps.Frobenius.{iterate}
-use Rattle.p3_theory.specs.FrobeniusMaps.FrobeniusTable.{row_sum, TableProof, orbit_list, value_at, dot, row, unknown, matrix_of, coeffs_of}
+use Rattle.p3_theory.specs.FrobeniusMaps.FrobeniusTable.{row_sum, TableProof, orbit_list, value_at, dot, row, unknown}
 
 -- the identity keeps the operations, and so do two such maps one after the other
 pub identity : {A : Type 0} (O : Ops A) → Hom O O (λ x. x)
@@ -137,14 +137,3 @@ module _ {A B : Type 0} (O : Ops A) (P : Ops B) (h : A → B) (H : Hom O P h) wh
         ∙ ap (tabulate (pred D)) (fun_ext (λ k. ap (tabulate D) (fun_ext (λ i. H.add _ _
         ∙ ap₂ P.add (row-place dual k i) (place-map (monomial O (suc k)) i ∙ ap (λ l. at P l i) (monomial-map (suc k)))))));
   }
-
-  power-map : (D : ℕ) (f phi : List A) (n : ℕ) → map h (power (quotient_ops O D f) phi n) ≡ power (quotient_ops P D (map h f)) (map h phi) n
-  power-map D f phi zero = (quotient-map D f).one
-  power-map D f phi (suc n) = (quotient-map D f).mul phi _ ∙ ap (quotient_mul P D (map h f) (map h phi)) (power-map D f phi n)
-
-  pub matrix-map : (D : ℕ) (f phi : List A) → map (map h) (matrix_of O D f phi) ≡ matrix_of P D (map h f) (map h phi)
-  matrix-map D f phi = grid-map D D _
-      ∙ ap (tabulate D) (fun_ext (λ k. ap (tabulate D) (fun_ext (λ j. place-map (power (quotient_ops O D f) phi j) k ∙ ap (λ l. at P l k) (power-map D f phi j)))))
-
-  pub coeffs-map : (D : ℕ) (f phi : List A) → map (map h) (coeffs_of O D f phi) ≡ coeffs_of P D (map h f) (map h phi)
-  coeffs-map D f phi = map-tabulate (map h) (pred D) _ ∙ ap (tabulate (pred D)) (fun_ext (λ i. power-map D f phi (suc i)))

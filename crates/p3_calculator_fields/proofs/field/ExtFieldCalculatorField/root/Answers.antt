@@ -11,7 +11,7 @@ use Rattle.p3_calculator_fields.proofs.field.ExtFieldCalculatorField.root.Goals 
 
 pub tonelli_shanks-requires : goal.tonelli_shanks-requires
 tonelli_shanks-requires g c =
-    subst (λ s. IsSome (extension_size s g.row.D)) (sym g.met.F.Base.size_is) (extension_order_given g.F.Base.base_order g.row.D g.met.F.Named.order_fits)
+    subst (λ s. IsSome (extension_size s g.row.D)) (sym g.met.F.Named.is_base.size_is) (extension_order_given g.F.Base.base_order g.row.D g.met.F.Named.order_fits)
 
 pub returns : goal.returns
 returns g c =
@@ -20,7 +20,7 @@ returns g c =
     let field = g.met.F.Field in
     let n = g.F.Base.base_order ^ D in
     let fits = g.met.F.Named.order_fits in
-    let given : extension_size g.F.Field.size D ≡ Some n = ap (λ s. extension_size s D) g.met.F.Base.size_is ∙ extension_order g.F.Base.base_order D fits in
+    let given : extension_size g.F.Field.size D ≡ Some n = ap (λ s. extension_size s D) g.met.F.Named.is_base.size_is ∙ extension_order g.F.Base.base_order D fits in
     let E = ext_ops g.F.PrimeCharacteristicRing.ops g.F.ExtensionAlgebra.modulus in
     let apart = constants_apart g.F.PrimeCharacteristicRing.ops D g.met.F.ExtensionAlgebra.at_least_two field.zero_is_not_one in
     let above = at_least_two E.zero E.one apart (extension_values g.F.Field.size D field.values n given) in

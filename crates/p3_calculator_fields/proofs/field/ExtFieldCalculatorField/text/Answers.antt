@@ -10,4 +10,4 @@ returns g c =
     let eq = g.F.PartialEq.eq in
     let written : IfOk c.to_string.result (λ t. string_bytes t ≡ polynomial_text (λ x. eq x O.zero) (λ x. eq x O.one) g.F.Field.text c.args.self.value) = search rules in
     subst (λ (l : List ℕ). IfOk c.to_string.result (λ t. string_bytes t ≡ l))
-    (extension_text g.F.Base.base_order O g.F.Base.canon g.met.F.Base.residues eq g.met.F.Field.equals g.F.Field.text g.met.F.Base.texts c.args.self.value) written
+    (extension_text g.F.Base.base_order O g.F.Base.canon g.met.F.Named.is_base.residues eq g.met.F.Field.equals g.F.Field.text g.met.F.Named.is_base.texts c.args.self.value) written

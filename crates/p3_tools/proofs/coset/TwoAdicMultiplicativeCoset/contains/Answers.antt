@@ -32,7 +32,8 @@ returns g c =
     let done : c.loop.counter ≡ k = omega arith in
     let element_is : c.loop.element ≡ power o x (2 ^ k) = c.loop.invariant.element_is ∙ ap (λ i. power o x (2 ^ i)) done in
     let shift_is : c.loop.shift ≡ power o coset.shift (2 ^ k) = c.loop.invariant.shift_is ∙ ap (λ i. power o coset.shift (2 ^ i)) done in
-    let same : IsTrue c.eq-2.result ↔ (c.loop.element ≡ c.loop.shift) = search rules in
+    let equal = g.met.F.Field.equals c.loop.element c.loop.shift in
+    let same : IsTrue c.eq-2.result ↔ (c.loop.element ≡ c.loop.shift) = search (equal, rules) in
     let agrees : IsTrue c.eq-2.result → power o x (2 ^ k) ≡ power o coset.shift (2 ^ k) = λ h. sym element_is ∙ same.0 h ∙ shift_is in
     let found : power o x (2 ^ k) ≡ power o coset.shift (2 ^ k) → IsTrue c.eq-2.result = λ e. same.1 (element_is ∙ e ∙ sym shift_is) in
     record {
