@@ -5,8 +5,8 @@ ghost use Rattle.std.specs.Prelude.{◌<◌, IsSome};
 use crate::extension_tables::Table;
 use crate::square_root_tables::Root;
 use crate::values::{Canonical, Tabled, TwoAdicTabled};
-use p3_field::extension::BinomiallyExtendable;
 use p3_field::RawDataSerializable;
+use p3_field::extension::BinomiallyExtendable;
 use std::process::Abort;
 use std::test::Fail;
 
