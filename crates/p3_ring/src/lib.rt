@@ -3,6 +3,8 @@
 
 pub mod accumulate;
 pub mod const_power;
+pub mod exponentiation;
+pub mod halves;
 pub mod linear_combination;
 pub mod powers;
 pub mod ring;

@@ -105,8 +105,8 @@ fn sum_products<A: Algebra<F>, F: PrimeCharacteristicRing>(values: &[A], coeffs:
 }
 
 /// The sum of the products of values and elements of F, position by position: the products of
-/// CHUNK positions are summed before they are added. Upstream's `chunked_mixed_dot_product`, on
-/// slices of one length.
+/// CHUNK positions are summed before they are added. CHUNK is above 0. Upstream's
+/// `chunked_mixed_dot_product`, on slices of one length.
 #[inline]
 pub fn chunked_mixed_dot_product<const CHUNK: usize, A: Algebra<F>, F: PrimeCharacteristicRing>(
     values: &[A],
@@ -129,8 +129,8 @@ pub fn chunked_mixed_dot_product<const CHUNK: usize, A: Algebra<F>, F: PrimeChar
     add_products(sum, &values[start..], &coeffs[start..])
 }
 
-/// `chunked_mixed_dot_product` with a chunk that is known only when it runs. Upstream's
-/// `dispatch_chunked_mixed_dot_product`.
+/// `chunked_mixed_dot_product` with a chunk that is known only when it runs: one of 1, 2, 4, 8, 16,
+/// 32 and 64. The slices have one length. Upstream's `dispatch_chunked_mixed_dot_product`.
 #[inline]
 pub fn dispatch_chunked_mixed_dot_product<A: Algebra<F>, F: PrimeCharacteristicRing>(
     values: &[A],
@@ -154,8 +154,8 @@ pub fn dispatch_chunked_mixed_dot_product<A: Algebra<F>, F: PrimeCharacteristicR
 }
 
 /// The sum of the products of values and elements of F, position by position: `mixed_dot_product`
-/// of each CHUNK positions, and of the others. Upstream's `chunked_linear_combination`, which adds
-/// the products of the others one at a time.
+/// of each CHUNK positions, and of the others. CHUNK is above 0, and the slices have one length.
+/// Upstream's `chunked_linear_combination`, which adds the products of the others one at a time.
 #[inline]
 pub fn chunked_linear_combination<const CHUNK: usize, A: Algebra<F>, F: PrimeCharacteristicRing>(
     values: &[A],

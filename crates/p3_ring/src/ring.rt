@@ -1,4 +1,4 @@
-ghost use Rattle.std.specs.Prelude.{◌≡◌, ◌^◌, ℕ, if◌then◌else◌, IfOk, length, map, replicate};
+ghost use Rattle.std.specs.Prelude.{◌≡◌, ◌^◌, ℕ, if◌then◌else◌, IfOk, IsOk, length, map, replicate};
 ghost use Rattle.p3_theory.specs.Rings.Ring.{Ops, RingLaws, Hom, Invertible, subtract};
 ghost use Rattle.p3_theory.specs.Rings.BooleanForms.{xor, and_not, bool_check};
 ghost use Rattle.p3_theory.specs.Rings.Powers.{power};
@@ -327,7 +327,8 @@ pub trait PrimeCharacteristicRing: Copy
     /// A vector of `len` zeros; `Err` where the memory for them is refused.
     #[inline]
     final fn zero_vec(alloc: Global, len: usize) -> Result<Vec<Self>, AllocError>
-        ensures { IfOk result (λ zeros. zeros.items ≡ replicate len ops.zero) }
+        ensures zeros { IfOk result (λ zeros. zeros.items ≡ replicate len ops.zero) }
+        ensures empty { len ≡ 0 → IsOk result }
     {
         Self::zero_vec_in(alloc, len)
     }
@@ -339,7 +340,8 @@ pub trait PrimeCharacteristicRing: Copy
         alloc: A,
         len: usize,
     ) -> Result<Vec<Self, A>, AllocError>
-        ensures { IfOk result (λ zeros. zeros.items ≡ replicate len ops.zero) }
+        ensures zeros { IfOk result (λ zeros. zeros.items ≡ replicate len ops.zero) }
+        ensures empty { len ≡ 0 → IsOk result }
     {
         let mut zeros = Vec::with_capacity(alloc, len)?;
         for _ in 0..len {

@@ -53,7 +53,7 @@ fn sum_slice<R: PrimeCharacteristicRing>(input: &[R]) -> R
     }
 }
 
-/// The sum of N values, eight at a time and each eight in pairs. Upstream's `sum_array`.
+/// The sum of a slice of N values, eight at a time and each eight in pairs. Upstream's `sum_array`.
 #[inline]
 pub fn sum_array<R: PrimeCharacteristicRing, const N: usize>(input: &[R]) -> R
     requires { length input.now ≡ N }
