@@ -39,7 +39,7 @@ pub trait Field: PrimeCharacteristicRing + Eq + Display + Div<Output = Self> + D
     /// Upstream's constant: no contract speaks of it.
     const BENEFITS_FROM_LOCKSTEP_EVALUATION: bool;
 
-    /// A chosen element, for a field one that generates its units. No law says that it does.
+    /// A generator candidate: of a field upstream's generates the units. No law says that it does.
     fn generator() -> Self
         ensures { result ≡ generator };
 
@@ -80,7 +80,7 @@ pub trait Field: PrimeCharacteristicRing + Eq + Display + Div<Output = Self> + D
         Self::from_usize(i)
     }
 
-    /// Adds each entry of the second slice to that of the first at its place. The slices have one
+    /// Adds each entry of the second slice to that of the first at its index. The slices have one
     /// length.
     #[inline]
     final fn add_slices(slice_1: &mut [Self], slice_2: &[Self])
@@ -228,7 +228,7 @@ pub trait TwoAdicField: Field {
 
     ghost TWO_ADICITY: { ℕ };
 
-    /// A root of unity of order `2^bits`.
+    /// A root of unity of order `2^bits`, for bits up to the two-adicity.
     fn two_adic_generator(bits: usize) -> Self
         requires { bits ≤ TWO_ADICITY }
         ensures { result ≡ two_adic bits };

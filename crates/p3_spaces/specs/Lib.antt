@@ -2,3 +2,4 @@ pub mod Streams
 pub mod StreamLemmas
 pub mod TakenItems
 pub mod ParallelStreams
+pub mod DrawnItems

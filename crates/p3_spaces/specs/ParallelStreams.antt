@@ -7,8 +7,7 @@ use Rattle.std.proofs.lemmas.List.Elements.{All-append}
 use Rattle.p3_theory.specs.Polynomials.Polynomial.{tabulate}
 use Rattle.p3_theory.specs.Polynomials.Coefficients.{length-tabulate}
 use Rattle.p3_theory.specs.Lists.Places.{to-tabulate}
-use Rattle.p3_spaces.specs.Streams.{column, AllOfLength, AreParallel, row_bytes, row_words, byte_stream, word_stream, little_endian, groups, group, group_count, YieldsExactly, TakesFirst}
-use Rattle.p3_spaces.specs.StreamLemmas.{YieldsExactly-by_state, YieldsExactly-none, YieldsExactly-some}
+use Rattle.p3_spaces.specs.Streams.{column, AllOfLength, AreParallel, row_bytes, row_words, byte_stream, word_stream, little_endian, groups, group, group_count}
 use Rattle.std.proofs.lemmas.List.{drop_all, length-replicate}
 use Rattle.std.proofs.lemmas.Option.{get_or_from_slice_get}
 use Rattle.std.proofs.lemmas.List.{get_or-set_same, get_or-set_other}
@@ -198,35 +197,6 @@ parallel_words n m count stream rows p =
           ∙ ap (λ k. map little_endian (tabulate (group_count m k) (group m 0 (column j rows)))) (sym (length-column n j h rows p.widths))
           ∙ ap (word_stream m) (p.columns j h);
     }
-
--- ---- one list after the other
-
-module _ {S F B : Type 0} (steps : S → Option F → S → Type 0) (parts : F → List B) where
-  -- from the parts at s one comes to those at t with nothing lost
-  abbrev pub KeepsFirst : S → List B → S → List B → Type 0
-  KeepsFirst s held t held' = (xs : List F) → YieldsExactly steps s xs
-      → (xs' : List F) × (held ++ flat_map parts xs ≡ held' ++ flat_map parts xs') × YieldsExactly steps t xs'
-
-  pub takes_first : (s t : S) (old held held' : List B) (b : B) → KeepsFirst s old t held → held ≡ b ∷ held' → TakesFirst steps parts s old (Some b) t held'
-  takes_first s t old held held' b keeps e = λ xs y. let k = keeps xs y in (k.0, k.1 ∙ ap (λ l. l ++ flat_map parts k.0) e, k.2)
-
-  pub takes_last : (s u t : S) (old held held' : List B) → KeepsFirst s old u held → held ≡ [] → steps u None t → TakesFirst steps parts s old None t held'
-  takes_last s u t old held held' keeps e h = λ xs y. let k = keeps xs y in k.1 ∙ ap₂ (λ l zs. l ++ flat_map parts zs) e (YieldsExactly-none k.2 h)
-
-  pub keeps_first : (s u t : S) (old held : List B) (x : F) → KeepsFirst s old u held → held ≡ [] → steps u (Some x) t → KeepsFirst s old t (parts x)
-  keeps_first s u t old held x keeps e h = λ xs y.
-      let k = keeps xs y in
-      let n = YieldsExactly-some k.2 h in
-      (n.0, k.1 ∙ ap₂ (λ l zs. l ++ flat_map parts zs) e n.1, n.2)
-
-  module _ {T : Type 0} (turn : T → Option B → T → Type 0) (source : T → S) (held : T → List B)
-      (takes : (s t : T) (r : Option B) → turn s r t → TakesFirst steps parts (source s) (held s) r (source t) (held t)) where
-    -- where the source gives exactly some items, and nothing is held, exactly the items of their lists come
-    pub YieldsExactly-parts : (xs : List F) (s : T) → held s ≡ [] → YieldsExactly steps (source s) xs → YieldsExactly turn s (flat_map parts xs)
-    YieldsExactly-parts xs s e y = YieldsExactly-by_state turn (λ s zs. (xs : List F) × (zs ≡ held s ++ flat_map parts xs) × YieldsExactly steps (source s) xs)
-        (λ s t zs l h. l.1 ∙ takes s t None h l.0 l.2)
-        (λ s t b zs l h. let a = takes s t (Some b) h l.0 l.2 in (held t ++ flat_map parts a.0, l.1 ∙ a.1, (a.0, refl, a.2)))
-        s (flat_map parts xs) (xs, ap (λ l. l ++ flat_map parts xs) (sym e), y)
 
 -- what is left from place i on of a list of s 0 to s (n - 1)
 pub left_at : {B : Type 0} (n : ℕ) (s : ℕ → B) (i : ℕ) → i < n → drop i (tabulate n s) ≡ s i ∷ drop (i + 1) (tabulate n s)

@@ -4,7 +4,6 @@ use Rattle.std.proofs.Math.Seq.{drop-nil}
 use Rattle.std.proofs.Math.ListN.{set}
 use Rattle.std.specs.Prelude.{slice_index, get_or}
 use Rattle.std.specs.Int.{sum_through, byte_worth}
-use Rattle.std.specs.Option.{MatchOption}
 use Rattle.std.specs.Iterator.{Yields, AlwaysYields}
 use Rattle.std.proofs.lemmas.List.{drop_all, take_all, length-replicate, append_assoc, nil_from_length, get_or_append_left, get_or-append-add}
 use Rattle.std.specs.List.{flat_map}
@@ -15,7 +14,7 @@ use Rattle.std.proofs.Math.Decide.{dec_le}
 use mathlib.Core.Logic.{dite}
 use mathlib.Core.Path.{fun_ext}
 use Rattle.p3_theory.specs.Polynomials.Polynomial.{tabulate}
-use Rattle.p3_spaces.specs.Streams.{YieldsExactly, padded, group_count, group, groups, group_of, TakesUpTo, GathersGroup, byte_stream, HasToCome, InHand, TakesByte, ReadsGroup, little_endian}
+use Rattle.p3_spaces.specs.Streams.{YieldsExactly, padded, group_count, group, groups, group_of, TakesUpTo, GathersGroup, byte_stream, ReadsGroup, little_endian}
 use Rattle.std.proofs.lemmas.Bool.Decides.{nat_tests}
 
 drop-drop : {A : Type 0} (xs : List A) (m k : ℕ) → drop k (drop m xs) ≡ drop (m + k) xs
@@ -169,7 +168,7 @@ module _ {S T A : Type 0} (steps : S → Option A → S → Type 0) (turn : T �
 -- ---- items written over the front of a list
 
 module _ {S A : Type 0} (steps : S → Option A → S → Type 0) where
-  Yields-push : (xs : List A) (s t u : S) (x : A) → Yields steps s xs t → steps t (Some x) u → Yields steps s (xs ++ (x ∷ [])) u
+  pub Yields-push : (xs : List A) (s t u : S) (x : A) → Yields steps s xs t → steps t (Some x) u → Yields steps s (xs ++ (x ∷ [])) u
   Yields-push [] s t u x h k = (u, (let P : S → Type 0 = λ w. steps w (Some x) u in subst P (sym h) k), refl)
   Yields-push (y ∷ xs) s t u x h k = (h.0, h.1, Yields-push xs h.0 t u x h.2 k)
 
@@ -235,20 +234,6 @@ YieldsExactly-by_state {T} {A} turn Left none some s zs left = record { runs = a
           (cc e, along zs t (let P : List A → Type 0 = Left t in subst P (cc e) a.2)),
     )
 
-module _ {S J F T : Type 0} (steps : S → Option F → S → Type 0) (inner : J → Option ℕ → J → Type 0) (bytes : F → List ℕ)
-    (turn : T → Option ℕ → T → Type 0) (source : T → S) (reader : T → Option J)
-    (takes : (s t : T) (r : Option ℕ) → turn s r t → TakesByte steps inner bytes (source s) (reader s) r (source t) (reader t)) where
-  abbrev Left : T → List ℕ → Type 0
-  Left s zs = (held : List ℕ) × (xs : List F) × (zs ≡ held ++ byte_stream bytes xs) × HasToCome steps inner (source s) (reader s) held xs
-
-  -- where the source gives exactly these elements, and no reader is in hand, exactly their bytes come
-  pub YieldsExactly-bytes : (xs : List F) (s : T) → reader s ≡ None → YieldsExactly steps (source s) xs → YieldsExactly turn s (byte_stream bytes xs)
-  YieldsExactly-bytes xs s e y = YieldsExactly-by_state turn Left
-      (λ s t zs l h. l.2 ∙ takes s t None h l.0 l.1 l.3)
-      (λ s t y zs l h. let a = takes s t (Some y) h l.0 l.1 l.3 in (a.0 ++ byte_stream bytes a.1, l.2 ∙ a.2, (a.0, a.1, refl, a.3)))
-      s (byte_stream bytes xs)
-      ([], xs, refl, (let P : Option J → Type 0 = λ o. MatchOption o (◌≡◌ {A = List ℕ} [] []) (λ j. YieldsExactly inner j []) in subst P (sym e) refl, y))
-
 -- one call at a state that gives exactly some items
 pub YieldsExactly-none : {S A : Type 0} {steps : S → Option A → S → Type 0} {s t : S} {xs : List A} → YieldsExactly steps s xs → steps s None t → xs ≡ []
 YieldsExactly-none {xs = []} y h = refl
@@ -269,47 +254,6 @@ module _ {S A : Type 0} {steps : S → Option A → S → Type 0} {s t : S} {xs 
 
   pub two_items : {x z : A} {u : S} → steps s (Some x) t → steps t (Some z) u → length xs ≡ 1 → ⊥
   two_items h k l = let n = YieldsExactly-some y h in let m = YieldsExactly-some n.2 k in omega (arith, l, ap length n.1, ap length m.1)
-
-module _ {S J F : Type 0} (steps : S → Option F → S → Type 0) (inner : J → Option ℕ → J → Type 0) (bytes : F → List ℕ) where
-  -- from the parts at s and `reader` one comes to those at t and `reader'` with nothing lost
-  abbrev pub KeepsToCome : S → Option J → S → Option J → Type 0
-  KeepsToCome s reader t reader' = (held : List ℕ) (xs : List F) → HasToCome steps inner s reader held xs
-      → (held' : List ℕ) × (xs' : List F) × (held ++ byte_stream bytes xs ≡ held' ++ byte_stream bytes xs') × HasToCome steps inner t reader' held' xs'
-
-  no_more_held : (s : S) (reader reader' : Option J) (held : List ℕ) (xs : List F) → InHand inner reader None reader' → HasToCome steps inner s reader held xs → held ≡ []
-  no_more_held s None reader' held xs h l = l.0
-  no_more_held s (Some j) reader' held xs h l = YieldsExactly-none l.0 h.1
-
-  -- a byte of the reader in hand
-  pub takes_held : (s u t : S) (old reader reader' : Option J) (b : ℕ) → KeepsToCome u old s reader → InHand inner reader (Some b) reader' → t ≡ s
-      → TakesByte steps inner bytes u old (Some b) t reader'
-  takes_held s u t old None reader' b keeps h e = absurd (cc h)
-  takes_held s u t old (Some j) reader' b keeps h e = λ held xs l.
-      let k = keeps held xs l in
-      let n = YieldsExactly-some k.3.0 h.1 in (
-        n.0,
-        k.1,
-        k.2 ∙ ap (λ y. y ++ byte_stream bytes k.1) n.1,
-        (
-          (let P : Option J → Type 0 = λ o. MatchOption o (n.0 ≡ []) (λ j. YieldsExactly inner j n.0) in subst P (sym h.2) n.2),
-          (let P : S → Type 0 = λ v. YieldsExactly steps v k.1 in subst P (sym e) k.3.1),
-        ),
-      )
-
-  -- nothing is held, and the source has ended
-  pub takes_none : (s u t : S) (old reader reader' reader'' : Option J) → KeepsToCome u old s reader → InHand inner reader None reader' → steps s None t
-      → TakesByte steps inner bytes u old None t reader''
-  takes_none s u t old reader reader' reader'' keeps h e = λ held xs l.
-      let k = keeps held xs l in
-      k.2 ∙ ap₂ (λ y ys. y ++ byte_stream bytes ys) (no_more_held s reader reader' k.0 k.1 h k.3) (YieldsExactly-none k.3.1 e)
-
-  -- nothing is held, and the source gives an element, whose bytes are held next
-  pub keeps_next : (s u t : S) (old reader reader' : Option J) (x : F) (j : J) → KeepsToCome u old s reader → InHand inner reader None reader' → steps s (Some x) t
-      → YieldsExactly inner j (bytes x) → KeepsToCome u old t (Some j)
-  keeps_next s u t old reader reader' x j keeps h e y = λ held xs l.
-      let k = keeps held xs l in
-      let n = YieldsExactly-some k.3.1 e in
-      (bytes x, n.0, k.2 ∙ ap₂ (λ y ys. y ++ byte_stream bytes ys) (no_more_held s reader reader' k.0 k.1 h k.3) n.1, (y, n.2))
 
 -- of fewer blocks of n items, there is room for one more
 pub one_more_block : (n a b : ℕ) → a < b → n + n * a ≤ n * b

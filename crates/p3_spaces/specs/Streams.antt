@@ -2,7 +2,7 @@
 use Rattle.std.specs.Prelude.{◌≡◌, ◌<◌, ◌+◌, ◌-◌, ◌*◌, ◌/◌, ◌⊎◌, ℕ, Bool, true, List, [], ◌∷◌, ◌++◌, length, take, drop, map, replicate, nat_lt, Option, None, Some, MatchOption, OnSome, All, slice_get, slice_index}
 use Rattle.std.specs.Bool.{MatchBool}
 use Rattle.std.specs.List.{flat_map, filter_map}
-use Rattle.std.specs.Iterator.{Yields, YieldsThen}
+use Rattle.std.specs.Iterator.{Yields, YieldsThen, Drains}
 use Rattle.std.proofs.lemmas.Iterator.{YieldsList}
 use Rattle.p3_theory.specs.Polynomials.Polynomial.{tabulate}
 
@@ -48,28 +48,44 @@ group_of n p (x ∷ xs) = Some (padded n p (x ∷ xs))
 abbrev pub TakesUpTo : {S A : Type 0} → (S → Option A → S → Type 0) → ℕ → S → List A → S → Type 0
 TakesUpTo steps n s xs t = ((length xs ≡ n) × Yields steps s xs t) ⊎ ((length xs < n) × YieldsThen steps s xs None t)
 
+-- calls from s gave fewer than n items and then `None`, or n items and then another
+abbrev pub GivesOtherCount : {S A : Type 0} → (S → Option A → S → Type 0) → ℕ → S → Type 0
+GivesOtherCount {S} {A} steps n s = (xs : List A) × (r : Option A) × (u : S) × YieldsThen steps s xs r u × MatchOption r (length xs < n) (λ _. length xs ≡ n)
+
+-- a call that asks s for n items and no more: it answers a value of whose items s gave just these, and `None` where another count came
+abbrev pub TakesExactly : {S A V : Type 0} → (S → Option A → S → Type 0) → ℕ → (V → List A) → S → Option V → Type 0
+TakesExactly steps n items s r = MatchOption r (GivesOtherCount steps n s) (λ x. Drains steps s (items x))
+
 -- A call that gathers up to n items of a source s: it answers r, leaves the source at t, and `over` says that the
 -- source has ended, before the call and after it. A source that has ended is not asked again.
 abbrev pub GathersGroup : {S A : Type 0} → (S → Option A → S → Type 0) → ℕ → A → Bool → S → Option (List A) → Bool → S → Type 0
 GathersGroup {A = A} steps n p over s r over' t =
-    MatchBool over ((r ≡ None) × (over' ≡ true))
+    MatchBool over ((r ≡ None) × (over' ≡ true) × (t ≡ s))
     ((xs : List A) × (r ≡ group_of n p xs) × (over' ≡ nat_lt (length xs) n) × TakesUpTo steps n s xs t)
 
--- what the parts of a byte stream have yet to give: the reader in hand, if there is one, the bytes held, and the source the elements xs
-abbrev pub HasToCome : {S J F : Type 0} → (S → Option F → S → Type 0) → (J → Option ℕ → J → Type 0) → S → Option J → List ℕ → List F → Type 0
-HasToCome steps inner s reader held xs = MatchOption reader (held ≡ []) (λ j. YieldsExactly inner j held) × YieldsExactly steps s xs
+-- A call at a source s with a list held, which draws items and leaves the source at t: it answers the first of what is
+-- held and of the drawn items' lists, and `Held` holds of the rest. It answers `None` where the source has ended and none
+-- of these has an entry, and then nothing is held.
+abbrev pub Draws : {S F B : Type 0} → (S → Option F → S → Type 0) → (F → List B) → S → List B → Option B → S → (List B → Type 0) → Type 0
+Draws {F = F} {B = B} steps parts s held r t Held = MatchOption r
+    ((xs : List F) × YieldsThen steps s xs None t × (held ++ flat_map parts xs ≡ []) × Held [])
+    (λ b. (xs : List F) × (rest : List B) × Yields steps s xs t × (held ++ flat_map parts xs ≡ b ∷ rest) × Held rest)
+
+-- P holds of whatever calls from s give until the end, and of some items that the source at t gives until its end
+pub record DrawnFrom {S T A B : Type 0} (steps : S → Option A → S → Type 0) (source : T → Option B → T → Type 0) (s : S) (t : T) (P : List A → List B → Type 0) : Type 0 where
+  pub runs : (ys : List A) → Drains steps s ys → (xs : List B) × Drains source t xs × P ys xs
+
+-- the reader in hand gives exactly these bytes; where there is none, there is no byte
+abbrev pub HoldsBytes : {J : Type 0} → (J → Option ℕ → J → Type 0) → Option J → List ℕ → Type 0
+HoldsBytes inner reader held = MatchOption reader (held ≡ []) (λ j. YieldsExactly inner j held)
 
 -- what the reader in hand answered, if there was one, and that it is kept where it gave a byte
 abbrev pub InHand : {J : Type 0} → (J → Option ℕ → J → Type 0) → Option J → Option ℕ → Option J → Type 0
 InHand {J} inner reader r reader' = MatchOption reader (r ≡ None) (λ j. (k : J) × inner j r k × OnSome r (reader' ≡ Some k))
 
--- A call of a byte stream at the parts s and `reader`, which leaves t and `reader'`: whatever they have yet to give,
--- it answers the first byte of that and leaves the rest to come, and it answers `None` where there is none.
+-- a call of a byte stream with a source s and a reader in hand, which leaves t and `reader'`: it draws elements, and what it gives is their bytes
 abbrev pub TakesByte : {S J F : Type 0} → (S → Option F → S → Type 0) → (J → Option ℕ → J → Type 0) → (F → List ℕ) → S → Option J → Option ℕ → S → Option J → Type 0
-TakesByte {F = F} steps inner bytes s reader r t reader' =
-    (held : List ℕ) (xs : List F) → HasToCome steps inner s reader held xs
-    → MatchOption r (held ++ byte_stream bytes xs ≡ [])
-    (λ b. (held' : List ℕ) × (xs' : List F) × (held ++ byte_stream bytes xs ≡ b ∷ (held' ++ byte_stream bytes xs')) × HasToCome steps inner t reader' held' xs')
+TakesByte steps inner bytes s reader r t reader' = (held : List ℕ) → HoldsBytes inner reader held → Draws steps bytes s held r t (HoldsBytes inner reader')
 
 -- a call that answers what f makes of a group
 abbrev pub ReadsGroup : {T A B : Type 0} → (List A → B) → (T → Option (List A) → T → Type 0) → T → Option B → T → Type 0
@@ -99,13 +115,9 @@ row_bytes bytes n row = tabulate n (λ i. map (λ x. slice_index (bytes x) i) ro
 abbrev pub row_words : ℕ → List (List ℕ) → List ℕ
 row_words n rows = tabulate n (λ j. little_endian (map (λ row. slice_index row j) rows))
 
--- A call at a source s and a list held, which leaves t and `held'`: whatever the source has yet to give, it answers
--- the first of what is held and then of the items' lists, and `None` where there is none.
+-- a call with a source s and a list held, which leaves t and `held'`: it draws items, and what it gives is their lists
 abbrev pub TakesFirst : {S F B : Type 0} → (S → Option F → S → Type 0) → (F → List B) → S → List B → Option B → S → List B → Type 0
-TakesFirst {F = F} steps parts s held r t held' =
-    (xs : List F) → YieldsExactly steps s xs
-    → MatchOption r (held ++ flat_map parts xs ≡ [])
-    (λ b. (xs' : List F) × (held ++ flat_map parts xs ≡ b ∷ (held' ++ flat_map parts xs')) × YieldsExactly steps t xs')
+TakesFirst steps parts s held r t held' = Draws steps parts s held r t (λ rest. held' ≡ rest)
 
 -- what is left from place i on of the list of the item in hand
 abbrev pub left_of : {F B : Type 0} → (F → List B) → Option F → ℕ → List B

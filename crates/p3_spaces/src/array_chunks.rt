@@ -1,7 +1,7 @@
 ghost use Rattle.std.specs.Prelude.{◌≡◌, ◌≤◌, ◌<◌, ◌+◌, ◌++◌, List, length, drop, OnSome};
 ghost use Rattle.std.specs.Bool.{MatchBool};
-ghost use Rattle.std.specs.Iterator.{IsFinite, size, count_unless};
-ghost use Rattle.p3_spaces.specs.Streams.{GathersGroup, TakesUpTo};
+ghost use Rattle.std.specs.Iterator.{IsFinite, size, count_map, count_unless};
+ghost use Rattle.p3_spaces.specs.Streams.{GathersGroup, TakesUpTo, group_count};
 
 /// The next N items of `source` as an array, filled up by copies of `padding` where the items end
 /// first, and `None` where no item is left. `is_over` keeps whether the source has ended; from then
@@ -15,8 +15,8 @@ pub fn next_chunk_padded<I: Iterator<Item = T>, T: Copy, const N: usize>(
     requires { MatchBool is_over.old (Unit {0}) (I.can_next source.old × IsFinite (I.remaining source.old)) }
     ensures gathers { GathersGroup I.next_gives N padding is_over.old source.old result is_over.new source.new }
     ensures ready { OnSome result (MatchBool is_over.new (Unit {0}) (I.can_next source.new × IsFinite (I.remaining source.new))) }
-    ensures nearer { OnSome result (size (count_unless is_over.new (I.remaining source.new))
-        < size (count_unless is_over.old (I.remaining source.old))) }
+    ensures nearer { OnSome result (size (count_unless is_over.new (count_map (group_count N) (I.remaining source.new)))
+        < size (count_unless is_over.old (count_map (group_count N) (I.remaining source.old)))) }
     ensures finite { IsFinite (count_unless is_over.new (I.remaining source.new)) }
 {
     if *is_over {

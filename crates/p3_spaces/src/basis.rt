@@ -1,10 +1,10 @@
-ghost use Rattle.std.specs.Prelude.{◌≡◌, ◌<◌, ◌%◌, ◌↔◌, ℕ, List, length, IsSome, IfSome, MatchOption, IfOk, vec_len};
+ghost use Rattle.std.specs.Prelude.{◌≡◌, ◌<◌, ◌%◌, ◌↔◌, ℕ, List, length, IsSome, IfSome, MatchOption, IfOk, IsOk, vec_len};
 ghost use Rattle.std.specs.Iterator.{IsFinite};
 ghost use Rattle.std.specs.Array.{IsFromFnResult};
-ghost use Rattle.std.specs.Mem.{FitsInMemory};
-ghost use Rattle.p3_spaces.specs.Streams.{YieldsExactly};
+ghost use Rattle.p3_spaces.specs.Streams.{YieldsExactly, TakesExactly};
 ghost use Rattle.p3_theory.specs.Bases.Coordinates.{basis_element, flattened, HasCoefficientsOf, CallableBelow};
 
+use crate::in_memory::InMemory;
 use p3_ring::ring::PrimeCharacteristicRing;
 use std::alloc::{AllocError, Allocator, Global};
 
@@ -19,9 +19,10 @@ pub trait BasedVectorSpace<F: PrimeCharacteristicRing>: Copy {
     /// The coefficients of a value.
     ghost coefficients: { Self → List F };
 
-    /// The coefficients of the value. A value of F takes fewer than 2^63 bytes.
+    /// The coefficients of the value.
     fn as_basis_coefficients_slice(&self) -> &[F]
-        requires { FitsInMemory F.row }
+    where
+        F: InMemory,
         ensures { result.now ≡ coefficients self.now };
 
     /// The value with these coefficients, and `None` exactly where their count is not the dimension.
@@ -38,11 +39,12 @@ pub trait BasedVectorSpace<F: PrimeCharacteristicRing>: Copy {
         ensures { IsFromFnResult G.FnMut f (coefficients result) DIMENSION };
 
     /// The value with the coefficients that the iterator gives, and `None` exactly where their count
-    /// is not the dimension.
+    /// is not the dimension. The iterator may be any, as one that maps by a closure that changes.
     fn from_basis_coefficients_iter<I: ExactSizeIterator<Item = F> + Drop>(iter: I) -> Option<Self>
         requires can { I.can_next iter }
         requires ends { IsFinite (I.remaining iter) }
-        ensures { (xs : List F) → YieldsExactly I.next_gives iter xs
+        ensures drawn { TakesExactly I.next_gives DIMENSION coefficients iter result }
+        ensures all { (xs : List F) → YieldsExactly I.next_gives iter xs
             → MatchOption result (length xs ≡ DIMENSION → ⊥) (λ x. coefficients x ≡ xs) };
 
     /// The value whose coefficient i is one and whose other coefficients are zero, and `None` exactly
@@ -62,12 +64,15 @@ pub trait BasedVectorSpace<F: PrimeCharacteristicRing>: Copy {
     }
 
     /// The coefficients of the values, one value after the other. Each value is taken, and room for
-    /// the whole list is asked for once. Upstream's, without reuse of the memory.
+    /// the whole list is asked for once, and not at all where there is no value. Upstream's, without
+    /// reuse of the memory.
     #[inline]
     final fn flatten_to_base(alloc: Global, vec: Vec<Self>) -> Result<Vec<F>, AllocError>
-        requires { FitsInMemory F.row }
+    where
+        F: InMemory,
         ensures all { IfOk result (λ v. v.items ≡ flattened coefficients vec.items) }
         ensures places { IfOk result (λ v. HasCoefficientsOf coefficients DIMENSION vec.items v.items) }
+        ensures empty { vec_len vec ≡ 0 → IsOk result }
     {
         Self::flatten_to_base_in(alloc, vec)
     }
@@ -77,9 +82,11 @@ pub trait BasedVectorSpace<F: PrimeCharacteristicRing>: Copy {
         alloc: A,
         vec: Vec<Self, A>,
     ) -> Result<Vec<F, A>, AllocError>
-        requires { FitsInMemory F.row }
+    where
+        F: InMemory,
         ensures all { IfOk result (λ v. v.items ≡ flattened coefficients vec.items) }
         ensures places { IfOk result (λ v. HasCoefficientsOf coefficients DIMENSION vec.items v.items) }
+        ensures empty { vec_len vec ≡ 0 → IsOk result }
     {
         let mut flat = Vec::with_capacity(alloc, vec.len().saturating_mul(Self::DIMENSION))?;
         for x in &vec {
@@ -89,13 +96,14 @@ pub trait BasedVectorSpace<F: PrimeCharacteristicRing>: Copy {
     }
 
     /// The values whose coefficients stand in the list one value after the other: what
-    /// `flatten_to_base` makes of them is the list again. Room for the whole list is asked for once.
-    /// Upstream's, without reuse of the memory.
+    /// `flatten_to_base` makes of them is the list again. Room for the whole list is asked for once,
+    /// and not at all where the list is empty. Upstream's, without reuse of the memory.
     #[inline]
     final fn reconstitute_from_base(alloc: Global, vec: Vec<F>) -> Result<Vec<Self>, AllocError>
         requires { vec_len vec % DIMENSION ≡ 0 }
         ensures all { IfOk result (λ v. flattened coefficients v.items ≡ vec.items) }
         ensures places { IfOk result (λ v. HasCoefficientsOf coefficients DIMENSION v.items vec.items) }
+        ensures empty { vec_len vec ≡ 0 → IsOk result }
     {
         Self::reconstitute_from_base_in(alloc, vec)
     }
@@ -108,6 +116,7 @@ pub trait BasedVectorSpace<F: PrimeCharacteristicRing>: Copy {
         requires { vec_len vec % DIMENSION ≡ 0 }
         ensures all { IfOk result (λ v. flattened coefficients v.items ≡ vec.items) }
         ensures places { IfOk result (λ v. HasCoefficientsOf coefficients DIMENSION v.items vec.items) }
+        ensures empty { vec_len vec ≡ 0 → IsOk result }
     {
         let mut values = Vec::with_capacity(alloc, vec.len() / Self::DIMENSION)?;
         let mut rest = vec.as_slice();
@@ -151,7 +160,10 @@ impl<R: PrimeCharacteristicRing> BasedVectorSpace<R> for R {
     ghost positive = { lit< tt };
 
     #[inline]
-    fn as_basis_coefficients_slice(&self) -> &[R] {
+    fn as_basis_coefficients_slice(&self) -> &[R]
+    where
+        R: InMemory,
+    {
         std::slice::from_ref(self)
     }
 

@@ -1,8 +1,9 @@
-ghost use Rattle.std.specs.Prelude.{◌≡◌, ◌<◌, ◌≤◌, ◌*◌, ℕ, List, [], ◌∷◌, length, map, slice_index, MatchOption};
+ghost use Rattle.std.specs.Prelude.{◌≡◌, ◌<◌, ◌≤◌, ◌*◌, ℕ, List, [], ◌∷◌, length, map, slice_index, MatchOption, IfNone};
 ghost use Rattle.std.specs.Iterator.{IsFinite};
-ghost use Rattle.p3_spaces.specs.Streams.{YieldsExactly, AllOfLength, AreParallel, column, byte_stream, row_bytes, left_of, word_stream, group_count};
+ghost use Rattle.p3_spaces.specs.Streams.{YieldsExactly, DrawnFrom, AllOfLength, AreParallel, column, byte_stream, row_bytes, left_of, word_stream, group_count};
 
 use crate::array_chunks::next_chunk_padded;
+use crate::hints::{bytes_hint, words_hint};
 use crate::streams::RawDataSerializable;
 
 /// The bytes of rows of N values side by side: place j of an item is the next byte of the stream of
@@ -20,6 +21,8 @@ pub fn into_parallel_byte_streams<
     ensures all { (rows : List (List F)) → YieldsExactly I.next_gives input rows → AllOfLength N rows
         → (items : List (List ℕ)) × YieldsExactly ⟦<ParallelByteStreams<I, F, N> as Iterator>⟧.next_gives result items
         × AreParallel N (F.NUM_BYTES * length rows) (λ j. byte_stream F.bytes (column j rows)) items }
+    ensures drawn { DrawnFrom ⟦<ParallelByteStreams<I, F, N> as Iterator>⟧.next_gives I.next_gives result input (λ items rows.
+        AllOfLength N rows → AreParallel N (F.NUM_BYTES * length rows) (λ j. byte_stream F.bytes (column j rows)) items) }
 {
     ParallelByteStreams {
         source: input,
@@ -43,6 +46,8 @@ pub fn into_parallel_u32_streams<
     ensures all { (rows : List (List F)) → YieldsExactly I.next_gives input rows → AllOfLength N rows
         → (items : List (List ℕ)) × YieldsExactly ⟦<ParallelU32Streams<ParallelByteStreams<I, F, N>, N> as Iterator>⟧.next_gives result items
         × AreParallel N (group_count 4 (F.NUM_BYTES * length rows)) (λ j. word_stream 4 (byte_stream F.bytes (column j rows))) items }
+    ensures drawn { DrawnFrom ⟦<ParallelU32Streams<ParallelByteStreams<I, F, N>, N> as Iterator>⟧.next_gives I.next_gives result input (λ items rows.
+        AllOfLength N rows → AreParallel N (group_count 4 (F.NUM_BYTES * length rows)) (λ j. word_stream 4 (byte_stream F.bytes (column j rows))) items) }
 {
     ParallelU32Streams {
         source: into_parallel_byte_streams(input),
@@ -65,6 +70,8 @@ pub fn into_parallel_u64_streams<
     ensures all { (rows : List (List F)) → YieldsExactly I.next_gives input rows → AllOfLength N rows
         → (items : List (List ℕ)) × YieldsExactly ⟦<ParallelU64Streams<ParallelByteStreams<I, F, N>, N> as Iterator>⟧.next_gives result items
         × AreParallel N (group_count 8 (F.NUM_BYTES * length rows)) (λ j. word_stream 8 (byte_stream F.bytes (column j rows))) items }
+    ensures drawn { DrawnFrom ⟦<ParallelU64Streams<ParallelByteStreams<I, F, N>, N> as Iterator>⟧.next_gives I.next_gives result input (λ items rows.
+        AllOfLength N rows → AreParallel N (group_count 8 (F.NUM_BYTES * length rows)) (λ j. word_stream 8 (byte_stream F.bytes (column j rows))) items) }
 {
     ParallelU64Streams {
         source: into_parallel_byte_streams(input),
@@ -82,8 +89,9 @@ pub struct ParallelByteStreams<I, F, const N: usize> {
 
 impl<F: RawDataSerializable + Copy, I: Iterator<Item = [F; N]>, const N: usize> Iterator
     for ParallelByteStreams<I, F, N> {
-    ghost use Rattle.std.specs.Prelude.{◌+◌};
-    ghost use Rattle.std.specs.Iterator.{count_map};
+    ghost use Rattle.std.specs.Prelude.{◌+◌, IfSome};
+    ghost use Rattle.std.specs.Iterator.{count_map, UpTo};
+    ghost use Rattle.std.specs.Iterator.SizeHint.{IsWithinCount};
     ghost use Rattle.p3_spaces.specs.Streams.{TakesFirst};
 
     type Item = [u8; N];
@@ -112,10 +120,33 @@ impl<F: RawDataSerializable + Copy, I: Iterator<Item = [F; N]>, const N: usize> 
         }
     }
 
-    /// No bounds are kept.
+    /// The bytes of the row in hand, and those of as many rows as the source's hint says.
     #[inline]
-    fn size_hint(&self) -> (usize, Option<usize>) {
-        (0, None)
+    fn size_hint(&self) -> (usize, Option<usize>)
+        ensures lower { IsWithinCount result.0 (count_map
+            (λ n. length (left_of (row_bytes F.bytes F.NUM_BYTES) self.now.row self.now.at) + F.NUM_BYTES * n)
+            (I.remaining self.now.source)) }
+        ensures upper { IfSome result.1 (UpTo (count_map
+            (λ n. length (left_of (row_bytes F.bytes F.NUM_BYTES) self.now.row self.now.at) + F.NUM_BYTES * n)
+            (I.remaining self.now.source))) }
+        ensures row { length (left_of (row_bytes F.bytes F.NUM_BYTES) self.now.row self.now.at) ≤ result.0 }
+    {
+        let left = left_in_row(&self.row, self.at);
+        bytes_hint((left, Some(left)), F::NUM_BYTES, self.source.size_hint())
+    }
+}
+
+/// How many bytes of each value of the row in hand are left from place `at` on. This project's own.
+#[inline]
+fn left_in_row<F: RawDataSerializable + Copy, const N: usize>(
+    row: &Option<[F; N]>,
+    at: usize,
+) -> usize
+    ensures { result ≡ length (left_of (row_bytes F.bytes F.NUM_BYTES) row.now at) }
+{
+    match row {
+        Some(_) => F::NUM_BYTES.saturating_sub(at),
+        None => 0,
     }
 }
 
@@ -126,8 +157,9 @@ fn next_of_row<F: RawDataSerializable + Copy, const N: usize>(
     row: &Option<[F; N]>,
     at: &mut usize,
 ) -> Option<[u8; N]>
-    ensures { MatchOption result (left_of (row_bytes F.bytes F.NUM_BYTES) row.now at.old ≡ [])
+    ensures next { MatchOption result (left_of (row_bytes F.bytes F.NUM_BYTES) row.now at.old ≡ [])
         (λ bytes. left_of (row_bytes F.bytes F.NUM_BYTES) row.now at.old ≡ bytes ∷ left_of (row_bytes F.bytes F.NUM_BYTES) row.now at.new) }
+    ensures stays { IfNone result (at.new ≡ at.old) }
 {
     let Some(values) = row else {
         return None;
@@ -161,10 +193,11 @@ pub struct ParallelU32Streams<I, const N: usize> {
 }
 
 impl<I: Iterator<Item = [u8; N]>, const N: usize> Iterator for ParallelU32Streams<I, N> {
-    ghost use Rattle.std.specs.Prelude.{replicate};
+    ghost use Rattle.std.specs.Prelude.{replicate, Some, true, IfSome};
     ghost use Rattle.std.specs.Bool.{MatchBool};
-    ghost use Rattle.std.specs.Iterator.{count_unless};
-    ghost use Rattle.p3_spaces.specs.Streams.{GathersGroup, ReadsGroup, row_words};
+    ghost use Rattle.std.specs.Iterator.{count_map, count_unless, UpTo};
+    ghost use Rattle.std.specs.Iterator.SizeHint.{IsWithinCount};
+    ghost use Rattle.p3_spaces.specs.Streams.{GathersGroup, group_count, ReadsGroup, row_words};
 
     type Item = [u32; N];
 
@@ -172,7 +205,7 @@ impl<I: Iterator<Item = [u8; N]>, const N: usize> Iterator for ParallelU32Stream
 
     ghost next_gives = { ReadsGroup (row_words N) (λ s r t. GathersGroup I.next_gives 4 (replicate N 0) s.is_over s.source r t.is_over t.source) };
 
-    ghost remaining = { λ s. count_unless s.is_over (I.remaining s.source) };
+    ghost remaining = { λ s. count_unless s.is_over (count_map (group_count 4) (I.remaining s.source)) };
 
     #[inline]
     fn next(&mut self) -> Option<[u32; N]> {
@@ -191,14 +224,14 @@ impl<I: Iterator<Item = [u8; N]>, const N: usize> Iterator for ParallelU32Stream
         Some(words)
     }
 
-    /// No more words come than bytes.
+    /// The groups of 4 bytes of the source's hint, and nothing once the source has ended.
     #[inline]
-    fn size_hint(&self) -> (usize, Option<usize>) {
-        if self.is_over {
-            (0, Some(0))
-        } else {
-            (0, self.source.size_hint().1)
-        }
+    fn size_hint(&self) -> (usize, Option<usize>)
+        ensures lower { IsWithinCount result.0 (count_unless self.now.is_over (count_map (group_count 4) (I.remaining self.now.source))) }
+        ensures upper { IfSome result.1 (UpTo (count_unless self.now.is_over (count_map (group_count 4) (I.remaining self.now.source)))) }
+        ensures over { self.now.is_over ≡ true → result ≡ (0, Some 0) }
+    {
+        words_hint(self.is_over, 4, self.source.size_hint())
     }
 }
 
@@ -210,10 +243,11 @@ pub struct ParallelU64Streams<I, const N: usize> {
 }
 
 impl<I: Iterator<Item = [u8; N]>, const N: usize> Iterator for ParallelU64Streams<I, N> {
-    ghost use Rattle.std.specs.Prelude.{replicate};
+    ghost use Rattle.std.specs.Prelude.{replicate, Some, true, IfSome};
     ghost use Rattle.std.specs.Bool.{MatchBool};
-    ghost use Rattle.std.specs.Iterator.{count_unless};
-    ghost use Rattle.p3_spaces.specs.Streams.{GathersGroup, ReadsGroup, row_words};
+    ghost use Rattle.std.specs.Iterator.{count_map, count_unless, UpTo};
+    ghost use Rattle.std.specs.Iterator.SizeHint.{IsWithinCount};
+    ghost use Rattle.p3_spaces.specs.Streams.{GathersGroup, group_count, ReadsGroup, row_words};
 
     type Item = [u64; N];
 
@@ -221,7 +255,7 @@ impl<I: Iterator<Item = [u8; N]>, const N: usize> Iterator for ParallelU64Stream
 
     ghost next_gives = { ReadsGroup (row_words N) (λ s r t. GathersGroup I.next_gives 8 (replicate N 0) s.is_over s.source r t.is_over t.source) };
 
-    ghost remaining = { λ s. count_unless s.is_over (I.remaining s.source) };
+    ghost remaining = { λ s. count_unless s.is_over (count_map (group_count 8) (I.remaining s.source)) };
 
     #[inline]
     fn next(&mut self) -> Option<[u64; N]> {
@@ -240,14 +274,14 @@ impl<I: Iterator<Item = [u8; N]>, const N: usize> Iterator for ParallelU64Stream
         Some(words)
     }
 
-    /// No more words come than bytes.
+    /// The groups of 8 bytes of the source's hint, and nothing once the source has ended.
     #[inline]
-    fn size_hint(&self) -> (usize, Option<usize>) {
-        if self.is_over {
-            (0, Some(0))
-        } else {
-            (0, self.source.size_hint().1)
-        }
+    fn size_hint(&self) -> (usize, Option<usize>)
+        ensures lower { IsWithinCount result.0 (count_unless self.now.is_over (count_map (group_count 8) (I.remaining self.now.source))) }
+        ensures upper { IfSome result.1 (UpTo (count_unless self.now.is_over (count_map (group_count 8) (I.remaining self.now.source)))) }
+        ensures over { self.now.is_over ≡ true → result ≡ (0, Some 0) }
+    {
+        words_hint(self.is_over, 8, self.source.size_hint())
     }
 }
 

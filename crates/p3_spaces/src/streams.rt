@@ -2,9 +2,10 @@ ghost use Rattle.std.specs.Prelude.{◌≡◌, ◌<◌, ◌*◌, ℕ, List, leng
 ghost use Rattle.std.specs.Option.{ForSome};
 ghost use Rattle.std.specs.Iterator.Adapters.{inner_items_left};
 ghost use Rattle.std.specs.Iterator.{IsFinite, UpTo, size};
-ghost use Rattle.p3_spaces.specs.Streams.{YieldsExactly, byte_stream, word_stream, InHand};
+ghost use Rattle.p3_spaces.specs.Streams.{YieldsExactly, DrawnFrom, byte_stream, word_stream, InHand};
 
 use crate::array_chunks::next_chunk_padded;
+use crate::hints::{bytes_hint, held_hint, words_hint};
 
 /// A value that is written as a fixed number of bytes, for hashing. Upstream's
 /// `RawDataSerializable`.
@@ -45,6 +46,7 @@ pub trait RawDataSerializable: Sized {
         ensures count { UpTo (⟦<ByteStream<I, Self::Bytes> as Iterator>⟧.remaining result) (NUM_BYTES * size (I.remaining input)) }
         ensures all { (xs : List Self) → YieldsExactly I.next_gives input xs
             → YieldsExactly ⟦<ByteStream<I, Self::Bytes> as Iterator>⟧.next_gives result (byte_stream bytes xs) }
+        ensures drawn { DrawnFrom ⟦<ByteStream<I, Self::Bytes> as Iterator>⟧.next_gives I.next_gives result input (λ bs xs. bs ≡ byte_stream bytes xs) }
     {
         ByteStream {
             source: input,
@@ -64,6 +66,8 @@ pub trait RawDataSerializable: Sized {
         ensures ends { IsFinite (⟦<U32Stream<ByteStream<I, Self::Bytes>> as Iterator>⟧.remaining result) }
         ensures all { (xs : List Self) → YieldsExactly I.next_gives input xs
             → YieldsExactly ⟦<U32Stream<ByteStream<I, Self::Bytes>> as Iterator>⟧.next_gives result (word_stream 4 (byte_stream bytes xs)) }
+        ensures drawn { DrawnFrom ⟦<U32Stream<ByteStream<I, Self::Bytes>> as Iterator>⟧.next_gives I.next_gives result input
+            (λ words xs. words ≡ word_stream 4 (byte_stream bytes xs)) }
     {
         U32Stream {
             source: Self::into_byte_stream(input),
@@ -83,6 +87,8 @@ pub trait RawDataSerializable: Sized {
         ensures ends { IsFinite (⟦<U64Stream<ByteStream<I, Self::Bytes>> as Iterator>⟧.remaining result) }
         ensures all { (xs : List Self) → YieldsExactly I.next_gives input xs
             → YieldsExactly ⟦<U64Stream<ByteStream<I, Self::Bytes>> as Iterator>⟧.next_gives result (word_stream 8 (byte_stream bytes xs)) }
+        ensures drawn { DrawnFrom ⟦<U64Stream<ByteStream<I, Self::Bytes>> as Iterator>⟧.next_gives I.next_gives result input
+            (λ words xs. words ≡ word_stream 8 (byte_stream bytes xs)) }
     {
         U64Stream {
             source: Self::into_byte_stream(input),
@@ -126,10 +132,14 @@ impl<F: RawDataSerializable, I: Iterator<Item = F>> Iterator for ByteStream<I, F
         }
     }
 
-    /// No bounds are kept.
+    /// The bytes of the reader in hand, and those of as many elements as the source's hint says.
     #[inline]
     fn size_hint(&self) -> (usize, Option<usize>) {
-        (0, None)
+        bytes_hint(
+            held_hint(&self.reader),
+            F::NUM_BYTES,
+            self.source.size_hint(),
+        )
     }
 }
 
@@ -141,9 +151,11 @@ pub struct U32Stream<I> {
 }
 
 impl<I: Iterator<Item = u8>> Iterator for U32Stream<I> {
+    ghost use Rattle.std.specs.Prelude.{Some, true, IfSome};
     ghost use Rattle.std.specs.Bool.{MatchBool};
-    ghost use Rattle.std.specs.Iterator.{count_unless};
-    ghost use Rattle.p3_spaces.specs.Streams.{GathersGroup, ReadsGroup, little_endian};
+    ghost use Rattle.std.specs.Iterator.{count_map, count_unless, UpTo};
+    ghost use Rattle.std.specs.Iterator.SizeHint.{IsWithinCount};
+    ghost use Rattle.p3_spaces.specs.Streams.{GathersGroup, group_count, ReadsGroup, little_endian};
 
     type Item = u32;
 
@@ -151,7 +163,7 @@ impl<I: Iterator<Item = u8>> Iterator for U32Stream<I> {
 
     ghost next_gives = { ReadsGroup little_endian (λ s r t. GathersGroup I.next_gives 4 0 s.is_over s.source r t.is_over t.source) };
 
-    ghost remaining = { λ s. count_unless s.is_over (I.remaining s.source) };
+    ghost remaining = { λ s. count_unless s.is_over (count_map (group_count 4) (I.remaining s.source)) };
 
     #[inline]
     fn next(&mut self) -> Option<u32> {
@@ -161,14 +173,14 @@ impl<I: Iterator<Item = u8>> Iterator for U32Stream<I> {
         }
     }
 
-    /// No more words come than bytes.
+    /// The groups of 4 bytes of the source's hint, and nothing once the source has ended.
     #[inline]
-    fn size_hint(&self) -> (usize, Option<usize>) {
-        if self.is_over {
-            (0, Some(0))
-        } else {
-            (0, self.source.size_hint().1)
-        }
+    fn size_hint(&self) -> (usize, Option<usize>)
+        ensures lower { IsWithinCount result.0 (count_unless self.now.is_over (count_map (group_count 4) (I.remaining self.now.source))) }
+        ensures upper { IfSome result.1 (UpTo (count_unless self.now.is_over (count_map (group_count 4) (I.remaining self.now.source)))) }
+        ensures over { self.now.is_over ≡ true → result ≡ (0, Some 0) }
+    {
+        words_hint(self.is_over, 4, self.source.size_hint())
     }
 }
 
@@ -180,9 +192,11 @@ pub struct U64Stream<I> {
 }
 
 impl<I: Iterator<Item = u8>> Iterator for U64Stream<I> {
+    ghost use Rattle.std.specs.Prelude.{Some, true, IfSome};
     ghost use Rattle.std.specs.Bool.{MatchBool};
-    ghost use Rattle.std.specs.Iterator.{count_unless};
-    ghost use Rattle.p3_spaces.specs.Streams.{GathersGroup, ReadsGroup, little_endian};
+    ghost use Rattle.std.specs.Iterator.{count_map, count_unless, UpTo};
+    ghost use Rattle.std.specs.Iterator.SizeHint.{IsWithinCount};
+    ghost use Rattle.p3_spaces.specs.Streams.{GathersGroup, group_count, ReadsGroup, little_endian};
 
     type Item = u64;
 
@@ -190,7 +204,7 @@ impl<I: Iterator<Item = u8>> Iterator for U64Stream<I> {
 
     ghost next_gives = { ReadsGroup little_endian (λ s r t. GathersGroup I.next_gives 8 0 s.is_over s.source r t.is_over t.source) };
 
-    ghost remaining = { λ s. count_unless s.is_over (I.remaining s.source) };
+    ghost remaining = { λ s. count_unless s.is_over (count_map (group_count 8) (I.remaining s.source)) };
 
     #[inline]
     fn next(&mut self) -> Option<u64> {
@@ -200,14 +214,14 @@ impl<I: Iterator<Item = u8>> Iterator for U64Stream<I> {
         }
     }
 
-    /// No more words come than bytes.
+    /// The groups of 8 bytes of the source's hint, and nothing once the source has ended.
     #[inline]
-    fn size_hint(&self) -> (usize, Option<usize>) {
-        if self.is_over {
-            (0, Some(0))
-        } else {
-            (0, self.source.size_hint().1)
-        }
+    fn size_hint(&self) -> (usize, Option<usize>)
+        ensures lower { IsWithinCount result.0 (count_unless self.now.is_over (count_map (group_count 8) (I.remaining self.now.source))) }
+        ensures upper { IfSome result.1 (UpTo (count_unless self.now.is_over (count_map (group_count 8) (I.remaining self.now.source)))) }
+        ensures over { self.now.is_over ≡ true → result ≡ (0, Some 0) }
+    {
+        words_hint(self.is_over, 8, self.source.size_hint())
     }
 }
 

@@ -3,11 +3,11 @@ use Rattle.p3_spaces.specs.Streams.{row_bytes, left_of}
 use Rattle.p3_spaces.specs.ParallelStreams.{left_at, left_past}
 use Rattle.p3_spaces.proofs.parallel_streams.next_of_row.Goals as goal
 
-pub returns-then-at-NUM_BYTES : goal.returns-then-at-NUM_BYTES
-returns-then-at-NUM_BYTES g c = rw c.in-Some.is (left_past g.F.RawDataSerializable.NUM_BYTES _ c.args.at.now (omega (arith, c.if-at-NUM_BYTES.true, c.NUM_BYTES.ensures)))
+pub returns-then-at-NUM_BYTES-clause-next : goal.returns-then-at-NUM_BYTES-clause-next
+returns-then-at-NUM_BYTES-clause-next g c = rw c.in-Some.is (left_past g.F.RawDataSerializable.NUM_BYTES _ c.args.at.now (omega (arith, c.if-at-NUM_BYTES.true, c.NUM_BYTES.ensures)))
 
-pub returns : goal.returns
-returns g c =
+pub returns-clause-next : goal.returns-clause-next
+returns-clause-next g c =
     let f = g.F.RawDataSerializable in
     let parts = row_bytes f.bytes f.NUM_BYTES in
     let at = c.args.at.now in

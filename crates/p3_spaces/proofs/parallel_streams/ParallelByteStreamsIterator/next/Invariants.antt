@@ -1,7 +1,7 @@
-use Rattle.std.proofs.Common.{◌≤◌, ◌+◌, ◌*◌, length}
+use Rattle.std.proofs.Common.{◌≡◌, ◌≤◌, ◌+◌, ◌*◌, length}
 use Rattle.std.specs.Iterator.{IsFinite, size}
 use Rattle.p3_spaces.specs.Streams.{row_bytes, left_of}
-use Rattle.p3_spaces.specs.ParallelStreams.{KeepsFirst}
+use Rattle.p3_spaces.specs.DrawnItems.{HasDrawn}
 use Rattle.p3_spaces.proofs.parallel_streams.ParallelByteStreamsIterator.next.Given as goal
 
 abbrev pub invariant-loop-bytes : goal.invariant-loop-bytes
@@ -15,7 +15,7 @@ invariant-loop-bytes g l =
       ready : source.can_next l.self.source;
       finite : IsFinite (source.remaining l.self.source);
       nearer : length held + f.NUM_BYTES * size (source.remaining l.self.source) ≤ length old + f.NUM_BYTES * size (source.remaining l.initial.self.source);
-      keeps : KeepsFirst source.next_gives parts l.initial.self.source old l.self.source held;
+      drawn : HasDrawn source.next_gives parts l.initial.self.source old l.self.source (λ rest. held ≡ rest);
     }
 
 abbrev pub decreases-loop-bytes : goal.decreases-loop-bytes

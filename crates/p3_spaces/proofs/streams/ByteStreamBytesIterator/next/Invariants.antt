@@ -1,8 +1,9 @@
-use Rattle.std.proofs.Common.{◌≤◌, ◌+◌, ◌*◌}
+use Rattle.std.proofs.Common.{◌≤◌, ◌+◌, ◌*◌, ℕ, List}
 use Rattle.std.specs.Iterator.{IsFinite, size}
 use Rattle.std.specs.Option.{ForSome}
 use Rattle.std.specs.Iterator.Adapters.{inner_items_left}
-use Rattle.p3_spaces.specs.StreamLemmas.{KeepsToCome}
+use Rattle.p3_spaces.specs.Streams.{HoldsBytes}
+use Rattle.p3_spaces.specs.DrawnItems.{HasDrawn}
 use Rattle.p3_spaces.proofs.streams.ByteStreamBytesIterator.next.Given as goal
 
 abbrev pub invariant-loop-byte : goal.invariant-loop-byte
@@ -16,7 +17,8 @@ invariant-loop-byte g l =
       held : ForSome l.self.reader (λ j. reader.can_next j × IsFinite (reader.remaining j));
       nearer : inner_items_left reader.remaining l.self.reader + bytes.NUM_BYTES * size (source.remaining l.self.source)
           ≤ inner_items_left reader.remaining l.initial.self.reader + bytes.NUM_BYTES * size (source.remaining l.initial.self.source);
-      keeps : KeepsToCome source.next_gives reader.next_gives bytes.bytes l.initial.self.source l.initial.self.reader l.self.source l.self.reader;
+      drawn : (bs : List ℕ) → HoldsBytes reader.next_gives l.initial.self.reader bs
+          → HasDrawn source.next_gives bytes.bytes l.initial.self.source bs l.self.source (HoldsBytes reader.next_gives l.self.reader);
     }
 
 abbrev pub decreases-loop-byte : goal.decreases-loop-byte

@@ -1,6 +1,7 @@
-use Rattle.std.proofs.Common.{arith, refl}
-use Rattle.p3_spaces.specs.Streams.{byte_stream, little_endian}
+use Rattle.std.proofs.Common.{arith, refl, ap}
+use Rattle.p3_spaces.specs.Streams.{byte_stream, word_stream, little_endian}
 use Rattle.p3_spaces.specs.StreamLemmas.{YieldsExactly-groups, YieldsExactly-read}
+use Rattle.p3_spaces.specs.DrawnItems.{DrawnFrom-groups}
 use Rattle.p3_spaces.proofs.streams.RawDataSerializable.into_u64_stream.Goals as goal
 
 pub returns-clause-all : goal.returns-clause-all
@@ -8,3 +9,6 @@ returns-clause-all g c = λ xs y.
     YieldsExactly-read little_endian _ _ (λ s. s) (λ s t r h. h) _ _
     (YieldsExactly-groups _ _ 8 0 (λ s. s.is_over) (λ s. s.source) (λ s t r h. h) (byte_stream g.Self.RawDataSerializable.bytes xs) _ (omega arith) refl
     (c.into_byte_stream.ensures.all xs y))
+
+pub returns-clause-drawn : goal.returns-clause-drawn
+returns-clause-drawn g c = DrawnFrom-groups little_endian 8 0 (λ s. s.is_over) (λ s. s.source) (λ s t r h. h) (omega arith) refl (λ bs xs e. ap (word_stream 8) e) c.into_byte_stream.ensures.drawn
