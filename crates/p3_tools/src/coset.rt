@@ -34,11 +34,12 @@ impl<F: TwoAdicField> Clone for TwoAdicMultiplicativeCoset<F> {
 impl<F: TwoAdicField> Copy for TwoAdicMultiplicativeCoset<F> {}
 
 impl<F: TwoAdicField> TwoAdicMultiplicativeCoset<F> {
-    ghost use Rattle.std.specs.Prelude.{◌≡◌, ◌<◌, ◌-◌, ◌*◌, ◌%◌, ◌^◌, ◌↔◌, IsTrue, IsSome, IfSome, Contains, get_or};
+    ghost use Rattle.std.specs.Prelude.{◌≡◌, ◌<◌, ◌-◌, ◌*◌, ◌%◌, ◌^◌, ◌↔◌, ℕ, IsTrue, IsSome, IfSome, Contains, get_or};
     ghost use Rattle.p3_theory.specs.Rings.Ring.{Invertible};
     ghost use Rattle.p3_theory.specs.Rings.Powers.{power};
     ghost use Rattle.p3_theory.specs.Rings.ZeroDivisors.{HasNoZeroDivisors};
     ghost use Rattle.p3_ring.specs.BoundedSequence.{terms};
+    ghost use Rattle.p3_theory.specs.Rings.GeometricSequence.{geometric_sequence};
     ghost use Rattle.p3_theory.specs.Roots.Cosets.{coset};
 
     /// The coset of the shift and the size `2^log_size`, and `None` where the shift has no inverse
@@ -239,18 +240,29 @@ impl<F: TwoAdicField> TwoAdicMultiplicativeCoset<F> {
         self.items()
     }
 
-    /// The items in order. A log size of 64 or more has more items than a count has room for: then
-    /// they end early.
+    /// How many items are yielded: all of them, or as many as a count has room for.
     #[inline]
-    fn items(&self) -> BoundedPowers<F>
-        ensures { self.now.log_size < 64
-            → terms F.ops result ≡ coset F.ops F.two_adic self.now.shift self.now.log_size }
+    fn item_count(&self) -> usize
+        ensures all { self.now.log_size < 64 → result ≡ 2 ^ self.now.log_size }
+        ensures greatest { 64 ≤ self.now.log_size → result ≡ 2 ^ 64 - 1 }
     {
-        let count = if self.log_size < 64 {
+        if self.log_size < 64 {
             self.size()
         } else {
             usize::MAX
-        };
+        }
+    }
+
+    /// The items in order. A log size of 64 or more has more items than a count has room for: then
+    /// they are the first 2^64 - 1.
+    #[inline]
+    fn items(&self) -> BoundedPowers<F>
+        ensures all { self.now.log_size < 64
+            → terms F.ops result ≡ coset F.ops F.two_adic self.now.shift self.now.log_size }
+        ensures first { (n : ℕ) → n ≡ 2 ^ 64 - 1 → 64 ≤ self.now.log_size
+            → terms F.ops result ≡ geometric_sequence F.ops (F.two_adic self.now.log_size) self.now.shift n }
+    {
+        let count = self.item_count();
         self.subgroup_generator()
             .shifted_powers(self.shift)
             .take(count)
@@ -258,18 +270,21 @@ impl<F: TwoAdicField> TwoAdicMultiplicativeCoset<F> {
 }
 
 impl<F: TwoAdicField> IntoIterator for TwoAdicMultiplicativeCoset<F> {
-    ghost use Rattle.std.specs.Prelude.{◌≡◌, ◌<◌};
+    ghost use Rattle.std.specs.Prelude.{◌≡◌, ◌<◌, ◌-◌, ◌^◌, ℕ};
     ghost use Rattle.p3_ring.specs.BoundedSequence.{terms};
+    ghost use Rattle.p3_theory.specs.Rings.GeometricSequence.{geometric_sequence};
     ghost use Rattle.p3_theory.specs.Roots.Cosets.{coset};
 
     type Item = F;
 
     type IntoIter = BoundedPowers<F>;
 
-    ghost into_iter_gives = { λ c r. c.log_size < 64
-        → terms F.ops r ≡ coset F.ops F.two_adic c.shift c.log_size };
+    ghost into_iter_gives = { λ c r. (c.log_size < 64
+        → terms F.ops r ≡ coset F.ops F.two_adic c.shift c.log_size)
+        × ((n : ℕ) → n ≡ 2 ^ 64 - 1 → 64 ≤ c.log_size
+        → terms F.ops r ≡ geometric_sequence F.ops (F.two_adic c.log_size) c.shift n) };
 
-    /// The items in order, where the log size is below 64.
+    /// The items in order, and the first 2^64 - 1 of them where the log size is 64 or more.
     #[inline]
     fn into_iter(self) -> BoundedPowers<F> {
         self.items()
@@ -277,18 +292,21 @@ impl<F: TwoAdicField> IntoIterator for TwoAdicMultiplicativeCoset<F> {
 }
 
 impl<F: TwoAdicField> IntoIterator for &TwoAdicMultiplicativeCoset<F> {
-    ghost use Rattle.std.specs.Prelude.{◌≡◌, ◌<◌};
+    ghost use Rattle.std.specs.Prelude.{◌≡◌, ◌<◌, ◌-◌, ◌^◌, ℕ};
     ghost use Rattle.p3_ring.specs.BoundedSequence.{terms};
+    ghost use Rattle.p3_theory.specs.Rings.GeometricSequence.{geometric_sequence};
     ghost use Rattle.p3_theory.specs.Roots.Cosets.{coset};
 
     type Item = F;
 
     type IntoIter = BoundedPowers<F>;
 
-    ghost into_iter_gives = { λ c r. c.now.log_size < 64
-        → terms F.ops r ≡ coset F.ops F.two_adic c.now.shift c.now.log_size };
+    ghost into_iter_gives = { λ c r. (c.now.log_size < 64
+        → terms F.ops r ≡ coset F.ops F.two_adic c.now.shift c.now.log_size)
+        × ((n : ℕ) → n ≡ 2 ^ 64 - 1 → 64 ≤ c.now.log_size
+        → terms F.ops r ≡ geometric_sequence F.ops (F.two_adic c.now.log_size) c.now.shift n) };
 
-    /// The items in order, where the log size is below 64.
+    /// The items in order, and the first 2^64 - 1 of them where the log size is 64 or more.
     #[inline]
     fn into_iter(self) -> BoundedPowers<F> {
         self.items()

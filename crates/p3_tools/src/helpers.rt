@@ -1,6 +1,6 @@
 //! Helpers on slices, arrays and words, and sums over iterators.
 
-ghost use Rattle.std.specs.Prelude.{◌≡◌, ◌+◌, ◌-◌, ◌*◌, ◌/◌, ◌%◌, ◌^◌, ◌<◌, ◌∷◌, length, map, replicate};
+ghost use Rattle.std.specs.Prelude.{◌≡◌, ◌-◌, ◌<◌, ◌∷◌, length, map, replicate};
 ghost use Rattle.std.specs.Iterator.{IsFinite, count_min};
 ghost use Rattle.p3_ring.specs.BoundedSequence.{terms};
 ghost use Rattle.p3_theory.specs.Rings.DotProduct.{dot};
@@ -87,35 +87,6 @@ pub fn field_to_array<R: PrimeCharacteristicRing, const D: usize>(x: R) -> [R; D
     let mut arr = [R::zero(); D];
     arr[0] = x;
     arr
-}
-
-/// Half of `x` rounded down, and `(P + 1) / 2` more where `x` is odd: the half of `x` modulo P,
-/// where P is odd and `x` is below P. Upstream's `halve_u32`.
-#[inline]
-#[must_use]
-pub fn halve_u32<const P: u32>(x: u32) -> u32
-    requires { P < 2 ^ 32 - 1 }
-    ensures value { result ≡ x / 2 + (x % 2) * ((P + 1) / 2) }
-    ensures half { P % 2 ≡ 1 → x < P → (result + result) % P ≡ x }
-    ensures canonical { P % 2 ≡ 1 → x < P → result < P }
-{
-    let shift: u32 = (P + 1) / 2;
-    let half = x / 2;
-    if x % 2 == 0 { half } else { half + shift }
-}
-
-/// The same on words of 64 bits. Upstream's `halve_u64`.
-#[inline]
-#[must_use]
-pub fn halve_u64<const P: u64>(x: u64) -> u64
-    requires { P < 2 ^ 64 - 1 }
-    ensures value { result ≡ x / 2 + (x % 2) * ((P + 1) / 2) }
-    ensures half { P % 2 ≡ 1 → x < P → (result + result) % P ≡ x }
-    ensures canonical { P % 2 ≡ 1 → x < P → result < P }
-{
-    let shift: u64 = (P + 1) / 2;
-    let half = x / 2;
-    if x % 2 == 0 { half } else { half + shift }
 }
 
 /// The sum of the products of the items at equal places, as far as the shorter of the iterators
