@@ -1,13 +1,13 @@
-ghost use Rattle.std.specs.Prelude.{◌≡◌, ◌≤◌, length, replicate, IsTrue, IsFalse};
+ghost use Rattle.std.specs.Prelude.{◌≡◌, ◌≤◌, length, map, replicate, IsTrue, IsFalse};
 ghost use Rattle.p3_theory.specs.Polynomials.Polynomial.{quotient_mul, quotient_add, binomial};
 ghost use Rattle.p3_theory.specs.Rings.Powers.{scale_powers};
 ghost use Rattle.p3_products.specs.FixedFormulas.{has_fixed_formula};
 
-pub use crate::binomial_products::{octic_mul, quartic_mul, quintic_mul};
 use crate::binomial_products::{
-    compute_coefficient, cubic_mul, cubic_square, octic_square, quadratic_mul, quadratic_square,
-    quartic_square, quintic_square,
+    compute_coefficient, cubic_mul, cubic_square, octic_product, octic_square, quadratic_mul,
+    quadratic_square, quartic_product, quartic_square, quintic_product, quintic_square,
 };
+use crate::vectors::embed_entries;
 use p3_ring::ring::{Algebra, PrimeCharacteristicRing};
 
 /// The product modulo `X^D - W` for any D, added to what `res` holds.
@@ -39,11 +39,10 @@ fn is_fixed(degree: usize) -> bool
     degree == 2 || degree == 3 || degree == 4 || degree == 5 || degree == 8
 }
 
-/// The product of two lists of D coefficients modulo `X^D - W`. At degrees 2, 3, 4, 5 and 8 `res`
-/// becomes the product, by a fixed formula; at every other degree the product is added to what
-/// `res` holds. Upstream's `binomial_mul`.
+/// The product of two lists of D coefficients of one algebra modulo `X^D - W`, as `binomial_mul`
+/// writes it.
 #[inline]
-pub fn binomial_mul<F: PrimeCharacteristicRing, A: Algebra<F>, const D: usize>(
+fn algebra_mul<F: PrimeCharacteristicRing, A: Algebra<F>, const D: usize>(
     a: &[A],
     b: &[A],
     res: &mut [A],
@@ -59,11 +58,86 @@ pub fn binomial_mul<F: PrimeCharacteristicRing, A: Algebra<F>, const D: usize>(
     match D {
         2 => quadratic_mul(a, b, res, w),
         3 => cubic_mul(a, b, res, w),
-        4 => quartic_mul(a, b, res, w),
-        5 => quintic_mul(a, b, res, w),
-        8 => octic_mul(a, b, res, w),
+        4 => quartic_product(a, b, res, w),
+        5 => quintic_product(a, b, res, w),
+        8 => octic_product(a, b, res, w),
         _ => general_mul::<F, A, D>(a, b, res, w),
     }
+}
+
+/// The product of two lists of D coefficients modulo `X^D - W`, the second ones embedded. At
+/// degrees 2, 3, 4, 5 and 8 `res` becomes the product, by a fixed formula; at every other degree
+/// the product is added to what `res` holds. Upstream's `binomial_mul`.
+#[inline]
+pub fn binomial_mul<F, R, R2, const D: usize>(a: &[R], b: &[R2], res: &mut [R], w: F)
+where
+    F: PrimeCharacteristicRing,
+    R2: PrimeCharacteristicRing,
+    R: Algebra<F> + Algebra<R2>,
+    requires degree { 1 ≤ D }
+    requires left { length a.now ≡ D }
+    requires right { length b.now ≡ D }
+    requires room { length res.old ≡ D }
+    ensures becomes { IsTrue (has_fixed_formula D) → res.new ≡ quotient_mul R.ops D (binomial R.ops D (⟦<R as Algebra<F>>⟧.embed w)) a.now (map ⟦<R as Algebra<R2>>⟧.embed b.now) }
+    ensures added { IsFalse (has_fixed_formula D) → res.new ≡ quotient_add R.ops D res.old (quotient_mul R.ops D (binomial R.ops D (⟦<R as Algebra<F>>⟧.embed w)) a.now (map ⟦<R as Algebra<R2>>⟧.embed b.now)) }
+{
+    let mut embedded = [R::zero(); D];
+    embed_entries(b, &mut embedded);
+    algebra_mul::<F, R, D>(a, &embedded, res, w);
+}
+
+/// The product of two lists of four coefficients modulo `X^4 - W`, the second ones embedded.
+/// Upstream's `quartic_mul`.
+#[inline]
+pub fn quartic_mul<F, R, R2>(a: &[R], b: &[R2], res: &mut [R], w: F)
+where
+    F: PrimeCharacteristicRing,
+    R2: PrimeCharacteristicRing,
+    R: Algebra<F> + Algebra<R2>,
+    requires left { length a.now ≡ 4 }
+    requires right { length b.now ≡ 4 }
+    requires room { length res.old ≡ 4 }
+    ensures { res.new ≡ quotient_mul R.ops 4 (binomial R.ops 4 (⟦<R as Algebra<F>>⟧.embed w)) a.now (map ⟦<R as Algebra<R2>>⟧.embed b.now) }
+{
+    let mut embedded = [R::zero(); 4];
+    embed_entries(b, &mut embedded);
+    quartic_product(a, &embedded, res, w);
+}
+
+/// The product of two lists of five coefficients modulo `X^5 - W`, the second ones embedded.
+/// Upstream's `quintic_mul`.
+#[inline]
+pub fn quintic_mul<F, R, R2>(a: &[R], b: &[R2], res: &mut [R], w: F)
+where
+    F: PrimeCharacteristicRing,
+    R2: PrimeCharacteristicRing,
+    R: Algebra<F> + Algebra<R2>,
+    requires left { length a.now ≡ 5 }
+    requires right { length b.now ≡ 5 }
+    requires room { length res.old ≡ 5 }
+    ensures { res.new ≡ quotient_mul R.ops 5 (binomial R.ops 5 (⟦<R as Algebra<F>>⟧.embed w)) a.now (map ⟦<R as Algebra<R2>>⟧.embed b.now) }
+{
+    let mut embedded = [R::zero(); 5];
+    embed_entries(b, &mut embedded);
+    quintic_product(a, &embedded, res, w);
+}
+
+/// The product of two lists of eight coefficients modulo `X^8 - W`, the second ones embedded.
+/// Upstream's `octic_mul`.
+#[inline]
+pub fn octic_mul<F, R, R2>(a: &[R], b: &[R2], res: &mut [R], w: F)
+where
+    F: PrimeCharacteristicRing,
+    R2: PrimeCharacteristicRing,
+    R: Algebra<F> + Algebra<R2>,
+    requires left { length a.now ≡ 8 }
+    requires right { length b.now ≡ 8 }
+    requires room { length res.old ≡ 8 }
+    ensures { res.new ≡ quotient_mul R.ops 8 (binomial R.ops 8 (⟦<R as Algebra<F>>⟧.embed w)) a.now (map ⟦<R as Algebra<R2>>⟧.embed b.now) }
+{
+    let mut embedded = [R::zero(); 8];
+    embed_entries(b, &mut embedded);
+    octic_product(a, &embedded, res, w);
 }
 
 /// The square of a list of D coefficients modulo `X^D - W`, in the place of `binomial_mul` with
@@ -116,10 +190,10 @@ pub fn binomial_product<F: PrimeCharacteristicRing, A: Algebra<F>, const D: usiz
     ensures { res.new ≡ quotient_mul A.ops D (binomial A.ops D (A.embed w)) a.now b.now }
 {
     if is_fixed(D) {
-        binomial_mul::<F, A, D>(a, b, res, w);
+        algebra_mul::<F, A, D>(a, b, res, w);
     } else {
         clear(res);
-        binomial_mul::<F, A, D>(a, b, res, w);
+        algebra_mul::<F, A, D>(a, b, res, w);
     }
 }
 

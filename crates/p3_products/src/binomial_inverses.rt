@@ -5,7 +5,7 @@ ghost use Rattle.p3_theory.specs.Inverses.EvenOdd.{interleave};
 ghost use Rattle.p3_theory.specs.Inverses.InversesByHalves.{less_shifted};
 ghost use Rattle.p3_theory.specs.Inverses.ListInverses.{HasNoInverse};
 
-use crate::binomial_products::{quadratic_mul, quartic_mul, quartic_square};
+use crate::binomial_products::{quadratic_mul, quartic_product, quartic_square};
 use p3_base::field::Field;
 use p3_ring::ring::PrimeCharacteristicRing;
 
@@ -173,8 +173,8 @@ pub fn octic_inv<F: Field>(a: &[F], res: &mut [F], w: F) -> bool
     }
     let mut even = [F::zero(); 4];
     let mut odd = [F::zero(); 4];
-    quartic_mul(&evens, &norm_inv, &mut even, w);
-    quartic_mul(&odds, &norm_inv, &mut odd, w);
+    quartic_product(&evens, &norm_inv, &mut even, w);
+    quartic_product(&odds, &norm_inv, &mut odd, w);
     write_conjugate(&even, &odd, res);
     true
 }

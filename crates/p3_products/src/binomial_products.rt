@@ -160,9 +160,14 @@ pub fn cubic_square<F: PrimeCharacteristicRing, A: Algebra<F>>(a: &[A], res: &mu
     res.copy_from_slice(&[c0, c1, c2]);
 }
 
-/// The product of two lists of four coefficients modulo `X^4 - W`. Upstream's `quartic_mul`.
+/// The product of two lists of four coefficients modulo `X^4 - W`.
 #[inline]
-pub fn quartic_mul<F: PrimeCharacteristicRing, A: Algebra<F>>(a: &[A], b: &[A], res: &mut [A], w: F)
+pub fn quartic_product<F: PrimeCharacteristicRing, A: Algebra<F>>(
+    a: &[A],
+    b: &[A],
+    res: &mut [A],
+    w: F,
+)
     requires left { length a.now ≡ 4 }
     requires right { length b.now ≡ 4 }
     requires room { length res.old ≡ 4 }
@@ -204,9 +209,14 @@ pub fn quartic_square<F: PrimeCharacteristicRing, A: Algebra<F>>(a: &[A], res: &
     res.copy_from_slice(&[c0, c1, c2, c3]);
 }
 
-/// The product of two lists of five coefficients modulo `X^5 - W`. Upstream's `quintic_mul`.
+/// The product of two lists of five coefficients modulo `X^5 - W`.
 #[inline]
-pub fn quintic_mul<F: PrimeCharacteristicRing, A: Algebra<F>>(a: &[A], b: &[A], res: &mut [A], w: F)
+pub fn quintic_product<F: PrimeCharacteristicRing, A: Algebra<F>>(
+    a: &[A],
+    b: &[A],
+    res: &mut [A],
+    w: F,
+)
     requires left { length a.now ≡ 5 }
     requires right { length b.now ≡ 5 }
     requires room { length res.old ≡ 5 }
@@ -253,9 +263,14 @@ pub fn quintic_square<F: PrimeCharacteristicRing, A: Algebra<F>>(a: &[A], res: &
     res.copy_from_slice(&[c0, c1, c2, c3, c4]);
 }
 
-/// The product of two lists of eight coefficients modulo `X^8 - W`. Upstream's `octic_mul`.
+/// The product of two lists of eight coefficients modulo `X^8 - W`.
 #[inline]
-pub fn octic_mul<F: PrimeCharacteristicRing, A: Algebra<F>>(a: &[A], b: &[A], res: &mut [A], w: F)
+pub fn octic_product<F: PrimeCharacteristicRing, A: Algebra<F>>(
+    a: &[A],
+    b: &[A],
+    res: &mut [A],
+    w: F,
+)
     requires left { length a.now ≡ 8 }
     requires right { length b.now ≡ 8 }
     requires room { length res.old ≡ 8 }

@@ -31,6 +31,18 @@ pub fn sub_entries<R: Algebra<R2>, R2: PrimeCharacteristicRing>(a: &[R], b: &[R2
     }
 }
 
+/// Writes the entries embedded.
+#[inline]
+pub fn embed_entries<R: Algebra<R2>, R2: PrimeCharacteristicRing>(b: &[R2], res: &mut [R])
+    requires { length res.old ≡ length b.now }
+    ensures { res.new ≡ map R.embed b.now }
+{
+    for i in 0..res.len() {
+        let entry = R::from(b[i]);
+        res[i] = entry;
+    }
+}
+
 /// Writes each entry times one factor.
 #[inline]
 pub fn scale_entries<R: PrimeCharacteristicRing>(a: &[R], factor: R, res: &mut [R])

@@ -38,9 +38,9 @@ returns-clause-inverse g c = λ _.
     let a7 = c.index-a-7.result in
     let items = items_are a (a0 ∷ a1 ∷ a2 ∷ a3 ∷ a4 ∷ a5 ∷ a6 ∷ a7 ∷ []) c.requires.input
     (c.index-a-0.is, (c.index-a-1.is, (c.index-a-2.is, (c.index-a-3.is, (c.index-a-4.is, (c.index-a-5.is, (c.index-a-6.is, (c.index-a-7.is, tt)))))))) in
-    let half : length c.quartic_mul.new.res ≡ 4 = search rules in
+    let half : length c.quartic_product.new.res ≡ 4 = search rules in
     octic_inverse (ring_of g.met.F.PrimeCharacteristicRing.ring) c.args.w a c.sub_shifted.new.res a0 a1 a2 a3 a4 a5 a6 a7 items
     c.quartic_square.new.res c.quartic_square-2.new.res c.quartic_square.ensures c.quartic_square-2.ensures c.sub_shifted.ensures
-    c.quartic_inv.new.res c.quartic_mul.new.res c.quartic_mul-2.new.res c.write_conjugate.new.res
-    (search rules) (c.quartic_inv.ensures.inverse c.if-not-quartic_inv.false) c.quartic_mul.ensures c.quartic_mul-2.ensures
-    (c.write_conjugate.ensures ∙ ap (λ n. interleave c.quartic_mul.new.res (quotient_neg o n c.quartic_mul-2.new.res)) half)
+    c.quartic_inv.new.res c.quartic_product.new.res c.quartic_product-2.new.res c.write_conjugate.new.res
+    (search rules) (c.quartic_inv.ensures.inverse c.if-not-quartic_inv.false) c.quartic_product.ensures c.quartic_product-2.ensures
+    (c.write_conjugate.ensures ∙ ap (λ n. interleave c.quartic_product.new.res (quotient_neg o n c.quartic_product-2.new.res)) half)

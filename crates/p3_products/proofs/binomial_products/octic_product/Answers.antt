@@ -4,7 +4,7 @@ use Rattle.p3_theory.specs.Lists.ListItems.{items_are}
 use Rattle.p3_theory.specs.RingSolver.Solver.{V, free}
 use Rattle.p3_theory.specs.RingSolver.Reify.{yes}
 use Rattle.p3_theory.specs.RingSolver.StraightLine.{reads_list, scaled_read, answer_read, formula, variables}
-use Rattle.p3_products.proofs.binomial_products.octic_mul.Goals as goal
+use Rattle.p3_products.proofs.binomial_products.octic_product.Goals as goal
 
 pub returns : goal.returns
 returns g c =
