@@ -13,3 +13,4 @@ pub mod ComplexValues
 pub mod ExtensionGenerators
 pub mod ComplexTowers
 pub mod Domains
+pub mod Shapes

@@ -7,6 +7,7 @@ ghost use Rattle.p3_theory.specs.Products.Trinomials.{cubic_trinomial, quintic_t
 ghost use Rattle.p3_theory.specs.FrobeniusMaps.FrobeniusTable.{frobenius_list, orbit_list, IsFrobeniusTable};
 ghost use Rattle.p3_theory.specs.FrobeniusMaps.Frobenius.{iterate};
 ghost use Rattle.p3_products.specs.Entries.{entrywise_difference};
+ghost use Rattle.p3_ext.specs.Shapes.{IsBinomial, IsCubicTrinomial, IsQuinticTrinomial};
 
 pub mod algebra;
 pub mod basis;
@@ -17,13 +18,13 @@ pub mod cubic_extension;
 mod defaults;
 pub mod display;
 pub mod ext_field;
+mod field_bounds;
 pub mod frobenius;
 mod has_frobenius;
 mod order;
 pub mod quintic_extension;
 mod streams;
 mod two_adic;
-mod vectors;
 
 pub use complex_binomial::HasComplexBinomialExtension;
 pub use complex_extension::{Complex, ComplexExtendable};
@@ -52,7 +53,10 @@ mod sealed {
 
 /// How products of an extension fold back: the polynomial that is zero there. Sealed, this
 /// project's own; upstream has a type for each shape.
-pub trait ExtensionShape: Copy + sealed::Sealed {}
+pub trait ExtensionShape: Copy + sealed::Sealed {
+    /// What it is for a polynomial over a ring to be of the shape at a degree.
+    ghost is_modulus: { (A : Type 0) → Ops A → ℕ → List A → Type 0 };
+}
 
 /// The shape `X^D = W`, for a base field F.
 #[derive(Clone, Copy, Debug, PartialEq, Eq, PartialOrd, Ord, Hash)]
@@ -60,7 +64,9 @@ pub struct Binomial<F>(PhantomData<F>);
 
 impl<F: Copy> sealed::Sealed for Binomial<F> {}
 
-impl<F: Copy> ExtensionShape for Binomial<F> {}
+impl<F: Copy> ExtensionShape for Binomial<F> {
+    ghost is_modulus = { λ A o D f. IsBinomial o D f };
+}
 
 /// The shape `X^3 = X + 1`.
 #[derive(Clone, Copy, Debug, PartialEq, Eq, PartialOrd, Ord, Hash)]
@@ -68,7 +74,9 @@ pub struct CubicTrinomial;
 
 impl sealed::Sealed for CubicTrinomial {}
 
-impl ExtensionShape for CubicTrinomial {}
+impl ExtensionShape for CubicTrinomial {
+    ghost is_modulus = { λ A o D f. IsCubicTrinomial o D f };
+}
 
 /// The shape `X^5 = 1 - X^2`.
 #[derive(Clone, Copy, Debug, PartialEq, Eq, PartialOrd, Ord, Hash)]
@@ -76,7 +84,9 @@ pub struct QuinticTrinomial;
 
 impl sealed::Sealed for QuinticTrinomial {}
 
-impl ExtensionShape for QuinticTrinomial {}
+impl ExtensionShape for QuinticTrinomial {
+    ghost is_modulus = { λ A o D f. IsQuinticTrinomial o D f };
+}
 
 /// An extension of F modulo `X^D - W`. Upstream's `BinomialExtensionField`.
 pub type BinomialExtensionField<F, const D: usize, A = F> = ExtField<F, D, Binomial<F>, A>;
@@ -119,11 +129,15 @@ pub trait ExtensionAlgebra<F: Copy, const D: usize, S: ExtensionShape>: PrimeCha
         Self::ext_product(a, b, res);
     }
 
-    /// The square of a list, where `res` is all zero before.
+    /// The square of a list, where `res` is all zero before. A type with a faster formula gives it.
+    #[inline]
     fn ext_square(a: &[Self], res: &mut [Self])
         requires left { length a.now ≡ D }
         requires zeroed { res.old ≡ replicate D Self.ops.zero }
-        ensures { res.new ≡ quotient_mul Self.ops D modulus a.now a.now };
+        ensures { res.new ≡ quotient_mul Self.ops D modulus a.now a.now }
+    {
+        Self::ext_product(a, a, res);
+    }
 
     /// The sum entry by entry.
     #[inline]
@@ -160,6 +174,9 @@ pub trait ExtensionAlgebra<F: Copy, const D: usize, S: ExtensionShape>: PrimeCha
     /// The degree is two or more.
     ghost at_least_two: { 2 ≤ D };
 
+    /// The polynomial is one of the shape.
+    ghost of_shape: { S.is_modulus Self Self.ops D modulus };
+
     /// The polynomial is monic, of degree D.
     ghost monic: { IsMonic Self.ops D modulus };
 
@@ -174,7 +191,7 @@ pub trait BinomiallyExtendable<const D: usize>: Field + ExtensionAlgebra<Self, D
 
     ghost dth_root: { Self };
 
-    /// The coefficients of the chosen element.
+    /// The coefficients of the generator candidate.
     ghost ext_generator: { ℕ → Self };
 
     /// The bytes of the name of the extension as an algebra.
@@ -193,7 +210,8 @@ pub trait BinomiallyExtendable<const D: usize>: Field + ExtensionAlgebra<Self, D
     fn dth_root() -> Self
         ensures { result ≡ dth_root };
 
-    /// The coefficient at `X^i` of a chosen element whose order has the full power of two.
+    /// The coefficient at `X^i` of a generator candidate, for i below D; no law says that it
+    /// generates.
     fn ext_generator(i: usize) -> Self
         requires { i < D }
         ensures { result ≡ ext_generator i };
@@ -211,7 +229,7 @@ pub trait CubicTrinomialExtendable: Field + ExtensionAlgebra<Self, 3, CubicTrino
     /// The image of X.
     ghost image: { List Self };
 
-    /// The coefficients of the chosen element.
+    /// The coefficients of the generator candidate.
     ghost ext_generator: { ℕ → Self };
 
     /// The entry in row i and column j of the map's matrix: the coefficient at `X^i` of power j of the
@@ -221,7 +239,7 @@ pub trait CubicTrinomialExtendable: Field + ExtensionAlgebra<Self, 3, CubicTrino
         requires column { j < 3 }
         ensures { result ≡ at Self.ops (power (quotient_ops Self.ops 3 Self.modulus) image j) i };
 
-    /// The coefficient at `X^i` of a chosen element.
+    /// The coefficient at `X^i` of a generator candidate; no law says that it generates.
     fn ext_generator(i: usize) -> Self
         requires { i < 3 }
         ensures { result ≡ ext_generator i };
@@ -239,7 +257,7 @@ pub trait QuinticTrinomialExtendable: Field + ExtensionAlgebra<Self, 5, QuinticT
     /// The image of X.
     ghost image: { List Self };
 
-    /// The coefficients of the chosen element.
+    /// The coefficients of the generator candidate.
     ghost ext_generator: { ℕ → Self };
 
     /// The coefficient at `X^k` of power i + 1 of the image of X. Upstream's `FROBENIUS_COEFFS`.
@@ -248,7 +266,7 @@ pub trait QuinticTrinomialExtendable: Field + ExtensionAlgebra<Self, 5, QuinticT
         requires place { k < 5 }
         ensures { result ≡ at Self.ops (power (quotient_ops Self.ops 5 Self.modulus) image (i + 1)) k };
 
-    /// The coefficient at `X^i` of a chosen element.
+    /// The coefficient at `X^i` of a generator candidate; no law says that it generates.
     fn ext_generator(i: usize) -> Self
         requires { i < 5 }
         ensures { result ≡ ext_generator i };
@@ -267,7 +285,7 @@ pub trait FrobeniusExtendable<const D: usize, S: ExtensionShape>: Field
     /// The image of X.
     ghost image: { List Self };
 
-    /// The coefficients of the chosen element of the extension.
+    /// The coefficients of the extension's generator candidate.
     ghost generator_coefficients: { ℕ → Self };
 
     /// The bytes of the name of the extension as an algebra.
@@ -323,7 +341,7 @@ pub trait FrobeniusExtendable<const D: usize, S: ExtensionShape>: Field
         InverseByFormula::NoFormula
     }
 
-    /// The coefficient at `X^i` of the chosen element, which `generator` of the extension answers.
+    /// The coefficient at `X^i` of the generator candidate, which `generator` of the extension answers.
     fn generator_coefficient(i: usize) -> Self
         requires { i < D }
         ensures { result ≡ generator_coefficients i };

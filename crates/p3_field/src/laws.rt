@@ -1,2 +1,6 @@
 //! Laws of the traits, as contracts for other crates to stand on.
 pub use p3_base::laws::fermat;
+pub use p3_ext::laws::{
+    bytes_are_of_coefficients, default_is_zero, hash_is_of_coefficients, orbit_product_is_norm,
+    order_is_lexicographic, product_is_remainder,
+};

@@ -13,7 +13,10 @@ pub use p3_ext::extension as extension;
 pub use p3_ext::subfield::HasSubfield;
 pub use p3_integers::dup::Dup;
 pub use p3_integers::integers as integers;
+pub use p3_ring::accumulate::{product_from, sum_from};
 pub use p3_ring::const_power::exp_const_u64;
+pub use p3_ring::exponentiation as exponentiation;
+pub use p3_ring::halves::{halve_u32, halve_u64};
 pub use p3_ring::linear_combination::{
     chunked_linear_combination, chunked_mixed_dot_product, dispatch_chunked_mixed_dot_product,
 };
@@ -24,18 +27,22 @@ pub use p3_ring::sums::sum_array;
 pub use p3_runs::steps as steps;
 pub use p3_spaces::basis::{AlgebraIdentity, BasedVectorSpace};
 pub use p3_spaces::columnwise::{
-    batched_columnwise_dot_product, generic_batched_columnwise_dot_product,
+    AsRow, batched_columnwise_dot_product, generic_batched_columnwise_dot_product,
 };
 pub use p3_spaces::extension_field::ExtensionField;
+pub use p3_spaces::field_bounds::{FieldBounds, PrimeFieldBounds};
+pub use p3_spaces::field_bytes::{PrimeField32Bytes, PrimeField64Bytes};
+pub use p3_spaces::in_memory::InMemory;
 pub use p3_spaces::monomials::{InjectiveMonomial, PermutationMonomial};
 pub use p3_spaces::parallel_streams::{
-    into_parallel_byte_streams, into_parallel_u32_streams, into_parallel_u64_streams,
+    ParallelByteStreams, ParallelU32Streams, ParallelU64Streams, into_parallel_byte_streams,
+    into_parallel_u32_streams, into_parallel_u64_streams,
 };
 pub use p3_spaces::sampling::UniformSamplingField;
 pub use p3_spaces::streams::{ByteStream, RawDataSerializable, U32Stream, U64Stream};
+pub use p3_tools::coset as coset;
 pub use p3_tools::helpers::{
     HornerIter, add_scaled_slice_in_place, cyclic_subgroup_coset_known_order,
-    cyclic_subgroup_known_order, dot_product, field_to_array, halve_u32, halve_u64,
-    par_add_scaled_slice_in_place, par_scale_slice_in_place, scale_slice_in_place_single_core,
+    cyclic_subgroup_known_order, dot_product, field_to_array, par_add_scaled_slice_in_place,
+    par_scale_slice_in_place, scale_slice_in_place_single_core,
 };
-pub use p3_tools::{coset as coset, exponentiation as exponentiation};

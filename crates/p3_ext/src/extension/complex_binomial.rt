@@ -18,7 +18,7 @@ pub trait HasComplexBinomialExtension<const D: usize>: ComplexExtendable {
 
     ghost dth_root: { ExtField Self 2 (Binomial Self) Self };
 
-    /// The coefficients of the chosen element.
+    /// The coefficients of the generator candidate.
     ghost ext_generator: { ℕ → ExtField Self 2 (Binomial Self) Self };
 
     /// The bytes of the name of the extension as an algebra.
@@ -37,7 +37,8 @@ pub trait HasComplexBinomialExtension<const D: usize>: ComplexExtendable {
     fn dth_root() -> Complex<Self>
         ensures { result ≡ dth_root };
 
-    /// The coefficient at `Y^i` of a chosen element whose order has the full power of two.
+    /// The coefficient at `Y^i` of a generator candidate, for i below D; no law says that it
+    /// generates.
     fn ext_generator(i: usize) -> Complex<Self>
         requires { i < D }
         ensures { result ≡ ext_generator i };
@@ -78,6 +79,7 @@ impl<F: HasComplexBinomialExtension<D>, const D: usize> ExtensionAlgebra<
     D,
     Binomial<Complex<F>>,
 > for Complex<F> {
+    ghost use Rattle.std.specs.Prelude.{refl};
     ghost use Rattle.std.proofs.Common.{arith};
     ghost use Rattle.p3_theory.specs.FrobeniusMaps.BinomialFrobenius.{binomial_is_monic};
 
@@ -90,6 +92,8 @@ impl<F: HasComplexBinomialExtension<D>, const D: usize> ExtensionAlgebra<
     }
 
     ghost at_least_two = { F.HasComplexBinomialExtension.at_least_two };
+
+    ghost of_shape = { (F.HasComplexBinomialExtension.w, refl) };
 
     ghost monic = { binomial_is_monic (complex_ops F.ops) D (omega (arith, F.HasComplexBinomialExtension.at_least_two)) F.HasComplexBinomialExtension.w };
 

@@ -19,8 +19,8 @@ pub trait ComplexExtendable: Field {
     ghost use Rattle.p3_ext.specs.declared.extension.ext_field.ExtField.{ExtField};
     ghost use Rattle.p3_ext.specs.declared.extension.Binomial.{Binomial};
 
-    /// The coefficients of the chosen element.
-    ghost complex_generator: { ℕ → Self };
+    /// The coefficients of the generator candidate.
+    ghost complex_generator_coefficient: { ℕ → Self };
 
     /// The elements that `circle_two_adic_generator` answers.
     ghost circle_two_adic: { ℕ → ExtField Self 2 (Binomial Self) Self };
@@ -30,11 +30,22 @@ pub trait ComplexExtendable: Field {
 
     ghost CIRCLE_TWO_ADICITY: { ℕ };
 
-    /// The coefficient at `X^i` of a chosen element of the extension, whose order has the full power
-    /// of two. Upstream's `COMPLEX_GENERATOR`.
-    fn complex_generator(i: usize) -> Self
+    /// The coefficient at `X^i` of the generator candidate that `complex_generator` answers. This
+    /// project's own.
+    fn complex_generator_coefficient(i: usize) -> Self
         requires { i < 2 }
-        ensures { result ≡ complex_generator i };
+        ensures { result ≡ complex_generator_coefficient i };
+
+    /// A chosen element of the extension, for a field one whose order has the full power of two. No
+    /// law says that it has. Upstream's `COMPLEX_GENERATOR`.
+    #[inline]
+    final fn complex_generator() -> Complex<Self>
+        ensures { result.value ≡ complex_generator_coefficient 0 ∷ complex_generator_coefficient 1 ∷ [] }
+    {
+        let real = Self::complex_generator_coefficient(0);
+        let imag = Self::complex_generator_coefficient(1);
+        Complex::<Self>::new([real, imag])
+    }
 
     /// A chosen element of the extension for so many bits, for a field one of order `2^bits` among the
     /// elements of norm one. No law says that it is.
@@ -58,6 +69,7 @@ impl<F: ComplexExtendable> ExtensionProduct<F, 2, Binomial<F>> for F {
 }
 
 impl<F: ComplexExtendable> ExtensionAlgebra<F, 2, Binomial<F>> for F {
+    ghost use Rattle.std.specs.Prelude.{refl};
     ghost use Rattle.std.proofs.Common.{lit≤};
     ghost use Rattle.p3_theory.specs.Polynomials.Polynomial.{binomial};
     ghost use Rattle.p3_theory.specs.FrobeniusMaps.BinomialFrobenius.{binomial_is_monic};
@@ -70,6 +82,8 @@ impl<F: ComplexExtendable> ExtensionAlgebra<F, 2, Binomial<F>> for F {
     }
 
     ghost at_least_two = { lit≤ tt };
+
+    ghost of_shape = { (F.ops.neg F.ops.one, refl) };
 
     ghost monic = { binomial_is_monic F.ops 2 (lit≤ tt) (F.ops.neg F.ops.one) };
 
@@ -85,7 +99,7 @@ impl<F: ComplexExtendable> BinomiallyExtendable<2> for F {
 
     ghost dth_root = { F.ops.neg F.ops.one };
 
-    ghost ext_generator = { F.ComplexExtendable.complex_generator };
+    ghost ext_generator = { F.complex_generator_coefficient };
 
     ghost binomial_algebra_id = { codes "p3-power-basis-v1:X^2+1" };
 
@@ -106,7 +120,7 @@ impl<F: ComplexExtendable> BinomiallyExtendable<2> for F {
 
     #[inline]
     fn ext_generator(i: usize) -> F {
-        F::complex_generator(i)
+        F::complex_generator_coefficient(i)
     }
 
     ghost by_w = { refl };
@@ -186,10 +200,7 @@ impl<F: Copy, A: PrimeCharacteristicRing> BinomialExtensionField<F, 2, A> {
 
     /// The argument, over an algebra, times the value, where the square of X is minus one.
     #[inline]
-    pub fn rotate<G: Copy, E: Algebra<A>>(
-        &self,
-        rhs: &BinomialExtensionField<G, 2, E>,
-    ) -> BinomialExtensionField<G, 2, E>
+    pub fn rotate<E: Algebra<A>>(&self, rhs: &Complex<E>) -> Complex<E>
         ensures { result.value ≡ rotated A.ops E.ops E.embed self.now.value rhs.now.value }
     {
         let real = self.real();
@@ -198,6 +209,6 @@ impl<F: Copy, A: PrimeCharacteristicRing> BinomialExtensionField<F, 2, A> {
         let inner = rhs.imag() * imag;
         let left = rhs.imag() * real;
         let right = rhs.real() * imag;
-        BinomialExtensionField::<G, 2, E>::new_complex(outer - inner, left + right)
+        Complex::<E>::new_complex(outer - inner, left + right)
     }
 }

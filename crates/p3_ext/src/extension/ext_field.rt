@@ -1,4 +1,4 @@
-ghost use Rattle.std.specs.Prelude.{◌≡◌, ◌<◌, ℕ, length, get_or};
+ghost use Rattle.std.specs.Prelude.{◌≡◌, ◌<◌, ℕ, length, get_or, map};
 ghost use Rattle.p3_theory.specs.Rings.Ring.{Ops};
 ghost use Rattle.p3_theory.specs.Polynomials.Polynomial.{embed};
 
@@ -44,6 +44,19 @@ impl<F: Copy, const D: usize, S: Copy, A: Copy> ExtField<F, D, S, A> {
             value,
             of: PhantomData,
         }
+    }
+
+    /// The values with these coefficient lists, one or more. Upstream's `new_array`.
+    #[inline]
+    pub fn new_array<const N: usize>(input: [[A; D]; N]) -> [Self; N]
+        requires { 0 < N }
+        ensures { map (λ x. x.value) result ≡ input }
+    {
+        let mut output = [Self::new(input[0]); N];
+        for i in 1..N {
+            output[i] = Self::new(input[i]);
+        }
+        output
     }
 }
 

@@ -1,7 +1,7 @@
 use Rattle.std.proofs.Common.{[], arith, rules}
 use Rattle.std.proofs.Math.ListN.{length-set}
 use Rattle.p3_theory.specs.Lists.ListItems.{images-more, images-all}
-use Rattle.p3_ext.proofs.extension.vectors.BinomialExtensionField+F+D.new_array.Goals as goal
+use Rattle.p3_ext.proofs.extension.ext_field.ExtField.new_array.Goals as goal
 
 pub loop-i-preserved : goal.loop-i-preserved
 loop-i-preserved g c = (

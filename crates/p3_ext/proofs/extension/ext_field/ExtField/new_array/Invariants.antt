@@ -1,6 +1,6 @@
 use Rattle.std.proofs.Common.{◌≡◌, [], length}
 use Rattle.p3_theory.specs.Lists.ListItems.{ImagesBelow}
-use Rattle.p3_ext.proofs.extension.vectors.BinomialExtensionField+F+D.new_array.Given as goal
+use Rattle.p3_ext.proofs.extension.ext_field.ExtField.new_array.Given as goal
 
 abbrev pub invariant-loop-i : goal.invariant-loop-i
 invariant-loop-i g l =
