@@ -1,10 +1,10 @@
-//! Extensions of `Fp` by `X^D = W`: from W, a root of unity and the chosen element to all laws.
+//! Extensions of `Fp` by `X^D = W`: from W, a root of unity and a generator candidate to all laws.
 ghost use Rattle.std.specs.Prelude.{◌≡◌, ◌<◌, ◌≤◌, ℕ, List, true, get_or};
 ghost use Rattle.p3_theory.specs.ResidueRings.RootsOfUnity.{is_root_of_unity};
 
 use crate::form::Form;
 use crate::fp::Fp;
-use p3_field::extension::{Binomial, BinomiallyExtendable, ExtensionAlgebra, ExtensionProduct};
+use p3_ext::extension::{Binomial, BinomiallyExtendable, ExtensionAlgebra, ExtensionProduct};
 use p3_products::binomial_extension::{ring_product, ring_square};
 
 /// The constants of the extension of `Fp` by `X^D = W`, as numbers, for the marker of a form. It
@@ -17,7 +17,7 @@ pub trait BinomialConstants<const D: usize>: Form<u32> {
     /// The inverses of the powers 1 to D - 1 of the root, each less one.
     ghost inverses: { List ℕ };
 
-    /// The coefficients of the chosen element, from X^0 upward.
+    /// The coefficients of the generator candidate, from X^0 upward.
     ghost ext_generator: { List ℕ };
 
     /// The bytes of the name of the extension as an algebra.
@@ -33,8 +33,8 @@ pub trait BinomialConstants<const D: usize>: Form<u32> {
     fn algebra_id() -> &'static str
         ensures { result.now ≡ algebra_id };
 
-    /// The coefficient at `X^i` of a chosen element whose order has the full power of two. Upstream's
-    /// `EXT_GENERATOR`.
+    /// The coefficient at `X^i` of a generator candidate, for i below D; no law says that it
+    /// generates. Upstream's `EXT_GENERATOR`.
     fn ext_generator(i: usize) -> u32
         requires { i < D }
         ensures { result ≡ get_or ext_generator i 0 };
@@ -62,6 +62,7 @@ impl<W: BinomialConstants<D>, const D: usize> ExtensionProduct<Fp<W>, D, Binomia
 
 impl<W: BinomialConstants<D>, const D: usize> ExtensionAlgebra<Fp<W>, D, Binomial<Fp<W>>>
     for Fp<W> {
+    ghost use Rattle.std.specs.Prelude.{refl};
     ghost use Rattle.std.proofs.Common.{arith};
     ghost use Rattle.p3_theory.specs.Polynomials.Polynomial.{binomial};
     ghost use Rattle.p3_theory.specs.FrobeniusMaps.BinomialFrobenius.{binomial_is_monic};
@@ -75,6 +76,8 @@ impl<W: BinomialConstants<D>, const D: usize> ExtensionAlgebra<Fp<W>, D, Binomia
     }
 
     ghost at_least_two = { W.at_least_two };
+
+    ghost of_shape = { (of W.Form W.W, refl) };
 
     ghost monic = { binomial_is_monic (ops W.Form) D (omega (arith, W.at_least_two)) (of W.Form W.W) };
 

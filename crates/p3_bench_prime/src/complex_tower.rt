@@ -13,10 +13,10 @@ ghost use Rattle.p3_bench_residues.specs.Halves.{two_has_inverse};
 use crate::extensions::{F31c, complex};
 use crate::form::{Form, Plain};
 use crate::small::{F31, M31};
-use p3_field::PrimeCharacteristicRing;
-use p3_field::extension::{
+use p3_ext::extension::{
     BinomialExtensionField, HasComplexBinomialExtension, HasTwoAdicComplexBinomialExtension,
 };
+use p3_ring::ring::PrimeCharacteristicRing;
 
 /// The extension of `F31c` by `Y^2 = 3 + 2 X`.
 pub type F31cx2 = BinomialExtensionField<F31c, 2>;

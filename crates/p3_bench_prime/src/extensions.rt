@@ -10,7 +10,7 @@ use crate::form::{Form, Plain, ShortForm};
 use crate::fp::Fp;
 use crate::small::{F2, F17, F17b, F31, M2, M15, M17, M17b, M31, Z15};
 use crate::trinomial_constants::TrinomialConstants;
-use p3_field::extension::{
+use p3_ext::extension::{
     BinomialExtensionField, ByteCountFits, Complex, ComplexExtendable, CubicTrinomial,
     CubicTrinomialExtensionField, NestedByteCountFits, QuinticTrinomial,
     QuinticTrinomialExtensionField,
@@ -424,7 +424,7 @@ impl ComplexExtendable for F31 {
     ghost use Rattle.p3_bench_prime.specs.Elements.{is};
     ghost use Rattle.p3_bench_residues.specs.Halves.{two_has_inverse};
 
-    ghost complex_generator = { λ i. of ⟦<Plain<M31> as Form<u32>>⟧ (get_or (3 ∷ 2 ∷ []) i 0) };
+    ghost complex_generator_coefficient = { λ i. of ⟦<Plain<M31> as Form<u32>>⟧ (get_or (3 ∷ 2 ∷ []) i 0) };
 
     ghost circle_two_adic = { λ bits. complex_of (of ⟦<Plain<M31> as Form<u32>>⟧) (get_or ((1 ∷ 0 ∷ []) ∷ (30 ∷ 0 ∷ []) ∷ (0 ∷ 30 ∷ []) ∷ (4 ∷ 27 ∷ []) ∷ (7 ∷ 13 ∷ []) ∷ (2 ∷ 11 ∷ []) ∷ []) bits []) };
 
@@ -433,7 +433,7 @@ impl ComplexExtendable for F31 {
     const CIRCLE_TWO_ADICITY: usize = 5;
 
     #[inline]
-    fn complex_generator(i: usize) -> Self {
+    fn complex_generator_coefficient(i: usize) -> Self {
         let coefficient = [3, 2][i];
         Self::new(coefficient)
     }

@@ -8,6 +8,7 @@ pub mod complex_tower;
 pub mod extensions;
 pub mod form;
 pub mod fp;
+mod fp_bounds;
 pub mod goldilocks;
 pub mod koala_bear;
 pub mod monomials;

@@ -9,7 +9,7 @@ ghost use Rattle.p3_theory.specs.Products.Trinomials.{cubic_trinomial, quintic_t
 
 use crate::form::Form;
 use crate::fp::Fp;
-use p3_field::extension::{
+use p3_ext::extension::{
     CubicTrinomial, CubicTrinomialExtendable, ExtensionAlgebra, ExtensionProduct, QuinticTrinomial,
     QuinticTrinomialExtendable, cubic_square, quintic_square, trinomial_cubic_mul,
     trinomial_quintic_mul,
@@ -42,7 +42,7 @@ pub trait TrinomialConstants<const D: usize, S: TrinomialShape<D>>: Form<u32> {
     /// What leads back from the image of a value less the value to its coefficients past place 0.
     ghost dual: { List (List ℕ) };
 
-    /// The coefficients of the chosen element, from X^0 upward.
+    /// The coefficients of the generator candidate, from X^0 upward.
     ghost ext_generator: { List ℕ };
 
     /// The coefficient at `X^k` of power j of the image of X.
@@ -51,7 +51,7 @@ pub trait TrinomialConstants<const D: usize, S: TrinomialShape<D>>: Form<u32> {
         requires place { k < D }
         ensures { result ≡ get_or (get_or powers j []) k 0 };
 
-    /// The coefficient at `X^i` of a chosen element.
+    /// The coefficient at `X^i` of a generator candidate; no law says that it generates.
     fn ext_generator(i: usize) -> u32
         requires { i < D }
         ensures { result ≡ get_or ext_generator i 0 };
@@ -77,6 +77,7 @@ impl<W: TrinomialConstants<3, CubicTrinomial>> ExtensionProduct<Fp<W>, 3, CubicT
 
 impl<W: TrinomialConstants<3, CubicTrinomial>> ExtensionAlgebra<Fp<W>, 3, CubicTrinomial>
     for Fp<W> {
+    ghost use Rattle.std.specs.Prelude.{refl};
     ghost use Rattle.std.proofs.Common.{lit≤};
     ghost use Rattle.p3_theory.specs.Products.Trinomials.{cubic_trinomial_is_monic};
     ghost use Rattle.p3_bench_prime.specs.Elements.{ops};
@@ -89,6 +90,8 @@ impl<W: TrinomialConstants<3, CubicTrinomial>> ExtensionAlgebra<Fp<W>, 3, CubicT
     }
 
     ghost at_least_two = { lit≤ tt };
+
+    ghost of_shape = { refl };
 
     ghost monic = { cubic_trinomial_is_monic (ops W.Form) };
 
@@ -136,6 +139,7 @@ impl<W: TrinomialConstants<5, QuinticTrinomial>> ExtensionProduct<Fp<W>, 5, Quin
 
 impl<W: TrinomialConstants<5, QuinticTrinomial>> ExtensionAlgebra<Fp<W>, 5, QuinticTrinomial>
     for Fp<W> {
+    ghost use Rattle.std.specs.Prelude.{refl};
     ghost use Rattle.std.proofs.Common.{lit≤};
     ghost use Rattle.p3_theory.specs.Products.Trinomials.{quintic_trinomial_is_monic};
     ghost use Rattle.p3_bench_prime.specs.Elements.{ops};
@@ -148,6 +152,8 @@ impl<W: TrinomialConstants<5, QuinticTrinomial>> ExtensionAlgebra<Fp<W>, 5, Quin
     }
 
     ghost at_least_two = { lit≤ tt };
+
+    ghost of_shape = { refl };
 
     ghost monic = { quintic_trinomial_is_monic (ops W.Form) };
 

@@ -10,7 +10,7 @@ ghost use Rattle.p3_ext.specs.Orders.{extension_size};
 use crate::binomial_constants::BinomialConstants;
 use crate::fp::Fp;
 use crate::trinomial_constants::{TrinomialConstants, TrinomialShape};
-use p3_field::extension::{
+use p3_ext::extension::{
     CubicTrinomial, HasTwoAdicBinomialExtension, HasTwoAdicCubicExtension,
     HasTwoAdicQuinticExtension, QuinticTrinomial,
 };

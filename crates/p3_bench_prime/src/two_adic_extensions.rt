@@ -5,7 +5,7 @@ ghost use Rattle.std.proofs.Common.{arith};
 use crate::form::Plain;
 use crate::small::{M2, M17, M31};
 use crate::two_adic_constants::{TwoAdicBinomialConstants, TwoAdicTrinomialConstants};
-use p3_field::extension::{CubicTrinomial, QuinticTrinomial};
+use p3_ext::extension::{CubicTrinomial, QuinticTrinomial};
 
 impl TwoAdicBinomialConstants<2> for Plain<M17> {
     ghost generator_table = { (1 ∷ 0 ∷ []) ∷ (16 ∷ 0 ∷ []) ∷ (13 ∷ 0 ∷ []) ∷ (9 ∷ 0 ∷ []) ∷ (3 ∷ 0 ∷ []) ∷ (0 ∷ 1 ∷ []) ∷ [] };
