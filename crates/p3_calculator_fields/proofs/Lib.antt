@@ -1,3 +1,4 @@
+pub mod PremiseLemmas
 pub mod RootSearches
 pub mod SetCoefficients
 pub mod TextLemmas

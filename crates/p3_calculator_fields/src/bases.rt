@@ -4,7 +4,7 @@ ghost use Rattle.std.specs.Prelude.{◌≡◌, ◌<◌};
 use crate::field::Base;
 use p3_bench_prime::form::Form;
 use p3_bench_prime::fp::Fp;
-use p3_field::integers::QuotientMap;
+use p3_integers::integers::QuotientMap;
 
 impl<W: Form<u32>> Base for Fp<W> {
     ghost use Rattle.p3_bench_prime.specs.Elements.{canon};

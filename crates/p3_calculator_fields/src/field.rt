@@ -6,8 +6,10 @@ ghost use Rattle.p3_calculator_fields.specs.Display.{display};
 ghost use Rattle.p3_calculator_fields.specs.Fields.{FieldSpec, PolynomialsModulo, order, dimension, value_count, generator_of};
 ghost use Rattle.p3_calculator_fields.specs.Representation.{IsBase, Represents, InverseOrNone, RootOrNone};
 
-use p3_field::extension::{ExtField, ExtensionShape, FrobeniusExtendable};
-use p3_field::{Field, PrimeCharacteristicRing, tonelli_shanks};
+use p3_base::field::Field;
+use p3_base::sqrt::tonelli_shanks;
+use p3_ext::extension::{ExtField, ExtensionShape, FrobeniusExtendable};
+use p3_ring::ring::PrimeCharacteristicRing;
 use std::alloc::{AllocError, Allocator};
 
 /// A field of the calculator: its values are known by their canonical coefficients. It has just
@@ -115,7 +117,7 @@ pub trait Named<const D: usize, S: ExtensionShape>: Base + FrobeniusExtendable<D
     /// The field by numbers.
     ghost spec: { FieldSpec };
 
-    /// The numbers are those of the order, of the polynomial and of the chosen element.
+    /// The numbers are those of the order, of the polynomial and of the generator candidate.
     ghost is_spec: { spec ≡ PolynomialsModulo Self.base_order D (map Self.canon Self.modulus) (map Self.canon (tabulate D Self.generator_coefficients)) };
 
     /// The order of the extension is below 2^128, so that it is given.

@@ -3,10 +3,13 @@ ghost use Rattle.std.specs.Prelude.{◌≡◌, Some};
 ghost use Rattle.p3_theory.specs.Rings.Powers.{power};
 ghost use Rattle.p3_theory.specs.Roots.SquareRoots.{FiniteFieldPremise};
 ghost use Rattle.p3_theory.specs.Rings.ZeroDivisors.{HasNoZeroDivisors};
+ghost use Rattle.p3_calculator_fields.specs.Names.{field_f2, field_f17, field_f31, field_f17x2, field_f31c};
+ghost use Rattle.p3_calculator_fields.specs.Premise.{MeetsPremise};
 
+use p3_base::field::{Field, TwoAdicField};
 use p3_bench_prime::extensions::{F17x2, F31c};
 use p3_bench_prime::small::{F2, F17, F31};
-use p3_field::{Field, PrimeCharacteristicRing, TwoAdicField};
+use p3_ring::ring::PrimeCharacteristicRing;
 
 /// A product in the prime field of order 17 is zero only where a factor is.
 pub fn domain_f17()
@@ -60,3 +63,43 @@ pub fn premise_f31c()
     ensures order { ⟦<F31c as Field>⟧.size ≡ Some 961 }
     ensures premise { FiniteFieldPremise ⟦<F31c as PrimeCharacteristicRing>⟧.ops 961 6 15 (power ⟦<F31c as PrimeCharacteristicRing>⟧.ops ⟦<F31c as Field>⟧.generator 15) }
 {}
+
+/// The numbers of `f2` as they stand meet the premise of a finite field, over coefficient lists. So a
+/// root that is missing there is a fault only where there is none.
+pub fn specification_f2_meets_the_premise()
+    ensures { MeetsPremise field_f2 }
+{
+    premise_f2();
+}
+
+/// The numbers of `f17` as they stand meet the premise of a finite field, over coefficient lists. So a
+/// root that is missing there is a fault only where there is none.
+pub fn specification_f17_meets_the_premise()
+    ensures { MeetsPremise field_f17 }
+{
+    premise_f17();
+}
+
+/// The numbers of `f31` as they stand meet the premise of a finite field, over coefficient lists. So a
+/// root that is missing there is a fault only where there is none.
+pub fn specification_f31_meets_the_premise()
+    ensures { MeetsPremise field_f31 }
+{
+    premise_f31();
+}
+
+/// The numbers of `f17x2` as they stand meet the premise of a finite field, over coefficient lists. So a
+/// root that is missing there is a fault only where there is none.
+pub fn specification_f17x2_meets_the_premise()
+    ensures { MeetsPremise field_f17x2 }
+{
+    premise_f17x2();
+}
+
+/// The numbers of `f31c` as they stand meet the premise of a finite field, over coefficient lists. So a
+/// root that is missing there is a fault only where there is none.
+pub fn specification_f31c_meets_the_premise()
+    ensures { MeetsPremise field_f31c }
+{
+    premise_f31c();
+}

@@ -6,6 +6,7 @@ pub mod bank;
 mod bases;
 pub mod field;
 pub mod laws;
-mod names;
+pub mod names;
 mod primes;
 pub mod registers;
+pub mod zeros;

@@ -1,90 +1,78 @@
 //! The extensions that have a name in the calculator: what each adds to its base is its numbers.
-ghost use Rattle.std.specs.Prelude.{◌≡◌, ◌<◌, ◌^◌, refl};
+ghost use Rattle.std.specs.Prelude.{◌≡◌, ◌<◌, ◌%◌, ◌^◌, get_or, refl};
 ghost use Rattle.std.proofs.Common.{lit<};
+ghost use Rattle.p3_theory.specs.Polynomials.Polynomial.{tabulate, binomial};
+ghost use Rattle.p3_theory.specs.ResidueRings.Residues.{residues};
 ghost use Rattle.p3_calculator_fields.specs.Bases.{residues_are_base};
+ghost use Rattle.p3_calculator_fields.specs.Fields.{FieldSpec, PolynomialsModulo};
 ghost use Rattle.p3_calculator_fields.specs.Names.{field_f17x2, field_f17x4, field_f17x8, field_f17bx2, field_z15x2, field_f31x3, field_f31x5, field_f31x6, field_f31c, field_bbx4, field_f31t3, field_f17t5, field_f2t5};
 
 use crate::field::Named;
-use p3_bench_prime::baby_bear::BabyBear;
-use p3_bench_prime::small::{F2, F17, F17b, F31, Z15};
-use p3_field::extension::{Binomial, CubicTrinomial, QuinticTrinomial};
+use p3_bench_prime::baby_bear::BabyBearModulus;
+use p3_bench_prime::binomial_constants::BinomialConstants;
+use p3_bench_prime::form::{Plain, Word};
+use p3_bench_prime::fp::Fp;
+use p3_bench_prime::small::{F31, M2, M15, M17, M17b, M31};
+use p3_bench_prime::trinomial_constants::{TrinomialConstants, TrinomialShape};
+use p3_ext::extension::{Binomial, CubicTrinomial, QuinticTrinomial};
 
-impl Named<2, Binomial<F17>> for F17 {
-    ghost spec = { field_f17x2 };
+/// A marker whose extension of degree D by `X^D = W` has a name in the calculator. A function that is
+/// generic over the marker passes the traits of the field once, and a call at a name the marker's alone.
+pub trait NamedBinomial<const D: usize>: BinomialConstants<D> {
+    /// The field by numbers.
+    ghost spec: { FieldSpec };
 
-    ghost is_spec = { refl };
+    /// The numbers are those of the order, of the polynomial and of the generator candidate.
+    ghost is_spec: { spec ≡ PolynomialsModulo Self.ORDER D (binomial (residues Self.ORDER) D (Self.W % Self.ORDER)) (tabulate D (λ i. get_or Self.ext_generator i 0 % Self.ORDER)) };
 
-    ghost order_fits = { lit< tt };
+    /// The order of the extension is below 2^128, so that it is given.
+    ghost order_fits: { Self.ORDER ^ D < 2 ^ 128 };
+}
+
+/// The same for the extension of degree D by the trinomial of a shape.
+pub trait NamedTrinomial<const D: usize, S: TrinomialShape<D>>: TrinomialConstants<D, S> {
+    /// The field by numbers.
+    ghost spec: { FieldSpec };
+
+    /// The numbers are those of the order, of the polynomial and of the generator candidate.
+    ghost is_spec: { spec ≡ PolynomialsModulo Self.ORDER D (S.polynomial Self.ORDER) (tabulate D (λ i. get_or Self.ext_generator i 0 % Self.ORDER)) };
+
+    /// The order of the extension is below 2^128, so that it is given.
+    ghost order_fits: { Self.ORDER ^ D < 2 ^ 128 };
+}
+
+impl<W: NamedBinomial<D>, const D: usize> Named<D, Binomial<Fp<W>>> for Fp<W> {
+    ghost use Rattle.p3_calculator_fields.specs.Bases.{binomial_by_numbers};
+
+    ghost spec = { W.spec };
+
+    ghost is_spec = { binomial_by_numbers W.Form ⟦<u32 as Word>⟧ W.ext_generator W.spec D W.W W.is_spec };
+
+    ghost order_fits = { W.order_fits };
 
     ghost is_base = { residues_are_base };
 }
 
-impl Named<4, Binomial<F17>> for F17 {
-    ghost spec = { field_f17x4 };
+impl<W: NamedTrinomial<3, CubicTrinomial>> Named<3, CubicTrinomial> for Fp<W> {
+    ghost use Rattle.p3_calculator_fields.specs.Bases.{cubic_by_numbers};
 
-    ghost is_spec = { refl };
+    ghost spec = { W.spec };
 
-    ghost order_fits = { lit< tt };
+    ghost is_spec = { cubic_by_numbers W.Form ⟦<u32 as Word>⟧ W.ext_generator W.spec W.is_spec };
 
-    ghost is_base = { residues_are_base };
-}
-
-impl Named<8, Binomial<F17>> for F17 {
-    ghost spec = { field_f17x8 };
-
-    ghost is_spec = { refl };
-
-    ghost order_fits = { lit< tt };
+    ghost order_fits = { W.order_fits };
 
     ghost is_base = { residues_are_base };
 }
 
-impl Named<2, Binomial<F17b>> for F17b {
-    ghost spec = { field_f17bx2 };
+impl<W: NamedTrinomial<5, QuinticTrinomial>> Named<5, QuinticTrinomial> for Fp<W> {
+    ghost use Rattle.p3_calculator_fields.specs.Bases.{quintic_by_numbers};
 
-    ghost is_spec = { refl };
+    ghost spec = { W.spec };
 
-    ghost order_fits = { lit< tt };
+    ghost is_spec = { quintic_by_numbers W.Form ⟦<u32 as Word>⟧ W.ext_generator W.spec W.is_spec };
 
-    ghost is_base = { residues_are_base };
-}
-
-impl Named<2, Binomial<Z15>> for Z15 {
-    ghost spec = { field_z15x2 };
-
-    ghost is_spec = { refl };
-
-    ghost order_fits = { lit< tt };
-
-    ghost is_base = { residues_are_base };
-}
-
-impl Named<3, Binomial<F31>> for F31 {
-    ghost spec = { field_f31x3 };
-
-    ghost is_spec = { refl };
-
-    ghost order_fits = { lit< tt };
-
-    ghost is_base = { residues_are_base };
-}
-
-impl Named<5, Binomial<F31>> for F31 {
-    ghost spec = { field_f31x5 };
-
-    ghost is_spec = { refl };
-
-    ghost order_fits = { lit< tt };
-
-    ghost is_base = { residues_are_base };
-}
-
-impl Named<6, Binomial<F31>> for F31 {
-    ghost spec = { field_f31x6 };
-
-    ghost is_spec = { refl };
-
-    ghost order_fits = { lit< tt };
+    ghost order_fits = { W.order_fits };
 
     ghost is_base = { residues_are_base };
 }
@@ -99,42 +87,98 @@ impl Named<2, Binomial<F31>> for F31 {
     ghost is_base = { residues_are_base };
 }
 
-impl Named<4, Binomial<BabyBear>> for BabyBear {
+impl NamedBinomial<2> for Plain<M17> {
+    ghost spec = { field_f17x2 };
+
+    ghost is_spec = { refl };
+
+    ghost order_fits = { lit< tt };
+}
+
+impl NamedBinomial<4> for Plain<M17> {
+    ghost spec = { field_f17x4 };
+
+    ghost is_spec = { refl };
+
+    ghost order_fits = { lit< tt };
+}
+
+impl NamedBinomial<8> for Plain<M17> {
+    ghost spec = { field_f17x8 };
+
+    ghost is_spec = { refl };
+
+    ghost order_fits = { lit< tt };
+}
+
+impl NamedBinomial<2> for Plain<M17b> {
+    ghost spec = { field_f17bx2 };
+
+    ghost is_spec = { refl };
+
+    ghost order_fits = { lit< tt };
+}
+
+impl NamedBinomial<2> for Plain<M15> {
+    ghost spec = { field_z15x2 };
+
+    ghost is_spec = { refl };
+
+    ghost order_fits = { lit< tt };
+}
+
+impl NamedBinomial<3> for Plain<M31> {
+    ghost spec = { field_f31x3 };
+
+    ghost is_spec = { refl };
+
+    ghost order_fits = { lit< tt };
+}
+
+impl NamedBinomial<5> for Plain<M31> {
+    ghost spec = { field_f31x5 };
+
+    ghost is_spec = { refl };
+
+    ghost order_fits = { lit< tt };
+}
+
+impl NamedBinomial<6> for Plain<M31> {
+    ghost spec = { field_f31x6 };
+
+    ghost is_spec = { refl };
+
+    ghost order_fits = { lit< tt };
+}
+
+impl NamedBinomial<4> for Plain<BabyBearModulus> {
     ghost spec = { field_bbx4 };
 
     ghost is_spec = { refl };
 
     ghost order_fits = { lit< tt };
-
-    ghost is_base = { residues_are_base };
 }
 
-impl Named<3, CubicTrinomial> for F31 {
+impl NamedTrinomial<3, CubicTrinomial> for Plain<M31> {
     ghost spec = { field_f31t3 };
 
     ghost is_spec = { refl };
 
     ghost order_fits = { lit< tt };
-
-    ghost is_base = { residues_are_base };
 }
 
-impl Named<5, QuinticTrinomial> for F17 {
+impl NamedTrinomial<5, QuinticTrinomial> for Plain<M17> {
     ghost spec = { field_f17t5 };
 
     ghost is_spec = { refl };
 
     ghost order_fits = { lit< tt };
-
-    ghost is_base = { residues_are_base };
 }
 
-impl Named<5, QuinticTrinomial> for F2 {
+impl NamedTrinomial<5, QuinticTrinomial> for Plain<M2> {
     ghost spec = { field_f2t5 };
 
     ghost is_spec = { refl };
 
     ghost order_fits = { lit< tt };
-
-    ghost is_base = { residues_are_base };
 }

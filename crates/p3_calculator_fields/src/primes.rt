@@ -2,10 +2,12 @@
 ghost use Rattle.std.specs.Prelude.{◌≡◌, string_bytes, slice_set, IfOk};
 
 use crate::field::CalculatorField;
+use p3_base::field::Field;
+use p3_base::sqrt::tonelli_shanks;
 use p3_bench_prime::form::{Form, Word};
 use p3_bench_prime::fp::Fp;
-use p3_field::integers::QuotientMap;
-use p3_field::{Field, PrimeCharacteristicRing, tonelli_shanks};
+use p3_integers::integers::QuotientMap;
+use p3_ring::ring::PrimeCharacteristicRing;
 use std::alloc::{AllocError, Allocator};
 
 impl<W: Form<T>, T: Word> CalculatorField for Fp<W, T> {

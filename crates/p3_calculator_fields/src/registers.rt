@@ -10,6 +10,12 @@ pub struct Registers<F> {
 }
 
 impl<F: Copy> Clone for Registers<F> {
+    ghost use Rattle.std.specs.Prelude.{⊤};
+
+    ghost is_clone = { λ x y. y ≡ x };
+
+    ghost is_infallible = { λ _. ⊤ };
+
     fn clone(&self) -> Result<Self, AllocError> {
         Ok(*self)
     }
@@ -18,17 +24,7 @@ impl<F: Copy> Clone for Registers<F> {
 impl<F: Copy> Copy for Registers<F> {}
 
 impl<F: CalculatorField> Registers<F> {
-    ghost use Rattle.p3_calculator_fields.specs.States.{register_at, all_zero};
-    ghost use Rattle.p3_calculator_fields.specs.Bank.{state_at};
-
-    /// Registers that are all zero.
-    pub fn zero() -> Self
-        ensures { state_at F.spec F.coefficients result ≡ all_zero F.spec }
-    {
-        Registers {
-            values: [F::zero(); 16],
-        }
-    }
+    ghost use Rattle.p3_calculator_fields.specs.States.{register_at};
 
     /// The value of a register.
     pub fn get(&self, r: usize) -> F
