@@ -1,9 +1,12 @@
 pub mod Carrying
 pub mod Digits
 pub mod Endings
+pub mod FieldValues
 pub mod InverseLemmas
 pub mod LineLemmas
+pub mod OneText
 pub mod Pieces
+pub mod RegisterValues
 pub mod RootLemmas
 pub mod Totality
 pub mod ValueLemmas

@@ -3,6 +3,7 @@ pub mod Faults
 pub mod Lines
 pub mod Memory
 pub mod Outcomes
+pub mod SameTexts
 pub mod Standing
 pub mod Streams
 pub mod Text

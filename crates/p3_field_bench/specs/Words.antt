@@ -9,8 +9,9 @@ use Rattle.p3_field_bench.specs.declared.commands.UnaryOperation.TheVariants.{Ne
 use Rattle.p3_field_bench.specs.declared.faults.Fault.{Fault}
 use Rattle.p3_field_bench.specs.declared.faults.Fault.TheVariants.{WordCount, BadRegister, BadNumber}
 
-abbrev pub command_of : List ℕ → Option Command
-command_of word = lookup (
+-- the commands by their words
+abbrev pub commands : List (List ℕ × Command)
+commands =
     (codes "field", Field)
     ∷ (codes "put", Compute Put)
     ∷ (codes "add", Compute (Binary Add))
@@ -23,7 +24,10 @@ command_of word = lookup (
     ∷ (codes "inv", Compute Inv)
     ∷ (codes "sqrt", Compute Sqrt)
     ∷ (codes "show", Compute Show)
-    ∷ []) word
+    ∷ []
+
+abbrev pub command_of : List ℕ → Option Command
+command_of word = lookup commands word
 
 -- the number that decimal digits make, after those before them
 abbrev pub number_from : ℕ → List ℕ → Option ℕ

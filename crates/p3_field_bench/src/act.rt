@@ -1,10 +1,12 @@
-ghost use Rattle.std.specs.Prelude.{◌≡◌, ◌≢◌, ◌++◌, ◌∷◌, [], ℕ, List, Some, None, length, IfOk, IfSome, IfNone};
+ghost use Rattle.std.specs.Prelude.{◌≡◌, ◌≢◌, ◌++◌, ◌∷◌, [], ℕ, List, Some, None, length, IfOk, OnErr, IfSome, IfNone};
 ghost use Rattle.p3_theory.specs.Rings.Powers.{power};
-ghost use Rattle.p3_calculator_fields.specs.Bank.{state_at};
+ghost use Rattle.p3_calculator_fields.specs.Bank.{state_at, canon};
+ghost use Rattle.p3_calculator_fields.specs.Coefficients.{one_coefficient, all_coefficients};
+ghost use Rattle.p3_calculator_fields.specs.Names.{field_f31c};
 ghost use Rattle.p3_calculator_fields.specs.Display.{display};
 ghost use Rattle.p3_field_bench.specs.Effects.{Computes, numbers_below, IsInverse, IsRoot, binary, unary};
 ghost use Rattle.p3_calculator_fields.specs.States.{State};
-ghost use Rattle.p3_calculator_fields.specs.Fields.{order, dimension, ops};
+ghost use Rattle.p3_calculator_fields.specs.Fields.{ResiduesModulo, order, dimension, ops};
 ghost use Rattle.p3_field_bench.specs.Lines.{words};
 ghost use Rattle.p3_field_bench.specs.Outcomes.{outcome, silent};
 ghost use Rattle.p3_calculator_fields.specs.Premise.{MeetsPremise};
@@ -15,8 +17,16 @@ use crate::words::{
     has_words, next_word, one_register, parse_number, parse_register, registers_and_number,
     three_registers, two_registers,
 };
+use p3_bench_prime::extensions::F31c;
+use p3_bench_prime::form::{Form, Word};
+use p3_bench_prime::fp::Fp;
 use p3_calculator_fields::field::CalculatorField;
+use p3_calculator_fields::names::{NamedBinomial, NamedTrinomial};
 use p3_calculator_fields::registers::Registers;
+use p3_ext::extension::{
+    BinomialExtensionField, CubicTrinomial, CubicTrinomialExtensionField, QuinticTrinomial,
+    QuinticTrinomialExtensionField,
+};
 use std::alloc::{AllocError, Allocator};
 
 /// The value whose coefficients are the words of a line, as many as a value has.
@@ -100,8 +110,9 @@ fn root<F: CalculatorField>(x: F) -> Option<F>
 
 /// The line `put R c0 ..`.
 fn put<F: CalculatorField>(regs: &mut Registers<F>, args: &[u8]) -> Result<(), Fault>
-    ensures { let old = state_at F.spec F.coefficients regs.old in let new = state_at F.spec F.coefficients regs.new in
+    ensures computes { let old = state_at F.spec F.coefficients regs.old in let new = state_at F.spec F.coefficients regs.new in
         Computes Operation.Put F.spec old.registers (words args.now) (silent result new) }
+    ensures kept { OnErr result (state_at F.spec F.coefficients regs.new ≡ state_at F.spec F.coefficients regs.old) }
 {
     let Some((r, rest)) = next_word(args) else {
         return Err(Fault::WordCount);
@@ -125,8 +136,9 @@ fn set_from_two<F: CalculatorField>(
     regs: &mut Registers<F>,
     args: &[u8],
 ) -> Result<(), Fault>
-    ensures { let old = state_at F.spec F.coefficients regs.old in let new = state_at F.spec F.coefficients regs.new in
+    ensures computes { let old = state_at F.spec F.coefficients regs.old in let new = state_at F.spec F.coefficients regs.new in
         Computes (Operation.Binary operation) F.spec old.registers (words args.now) (silent result new) }
+    ensures kept { OnErr result (state_at F.spec F.coefficients regs.new ≡ state_at F.spec F.coefficients regs.old) }
 {
     let (r, a, b) = three_registers(args)?;
     let x = of_two(operation, regs.get(a), regs.get(b));
@@ -140,8 +152,9 @@ fn set_from_one<F: CalculatorField>(
     regs: &mut Registers<F>,
     args: &[u8],
 ) -> Result<(), Fault>
-    ensures { let old = state_at F.spec F.coefficients regs.old in let new = state_at F.spec F.coefficients regs.new in
+    ensures computes { let old = state_at F.spec F.coefficients regs.old in let new = state_at F.spec F.coefficients regs.new in
         Computes (Operation.Unary operation) F.spec old.registers (words args.now) (silent result new) }
+    ensures kept { OnErr result (state_at F.spec F.coefficients regs.new ≡ state_at F.spec F.coefficients regs.old) }
 {
     let (r, a) = two_registers(args)?;
     let x = of_one(operation, regs.get(a));
@@ -151,8 +164,9 @@ fn set_from_one<F: CalculatorField>(
 
 /// The line `pow R A E`.
 fn pow<F: CalculatorField>(regs: &mut Registers<F>, args: &[u8]) -> Result<(), Fault>
-    ensures { let old = state_at F.spec F.coefficients regs.old in let new = state_at F.spec F.coefficients regs.new in
+    ensures computes { let old = state_at F.spec F.coefficients regs.old in let new = state_at F.spec F.coefficients regs.new in
         Computes Operation.Pow F.spec old.registers (words args.now) (silent result new) }
+    ensures kept { OnErr result (state_at F.spec F.coefficients regs.new ≡ state_at F.spec F.coefficients regs.old) }
 {
     let (r, a, exponent) = registers_and_number(args)?;
     let x = power(regs.get(a), exponent);
@@ -162,8 +176,9 @@ fn pow<F: CalculatorField>(regs: &mut Registers<F>, args: &[u8]) -> Result<(), F
 
 /// The line `inv R A`.
 fn inv<F: CalculatorField>(regs: &mut Registers<F>, args: &[u8]) -> Result<(), Fault>
-    ensures { let old = state_at F.spec F.coefficients regs.old in let new = state_at F.spec F.coefficients regs.new in
+    ensures computes { let old = state_at F.spec F.coefficients regs.old in let new = state_at F.spec F.coefficients regs.new in
         Computes Operation.Inv F.spec old.registers (words args.now) (silent result new) }
+    ensures kept { OnErr result (state_at F.spec F.coefficients regs.new ≡ state_at F.spec F.coefficients regs.old) }
 {
     let (r, a) = two_registers(args)?;
     let Some(y) = inverse(regs.get(a)) else {
@@ -175,8 +190,9 @@ fn inv<F: CalculatorField>(regs: &mut Registers<F>, args: &[u8]) -> Result<(), F
 
 /// The line `sqrt R A`.
 fn sqrt<F: CalculatorField>(regs: &mut Registers<F>, args: &[u8]) -> Result<(), Fault>
-    ensures { let old = state_at F.spec F.coefficients regs.old in let new = state_at F.spec F.coefficients regs.new in
+    ensures computes { let old = state_at F.spec F.coefficients regs.old in let new = state_at F.spec F.coefficients regs.new in
         Computes Operation.Sqrt F.spec old.registers (words args.now) (silent result new) }
+    ensures kept { OnErr result (state_at F.spec F.coefficients regs.new ≡ state_at F.spec F.coefficients regs.old) }
 {
     let (r, a) = two_registers(args)?;
     let Some(y) = root(regs.get(a)) else {
@@ -215,15 +231,16 @@ pub fn without_text<A: Allocator + Copy>(
     }
 }
 
-/// Carries out a line at the chosen field, and answers its text.
-pub fn act<F: CalculatorField, A: Allocator + Copy>(
+/// Carries out a line at the chosen field, and answers its text. A fault leaves the registers as before.
+fn act<F: CalculatorField, A: Allocator + Copy>(
     alloc: A,
     operation: Operation,
     regs: &mut Registers<F>,
     args: &[u8],
 ) -> Result<Vec<u8, A>, Fault>
-    ensures { let old = state_at F.spec F.coefficients regs.old in let new = state_at F.spec F.coefficients regs.new in
+    ensures computes { let old = state_at F.spec F.coefficients regs.old in let new = state_at F.spec F.coefficients regs.new in
         Computes operation F.spec old.registers (words args.now) (outcome result new) }
+    ensures kept { OnErr result (state_at F.spec F.coefficients regs.new ≡ state_at F.spec F.coefficients regs.old) }
 {
     match operation {
         Operation::Put => without_text(alloc, put(regs, args)),
@@ -234,4 +251,76 @@ pub fn act<F: CalculatorField, A: Allocator + Copy>(
         Operation::Sqrt => without_text(alloc, sqrt(regs, args)),
         Operation::Show => show(alloc, regs, args),
     }
+}
+
+/// Carries out a line at residues, in words of any type. The traits of fields are passed here, once for
+/// all markers, and a call at a name passes those of its marker. A fault leaves the registers as before,
+/// here and at extensions.
+pub fn act_at_fp<W: Form<T>, T: Word, A: Allocator + Copy>(
+    alloc: A,
+    operation: Operation,
+    regs: &mut Registers<Fp<W, T>>,
+    args: &[u8],
+) -> Result<Vec<u8, A>, Fault>
+    ensures computes { let s = ResiduesModulo W.ORDER W.GENERATOR in let old = state_at s (one_coefficient canon) regs.old in let new = state_at s (one_coefficient canon) regs.new in
+        Computes operation s old.registers (words args.now) (outcome result new) }
+    ensures kept { let s = ResiduesModulo W.ORDER W.GENERATOR in OnErr result (state_at s (one_coefficient canon) regs.new ≡ state_at s (one_coefficient canon) regs.old) }
+{
+    act(alloc, operation, regs, args)
+}
+
+/// The same at an extension by `X^D = W`.
+pub fn act_at_binomial<W: NamedBinomial<D>, const D: usize, A: Allocator + Copy>(
+    alloc: A,
+    operation: Operation,
+    regs: &mut Registers<BinomialExtensionField<Fp<W>, D>>,
+    args: &[u8],
+) -> Result<Vec<u8, A>, Fault>
+    ensures computes { let old = state_at W.spec (all_coefficients canon) regs.old in let new = state_at W.spec (all_coefficients canon) regs.new in
+        Computes operation W.spec old.registers (words args.now) (outcome result new) }
+    ensures kept { OnErr result (state_at W.spec (all_coefficients canon) regs.new ≡ state_at W.spec (all_coefficients canon) regs.old) }
+{
+    act(alloc, operation, regs, args)
+}
+
+/// The same at an extension by `X^3 = X + 1`.
+pub fn act_at_cubic<W: NamedTrinomial<3, CubicTrinomial>, A: Allocator + Copy>(
+    alloc: A,
+    operation: Operation,
+    regs: &mut Registers<CubicTrinomialExtensionField<Fp<W>>>,
+    args: &[u8],
+) -> Result<Vec<u8, A>, Fault>
+    ensures computes { let old = state_at W.spec (all_coefficients canon) regs.old in let new = state_at W.spec (all_coefficients canon) regs.new in
+        Computes operation W.spec old.registers (words args.now) (outcome result new) }
+    ensures kept { OnErr result (state_at W.spec (all_coefficients canon) regs.new ≡ state_at W.spec (all_coefficients canon) regs.old) }
+{
+    act(alloc, operation, regs, args)
+}
+
+/// The same at an extension by `X^5 = 1 - X^2`.
+pub fn act_at_quintic<W: NamedTrinomial<5, QuinticTrinomial>, A: Allocator + Copy>(
+    alloc: A,
+    operation: Operation,
+    regs: &mut Registers<QuinticTrinomialExtensionField<Fp<W>>>,
+    args: &[u8],
+) -> Result<Vec<u8, A>, Fault>
+    ensures computes { let old = state_at W.spec (all_coefficients canon) regs.old in let new = state_at W.spec (all_coefficients canon) regs.new in
+        Computes operation W.spec old.registers (words args.now) (outcome result new) }
+    ensures kept { OnErr result (state_at W.spec (all_coefficients canon) regs.new ≡ state_at W.spec (all_coefficients canon) regs.old) }
+{
+    act(alloc, operation, regs, args)
+}
+
+/// The same at the extension of `F31` by `X^2 = -1`.
+pub fn act_at_complex<A: Allocator + Copy>(
+    alloc: A,
+    operation: Operation,
+    regs: &mut Registers<F31c>,
+    args: &[u8],
+) -> Result<Vec<u8, A>, Fault>
+    ensures computes { let old = state_at field_f31c (all_coefficients canon) regs.old in let new = state_at field_f31c (all_coefficients canon) regs.new in
+        Computes operation field_f31c old.registers (words args.now) (outcome result new) }
+    ensures kept { OnErr result (state_at field_f31c (all_coefficients canon) regs.new ≡ state_at field_f31c (all_coefficients canon) regs.old) }
+{
+    act(alloc, operation, regs, args)
 }

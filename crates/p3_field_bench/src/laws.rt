@@ -4,6 +4,8 @@ ghost use Rattle.std.specs.Prelude.{ℕ, List, Option, false, IfSome};
 ghost use Rattle.std.specs.Io.KnownBytes.{Consumes, IsAtEnd};
 ghost use Rattle.p3_field_bench.specs.Lines.{lines_of};
 ghost use Rattle.p3_field_bench.specs.Text.{RunEnds, IsText};
+ghost use Rattle.p3_calculator_fields.specs.States.{no_field};
+ghost use Rattle.p3_field_bench.specs.SameTexts.{TakeNoRoots, AreOneFrom};
 
 pub use p3_calculator_fields::laws::{
     domain_f17, domain_f31, premise_f2, premise_f17, premise_f17x2, premise_f31, premise_f31c,
@@ -12,6 +14,13 @@ pub use p3_calculator_fields::laws::{
 /// The texts of the calculator are defined for every input.
 pub fn every_input_has_a_text()
     ensures { (bytes : List ℕ) → (text : List ℕ) × (status : ℕ) × IsText (lines_of bytes) text status }
+{}
+
+/// Lines that take no square root have one text and status, whoever computes them. Only refused memory
+/// makes two: then one of them ends with fault 8 where the other one goes on.
+pub fn a_text_without_roots_is_one()
+    ensures { (lines : List (List ℕ)) (a b : List ℕ) (s t : ℕ) → TakeNoRoots lines → IsText lines a s → IsText lines b t
+        → AreOneFrom 1 no_field lines a s b t }
 {}
 
 /// Where the reader tells its bytes and nothing failed, the text is one of the whole input.

@@ -59,6 +59,7 @@ impl Source for MemSource {
         ensures piece { IfOk result (λ n. n ≡ min (min self.old.piece (length buf.old)) (unread_count self.old)) }
         ensures fails { MatchResult result (λ _. self.old.reads_left ≢ Some 0) (λ _. self.old.reads_left ≡ Some 0) }
         ensures counts { IfOk result (λ _. self.new.reads_left ≡ one_less self.old.reads_left) }
+        ensures kept { OnErr result (self.new.reads_left ≡ self.old.reads_left) }
         ensures same { self.new.piece ≡ self.old.piece }
     {
         if let Some(left) = self.reads_left {
@@ -130,6 +131,7 @@ impl Sink for MemSink {
         ensures fails { OnErr result ((self.old.fails ≡ true) × (room_left self.old ≡ 0) × (0 < length bytes.now)) }
         ensures takes_none { IfOk result (λ n. n ≡ 0 → 0 < length bytes.now → self.old.fails ≡ false) }
         ensures room { IfOk result (λ n. room_left self.new + n ≡ room_left self.old) }
+        ensures kept { OnErr result (room_left self.new ≡ room_left self.old) }
         ensures same { self.new.fails ≡ self.old.fails }
     {
         let count = bytes.len().min(self.store.len() - self.used);

@@ -1,4 +1,4 @@
-ghost use Rattle.std.specs.Prelude.{◌≡◌, ◌+◌, ◌-◌, ◌<◌, ◌≤◌, ◌^◌, ◌++◌, ◌∷◌, [], true, false, List, ℕ, length};
+ghost use Rattle.std.specs.Prelude.{◌≡◌, ◌+◌, ◌-◌, ◌<◌, ◌≤◌, ◌^◌, ◌++◌, ◌∷◌, [], true, false, Err, List, ℕ, length};
 ghost use Rattle.std.specs.Io.KnownBytes.{Appends, Consumes, IsAtEnd};
 ghost use Rattle.p3_field_bench.specs.Standing.{Carries, StopsAtFailure, Ended, EndedAt, Finishes};
 ghost use Rattle.p3_field_bench.specs.Text.{RunEnds, fault_line};
@@ -16,7 +16,8 @@ fn carry_out<A: Allocator + Copy, W: Sink>(
     machine: &mut Machine,
     writer: &mut W,
 ) -> Result<(), Stop>
-    requires { machine.old.number < 2 ^ 128 - 1 }
+    requires number { machine.old.number < 2 ^ 128 - 1 }
+    requires writer { W.failed writer.old ≡ false }
     ensures carries { Carries machine.old machine.new (W.contents writer.old) (W.contents writer.new) result (10 ∷ []) }
     ensures number { machine.new.number ≤ machine.old.number + 1 }
     ensures failure { StopsAtFailure result (W.failed writer.old) (W.failed writer.new) }
@@ -45,7 +46,8 @@ fn take_byte<A: Allocator + Copy, W: Sink>(
     writer: &mut W,
     byte: u8,
 ) -> Result<(), Stop>
-    requires { machine.old.number < 2 ^ 128 - 1 }
+    requires number { machine.old.number < 2 ^ 128 - 1 }
+    requires writer { W.failed writer.old ≡ false }
     ensures carries { Carries machine.old machine.new (W.contents writer.old) (W.contents writer.new) result (byte ∷ []) }
     ensures number { machine.new.number ≤ machine.old.number + 1 }
     ensures failure { StopsAtFailure result (W.failed writer.old) (W.failed writer.new) }
@@ -68,7 +70,8 @@ fn take_all<A: Allocator + Copy, W: Sink>(
     writer: &mut W,
     bytes: &[u8],
 ) -> Result<(), Stop>
-    requires { machine.old.number + length bytes.now < 2 ^ 128 }
+    requires number { machine.old.number + length bytes.now < 2 ^ 128 }
+    requires writer { W.failed writer.old ≡ false }
     ensures carries { Carries machine.old machine.new (W.contents writer.old) (W.contents writer.new) result bytes.now }
     ensures number { machine.new.number ≤ machine.old.number + length bytes.now }
     ensures failure { StopsAtFailure result (W.failed writer.old) (W.failed writer.new) }
@@ -84,6 +87,7 @@ fn take_all<A: Allocator + Copy, W: Sink>(
 
 /// Ends the run with a fault, and answers the status.
 fn end_with<W: Sink>(writer: &mut W, number: u128, fault: Fault) -> u8
+    requires { W.failed writer.old ≡ false }
     ensures { Ended (W.contents writer.old) (W.contents writer.new) (W.failed writer.old) (W.failed writer.new) (fault_line number fault) 1 result }
 {
     let line = FaultLine::new(number, fault);
@@ -95,6 +99,7 @@ fn end_with<W: Sink>(writer: &mut W, number: u128, fault: Fault) -> u8
 
 /// Ends a run that stopped, and answers the status.
 fn end_at<W: Sink>(writer: &mut W, number: u128, stop: Stop) -> u8
+    requires { StopsAtFailure (Err stop) false (W.failed writer.old) }
     ensures { EndedAt stop number (W.contents writer.old) (W.contents writer.new) (W.failed writer.old) (W.failed writer.new) result }
 {
     match stop {
@@ -105,6 +110,7 @@ fn end_at<W: Sink>(writer: &mut W, number: u128, stop: Stop) -> u8
 
 /// Carries out a last line without byte 10, and answers the status.
 fn finish<A: Allocator + Copy, W: Sink>(alloc: A, machine: &mut Machine, writer: &mut W) -> u8
+    requires { W.failed writer.old ≡ false }
     ensures { Finishes machine.old (W.contents writer.old) (W.contents writer.new) (W.failed writer.old) (W.failed writer.new) result }
 {
     if machine.line.used == 0 {

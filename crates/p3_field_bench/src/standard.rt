@@ -1,12 +1,12 @@
-ghost use Rattle.std.specs.Prelude.{None, ◌≡◌, ◌+◌, ◌≤◌, ◌<◌, ◌^◌, ◌-◌, false, IfOk, IsErr, length, take};
-ghost use Rattle.std.specs.Io.KnownBytes.{Consumes, WriteAppends};
+ghost use Rattle.std.specs.Prelude.{◌≡◌, ◌+◌, ◌≤◌, ◌<◌, ◌^◌, ◌-◌, false, IfOk, OnErr, IsErr, length, take};
+ghost use Rattle.std.specs.Io.KnownBytes.{Consumes, IsAtEnd, Keeps, WriteAppends};
 ghost use Rattle.p3_field_bench.specs.Streams.{TellsFailure, TellsWriteFailure};
 
 use crate::streams::{ReadFailed, Sink, Source, WriteFailed};
 use std::io::{Read, Write};
 
-/// A source over a reader of std, up to the greatest u64 of bytes: a read past them fails. No
-/// contract knows its bytes.
+/// A source over a reader of std, up to the greatest u64 of bytes: a read past them fails. Its bytes
+/// are known where the reader tells them.
 #[derive(Drop)]
 pub struct StdSource<R> {
     reader: R,
@@ -30,7 +30,7 @@ impl<R: Read> StdSource<R> {
 }
 
 impl<R: Read> Source for StdSource<R> {
-    ghost remaining = { λ _. None };
+    ghost remaining = { λ s. R.remaining s.reader };
 
     ghost failed = { λ s. s.failed };
 
@@ -39,8 +39,11 @@ impl<R: Read> Source for StdSource<R> {
     fn read(&mut self, buf: &mut [u8]) -> Result<usize, ReadFailed>
         ensures count { IfOk result (λ n. n ≤ length buf.new) }
         ensures bytes { IfOk result (λ n. Consumes (R.remaining self.old.reader) (R.remaining self.new.reader) (take n buf.new)) }
+        ensures ends { IfOk result (λ n. n ≡ 0 → 0 < length buf.new → IsAtEnd (R.remaining self.new.reader)) }
+        ensures unread { OnErr result (Keeps (R.remaining self.old.reader) (R.remaining self.new.reader)) }
         ensures failure { TellsFailure self.old.failed self.new.failed result }
         ensures bound { IfOk result (λ n. self.new.left + n ≡ self.old.left) }
+        ensures kept { OnErr result (self.new.left ≡ self.old.left) }
         ensures exhausted { self.old.left ≡ 0 → 0 < length buf.old → IsErr result }
     {
         if self.left == 0 && !buf.is_empty() {
@@ -63,7 +66,7 @@ impl<R: Read> Source for StdSource<R> {
     ghost bounded = { λ s. s.short };
 }
 
-/// A sink over a writer of std. No contract knows its bytes.
+/// A sink over a writer of std. Its bytes are known where the writer tells them.
 #[derive(Drop)]
 pub struct StdSink<W> {
     writer: W,
@@ -83,7 +86,7 @@ impl<W: Write> StdSink<W> {
 }
 
 impl<W: Write> Sink for StdSink<W> {
-    ghost contents = { λ _. None };
+    ghost contents = { λ s. W.contents s.writer };
 
     ghost failed = { λ s. s.failed };
 

@@ -1,4 +1,4 @@
-ghost use Rattle.std.specs.Prelude.{◌≡◌};
+ghost use Rattle.std.specs.Prelude.{◌≡◌, OnErr};
 ghost use Rattle.p3_calculator_fields.specs.Bank.{state_of, residue_state, quadratic_state, middle_state, high_state};
 ghost use Rattle.p3_field_bench.specs.Outcomes.{opened_as};
 ghost use Rattle.p3_field_bench.specs.Effects.{May, ComputesAt, Chooses, chosen};
@@ -7,12 +7,14 @@ ghost use Rattle.p3_calculator_fields.specs.Tables.{lookup};
 ghost use Rattle.p3_field_bench.specs.Lines.{words};
 ghost use Rattle.p3_field_bench.specs.Outcomes.{outcome, silent};
 
-use crate::act::{act, without_text};
+use crate::act::{
+    act_at_binomial, act_at_complex, act_at_cubic, act_at_fp, act_at_quintic, without_text,
+};
 use crate::commands::{Command, Operation, parse_command};
 use crate::faults::Fault;
 use crate::words::{next_word, one_word};
 use p3_calculator_fields::bank::{Bank, HighBank, MiddleBank, QuadraticBank, ResidueBank};
-use p3_calculator_fields::registers::Registers;
+use p3_calculator_fields::zeros::{zero_polynomials, zero_residues};
 use std::alloc::Allocator;
 
 /// The registers of residues, all zero, by the name.
@@ -20,14 +22,14 @@ fn open_residue(name: &[u8]) -> Option<ResidueBank>
     ensures { opened_as residue_state result ≡ chosen (lookup residue_names name.now) }
 {
     match name {
-        _ if name == b"f2".as_slice() => Some(ResidueBank::F2(Registers::zero())),
-        _ if name == b"f17".as_slice() => Some(ResidueBank::F17(Registers::zero())),
-        _ if name == b"f17b".as_slice() => Some(ResidueBank::F17b(Registers::zero())),
-        _ if name == b"f31".as_slice() => Some(ResidueBank::F31(Registers::zero())),
-        _ if name == b"z15".as_slice() => Some(ResidueBank::Z15(Registers::zero())),
-        _ if name == b"bb".as_slice() => Some(ResidueBank::BabyBear(Registers::zero())),
-        _ if name == b"kb".as_slice() => Some(ResidueBank::KoalaBear(Registers::zero())),
-        _ if name == b"gl".as_slice() => Some(ResidueBank::Goldilocks(Registers::zero())),
+        _ if name == b"f2".as_slice() => Some(ResidueBank::F2(zero_residues())),
+        _ if name == b"f17".as_slice() => Some(ResidueBank::F17(zero_residues())),
+        _ if name == b"f17b".as_slice() => Some(ResidueBank::F17b(zero_residues())),
+        _ if name == b"f31".as_slice() => Some(ResidueBank::F31(zero_residues())),
+        _ if name == b"z15".as_slice() => Some(ResidueBank::Z15(zero_residues())),
+        _ if name == b"bb".as_slice() => Some(ResidueBank::BabyBear(zero_residues())),
+        _ if name == b"kb".as_slice() => Some(ResidueBank::KoalaBear(zero_residues())),
+        _ if name == b"gl".as_slice() => Some(ResidueBank::Goldilocks(zero_residues())),
         _ => None,
     }
 }
@@ -37,10 +39,10 @@ fn open_quadratic(name: &[u8]) -> Option<QuadraticBank>
     ensures { opened_as quadratic_state result ≡ chosen (lookup quadratic_names name.now) }
 {
     match name {
-        _ if name == b"f17x2".as_slice() => Some(QuadraticBank::F17x2(Registers::zero())),
-        _ if name == b"f17bx2".as_slice() => Some(QuadraticBank::F17bx2(Registers::zero())),
-        _ if name == b"z15x2".as_slice() => Some(QuadraticBank::Z15x2(Registers::zero())),
-        _ if name == b"f31c".as_slice() => Some(QuadraticBank::F31c(Registers::zero())),
+        _ if name == b"f17x2".as_slice() => Some(QuadraticBank::F17x2(zero_polynomials())),
+        _ if name == b"f17bx2".as_slice() => Some(QuadraticBank::F17bx2(zero_polynomials())),
+        _ if name == b"z15x2".as_slice() => Some(QuadraticBank::Z15x2(zero_polynomials())),
+        _ if name == b"f31c".as_slice() => Some(QuadraticBank::F31c(zero_polynomials())),
         _ => None,
     }
 }
@@ -50,10 +52,10 @@ fn open_middle(name: &[u8]) -> Option<MiddleBank>
     ensures { opened_as middle_state result ≡ chosen (lookup middle_names name.now) }
 {
     match name {
-        _ if name == b"f31x3".as_slice() => Some(MiddleBank::F31x3(Registers::zero())),
-        _ if name == b"f31t3".as_slice() => Some(MiddleBank::F31t3(Registers::zero())),
-        _ if name == b"f17x4".as_slice() => Some(MiddleBank::F17x4(Registers::zero())),
-        _ if name == b"bbx4".as_slice() => Some(MiddleBank::BabyBearx4(Registers::zero())),
+        _ if name == b"f31x3".as_slice() => Some(MiddleBank::F31x3(zero_polynomials())),
+        _ if name == b"f31t3".as_slice() => Some(MiddleBank::F31t3(zero_polynomials())),
+        _ if name == b"f17x4".as_slice() => Some(MiddleBank::F17x4(zero_polynomials())),
+        _ if name == b"bbx4".as_slice() => Some(MiddleBank::BabyBearx4(zero_polynomials())),
         _ => None,
     }
 }
@@ -63,11 +65,11 @@ fn open_high(name: &[u8]) -> Option<HighBank>
     ensures { opened_as high_state result ≡ chosen (lookup high_names name.now) }
 {
     match name {
-        _ if name == b"f31x5".as_slice() => Some(HighBank::F31x5(Registers::zero())),
-        _ if name == b"f17t5".as_slice() => Some(HighBank::F17t5(Registers::zero())),
-        _ if name == b"f2t5".as_slice() => Some(HighBank::F2t5(Registers::zero())),
-        _ if name == b"f31x6".as_slice() => Some(HighBank::F31x6(Registers::zero())),
-        _ if name == b"f17x8".as_slice() => Some(HighBank::F17x8(Registers::zero())),
+        _ if name == b"f31x5".as_slice() => Some(HighBank::F31x5(zero_polynomials())),
+        _ if name == b"f17t5".as_slice() => Some(HighBank::F17t5(zero_polynomials())),
+        _ if name == b"f2t5".as_slice() => Some(HighBank::F2t5(zero_polynomials())),
+        _ if name == b"f31x6".as_slice() => Some(HighBank::F31x6(zero_polynomials())),
+        _ if name == b"f17x8".as_slice() => Some(HighBank::F17x8(zero_polynomials())),
         _ => None,
     }
 }
@@ -91,9 +93,10 @@ fn open(name: &[u8]) -> Option<Bank>
     }
 }
 
-/// The line `field NAME`.
+/// The line `field NAME`. A fault leaves the state as before.
 fn choose(bank: &mut Bank, args: &[u8]) -> Result<(), Fault>
-    ensures { Chooses (words args.now) (silent result (state_of bank.new)) }
+    ensures chooses { Chooses (words args.now) (silent result (state_of bank.new)) }
+    ensures kept { OnErr result (state_of bank.new ≡ state_of bank.old) }
 {
     let Some(name) = one_word(args) else {
         return Err(Fault::WordCount);
@@ -112,17 +115,18 @@ fn act_at_residue<A: Allocator + Copy>(
     bank: &mut ResidueBank,
     args: &[u8],
 ) -> Result<Vec<u8, A>, Fault>
-    ensures { let old = residue_state bank.old in ComputesAt old.field operation old.registers (words args.now) (outcome result (residue_state bank.new)) }
+    ensures computes { let old = residue_state bank.old in ComputesAt old.field operation old.registers (words args.now) (outcome result (residue_state bank.new)) }
+    ensures kept { OnErr result (residue_state bank.new ≡ residue_state bank.old) }
 {
     match bank {
-        ResidueBank::F2(regs) => act(alloc, operation, regs, args),
-        ResidueBank::F17(regs) => act(alloc, operation, regs, args),
-        ResidueBank::F17b(regs) => act(alloc, operation, regs, args),
-        ResidueBank::F31(regs) => act(alloc, operation, regs, args),
-        ResidueBank::Z15(regs) => act(alloc, operation, regs, args),
-        ResidueBank::BabyBear(regs) => act(alloc, operation, regs, args),
-        ResidueBank::KoalaBear(regs) => act(alloc, operation, regs, args),
-        ResidueBank::Goldilocks(regs) => act(alloc, operation, regs, args),
+        ResidueBank::F2(regs) => act_at_fp(alloc, operation, regs, args),
+        ResidueBank::F17(regs) => act_at_fp(alloc, operation, regs, args),
+        ResidueBank::F17b(regs) => act_at_fp(alloc, operation, regs, args),
+        ResidueBank::F31(regs) => act_at_fp(alloc, operation, regs, args),
+        ResidueBank::Z15(regs) => act_at_fp(alloc, operation, regs, args),
+        ResidueBank::BabyBear(regs) => act_at_fp(alloc, operation, regs, args),
+        ResidueBank::KoalaBear(regs) => act_at_fp(alloc, operation, regs, args),
+        ResidueBank::Goldilocks(regs) => act_at_fp(alloc, operation, regs, args),
     }
 }
 
@@ -133,13 +137,14 @@ fn act_at_quadratic<A: Allocator + Copy>(
     bank: &mut QuadraticBank,
     args: &[u8],
 ) -> Result<Vec<u8, A>, Fault>
-    ensures { let old = quadratic_state bank.old in ComputesAt old.field operation old.registers (words args.now) (outcome result (quadratic_state bank.new)) }
+    ensures computes { let old = quadratic_state bank.old in ComputesAt old.field operation old.registers (words args.now) (outcome result (quadratic_state bank.new)) }
+    ensures kept { OnErr result (quadratic_state bank.new ≡ quadratic_state bank.old) }
 {
     match bank {
-        QuadraticBank::F17x2(regs) => act(alloc, operation, regs, args),
-        QuadraticBank::F17bx2(regs) => act(alloc, operation, regs, args),
-        QuadraticBank::Z15x2(regs) => act(alloc, operation, regs, args),
-        QuadraticBank::F31c(regs) => act(alloc, operation, regs, args),
+        QuadraticBank::F17x2(regs) => act_at_binomial(alloc, operation, regs, args),
+        QuadraticBank::F17bx2(regs) => act_at_binomial(alloc, operation, regs, args),
+        QuadraticBank::Z15x2(regs) => act_at_binomial(alloc, operation, regs, args),
+        QuadraticBank::F31c(regs) => act_at_complex(alloc, operation, regs, args),
     }
 }
 
@@ -150,13 +155,14 @@ fn act_at_middle<A: Allocator + Copy>(
     bank: &mut MiddleBank,
     args: &[u8],
 ) -> Result<Vec<u8, A>, Fault>
-    ensures { let old = middle_state bank.old in ComputesAt old.field operation old.registers (words args.now) (outcome result (middle_state bank.new)) }
+    ensures computes { let old = middle_state bank.old in ComputesAt old.field operation old.registers (words args.now) (outcome result (middle_state bank.new)) }
+    ensures kept { OnErr result (middle_state bank.new ≡ middle_state bank.old) }
 {
     match bank {
-        MiddleBank::F31x3(regs) => act(alloc, operation, regs, args),
-        MiddleBank::F31t3(regs) => act(alloc, operation, regs, args),
-        MiddleBank::F17x4(regs) => act(alloc, operation, regs, args),
-        MiddleBank::BabyBearx4(regs) => act(alloc, operation, regs, args),
+        MiddleBank::F31x3(regs) => act_at_binomial(alloc, operation, regs, args),
+        MiddleBank::F31t3(regs) => act_at_cubic(alloc, operation, regs, args),
+        MiddleBank::F17x4(regs) => act_at_binomial(alloc, operation, regs, args),
+        MiddleBank::BabyBearx4(regs) => act_at_binomial(alloc, operation, regs, args),
     }
 }
 
@@ -167,14 +173,15 @@ fn act_at_high<A: Allocator + Copy>(
     bank: &mut HighBank,
     args: &[u8],
 ) -> Result<Vec<u8, A>, Fault>
-    ensures { let old = high_state bank.old in ComputesAt old.field operation old.registers (words args.now) (outcome result (high_state bank.new)) }
+    ensures computes { let old = high_state bank.old in ComputesAt old.field operation old.registers (words args.now) (outcome result (high_state bank.new)) }
+    ensures kept { OnErr result (high_state bank.new ≡ high_state bank.old) }
 {
     match bank {
-        HighBank::F31x5(regs) => act(alloc, operation, regs, args),
-        HighBank::F17t5(regs) => act(alloc, operation, regs, args),
-        HighBank::F2t5(regs) => act(alloc, operation, regs, args),
-        HighBank::F31x6(regs) => act(alloc, operation, regs, args),
-        HighBank::F17x8(regs) => act(alloc, operation, regs, args),
+        HighBank::F31x5(regs) => act_at_binomial(alloc, operation, regs, args),
+        HighBank::F17t5(regs) => act_at_quintic(alloc, operation, regs, args),
+        HighBank::F2t5(regs) => act_at_quintic(alloc, operation, regs, args),
+        HighBank::F31x6(regs) => act_at_binomial(alloc, operation, regs, args),
+        HighBank::F17x8(regs) => act_at_binomial(alloc, operation, regs, args),
     }
 }
 
@@ -185,7 +192,8 @@ fn act_at<A: Allocator + Copy>(
     bank: &mut Bank,
     args: &[u8],
 ) -> Result<Vec<u8, A>, Fault>
-    ensures { let old = state_of bank.old in ComputesAt old.field operation old.registers (words args.now) (outcome result (state_of bank.new)) }
+    ensures computes { let old = state_of bank.old in ComputesAt old.field operation old.registers (words args.now) (outcome result (state_of bank.new)) }
+    ensures kept { OnErr result (state_of bank.new ≡ state_of bank.old) }
 {
     match *bank {
         Bank::Empty => Err(Fault::NoField),
@@ -212,13 +220,14 @@ fn act_at<A: Allocator + Copy>(
     }
 }
 
-/// Carries out a line, and answers its text.
+/// Carries out a line, and answers its text. A fault leaves the state as before.
 pub fn step<A: Allocator + Copy>(
     alloc: A,
     bank: &mut Bank,
     line: &[u8],
 ) -> Result<Vec<u8, A>, Fault>
-    ensures { May (state_of bank.old) line.now (outcome result (state_of bank.new)) }
+    ensures may { May (state_of bank.old) line.now (outcome result (state_of bank.new)) }
+    ensures kept { OnErr result (state_of bank.new ≡ state_of bank.old) }
 {
     if line.len() > 256 {
         return Err(Fault::LongLine);

@@ -22,8 +22,9 @@ pub trait Source {
     ghost bound: { Self → ℕ };
 
     /// Reads some bytes into the front of `buf`, and answers their count. No bytes, where there is
-    /// room, are the end of the input. An `Err` leaves the bytes as before.
+    /// room, are the end of the input. An `Err` leaves the bytes as before, and no read follows it.
     fn read(&mut self, buf: &mut [u8]) -> Result<usize, ReadFailed>
+        requires { failed self.old ≡ false }
         ensures count { IfOk result (λ n. n ≤ length buf.new) }
         ensures bytes { ReadConsumes (remaining self.old) (remaining self.new) result buf.new }
         ensures failure { TellsFailure (failed self.old) (failed self.new) result }
@@ -41,16 +42,19 @@ pub trait Sink {
     /// Whether a write has failed, or took none of some bytes.
     ghost failed: { Self → Bool };
 
-    /// Writes a front of the bytes, and answers its length. An `Err` leaves the bytes as before.
+    /// Writes a front of the bytes, and answers its length. An `Err` leaves the bytes as before, and
+    /// no write follows it, nor one that took none of some bytes.
     fn write(&mut self, bytes: &[u8]) -> Result<usize, WriteFailed>
+        requires { failed self.old ≡ false }
         ensures count { IfOk result (λ n. n ≤ length bytes.now) }
         ensures bytes { WriteAppends (contents self.old) (contents self.new) result bytes.now }
         ensures failure { TellsWriteFailure (failed self.old) (failed self.new) result (length bytes.now) };
 }
 
 /// Writes all the bytes, in as many writes as it takes. At `Err`, which stands for a write that
-/// failed or took none of some bytes, a front of them was written.
+/// failed or took none of some bytes, a front of them was written, and no write was made after it.
 pub fn write_all<W: Sink>(writer: &mut W, bytes: &[u8]) -> Result<(), WriteFailed>
+    requires { W.failed writer.old ≡ false }
     ensures all { OnOk result (Appends (W.contents writer.old) (W.contents writer.new) bytes.now) }
     ensures same { OnOk result (W.failed writer.new ≡ W.failed writer.old) }
     ensures front { OnErr result (AppendsFront (W.contents writer.old) (W.contents writer.new) bytes.now) }

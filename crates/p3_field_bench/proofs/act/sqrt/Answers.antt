@@ -7,8 +7,8 @@ use Rattle.p3_calculator_fields.specs.Fields.{ops}
 use Rattle.p3_calculator_fields.specs.Premise.{MeetsPremise}
 use Rattle.p3_field_bench.proofs.act.sqrt.Goals as goal
 
-pub returns-in_default : goal.returns-in_default
-returns-in_default g c =
+pub returns-in_default-clause-computes : goal.returns-in_default-clause-computes
+returns-in_default-clause-computes g c =
     let F = g.F.CalculatorField in
     let old = state_at F.spec F.coefficients c.args.regs.now in
     let spec = F.spec in

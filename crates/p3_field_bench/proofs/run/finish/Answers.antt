@@ -14,7 +14,7 @@ pub returns-in-Err : goal.returns-in-Err
 returns-in-Err g c = λ bytes text st.
     let m = c.args.machine.now in
     let line = fault_line m.number c.in-Err.fault in
-    let whole = last_line m bytes text line 1 st (some_pending m c.if-machine-eq0.false) (Faults c.in-Err.fault, c.in-Err.ensures, (refl, refl)) in
+    let whole = last_line m bytes text line 1 st (some_pending m c.if-machine-eq0.false) (Faults c.in-Err.fault, c.in-Err.ensures.may, (refl, refl)) in
     elim c.end_with.ensures [
       | inl h ↦ (line, h.2, inl (h.1, rw h.0 whole))
       | inr h ↦ (take h.2.0 line, h.2.2, inr (h.0, h.1, (drop h.2.0 line, 1, rw (front_rest text line h.2.0) whole)))
@@ -30,7 +30,7 @@ returns-in-Ok-write_all g c = λ bytes text st.
       written,
       inl (
         c.in-Ok-write_all.ensures.same,
-        last_line m bytes text out 0 st (some_pending m c.if-machine-eq0.false) (Continues (state_of c.step.new.bank) out, c.in-Ok.ensures, ([], (refl, refl), sym (append-nil out))),
+        last_line m bytes text out 0 st (some_pending m c.if-machine-eq0.false) (Continues (state_of c.step.new.bank) out, c.in-Ok.ensures.may, ([], (refl, refl), sym (append-nil out))),
       ),
     )
 
@@ -41,5 +41,5 @@ returns g c = λ bytes text st.
     let out = c.in-Ok.text.items in
     let front = c.in-Err-write_all.ensures.front in
     let written = subst (λ (l : List ℕ). Appends (told c.args.writer.now) (told c.write_all.new.writer) (take front.0 l)) c.deref.ensures.value front.2 in
-    let whole = last_line m bytes text out 0 st (some_pending m c.if-machine-eq0.false) (Continues (state_of c.step.new.bank) out, c.in-Ok.ensures, ([], (refl, refl), sym (append-nil out))) in
+    let whole = last_line m bytes text out 0 st (some_pending m c.if-machine-eq0.false) (Continues (state_of c.step.new.bank) out, c.in-Ok.ensures.may, ([], (refl, refl), sym (append-nil out))) in
     (take front.0 out, written, inr (refl, c.in-Err-write_all.ensures.failed, (drop front.0 out, 0, rw (front_rest text out front.0) whole)))
