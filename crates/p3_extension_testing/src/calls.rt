@@ -137,7 +137,7 @@ pub fn assert_inverses_or_zero<T: Tabled>(rt: &impl Abort, rows: &[(T::Row, T::R
     }
 }
 
-/// W, the root, and the chosen element's coefficients at 1 and X, as canonical values.
+/// W, the root, and the generator candidate's coefficients at 1 and X, as canonical values.
 pub fn constants<F: BinomiallyExtendable<D> + Canonical, const D: usize>() -> [u64; 4]
     requires { 1 < D }
 {

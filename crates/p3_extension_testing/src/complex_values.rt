@@ -26,6 +26,7 @@ fn complex_values(rt: HostRuntime) {
     assert!(rt; z.imag() == F31::new(2));
     assert!(rt; F31c::new_real(F31::new(3)) == complex(3, 0));
     assert!(rt; F31c::new_imag(F31::new(2)) == complex(0, 2));
+    assert!(rt; F31::complex_generator() == z);
     assert!(rt;
         <F31 as BinomiallyExtendable<2>>::binomial_algebra_id() == "p3-power-basis-v1:X^2+1"
     );

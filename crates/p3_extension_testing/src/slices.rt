@@ -31,12 +31,12 @@ fn products_where_something_was(rt: HostRuntime) {
     let mut res = mod_31([1, 1, 1, 1, 1, 1]);
     let high = mod_31([0, 0, 0, 0, 0, 1]);
     let x = mod_31([0, 1, 0, 0, 0, 0]);
-    binomial_mul::<F31, F31, 6>(&high, &x, &mut res, F31::new(3));
+    binomial_mul::<F31, F31, F31, 6>(&high, &x, &mut res, F31::new(3));
     assert_eq!(rt; res, mod_31([4, 1, 1, 1, 1, 1]));
     let mut res = mod_17([1, 1, 1, 1]);
     let high = mod_17([0, 0, 0, 1]);
     let x = mod_17([0, 1, 0, 0]);
-    binomial_mul::<F17, F17, 4>(&high, &x, &mut res, F17::new(3));
+    binomial_mul::<F17, F17, F17, 4>(&high, &x, &mut res, F17::new(3));
     assert_eq!(rt; res, mod_17([3, 0, 0, 0]));
 }
 

@@ -9,4 +9,6 @@ mod outside_runs;
 #[cfg(test)]
 mod runs;
 #[cfg(test)]
+mod standard_streams;
+#[cfg(test)]
 mod worked_runs;

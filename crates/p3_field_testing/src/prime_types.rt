@@ -244,6 +244,19 @@ fn residues_of_order_17(rt: HostRuntime) -> Result<(), Fail> {
     Ok(())
 }
 
+/// A value's text is its canonical number, whatever the formatter is told of its form and width.
+#[test]
+fn texts_of_residues(rt: HostRuntime) -> Result<(), Fail> {
+    for n in 0..31u32 {
+        let number = format!(in rt.alloc(); "{n}")?;
+        let x = F31::new(n);
+        assert!(rt; format!(in rt.alloc(); "{x}")?.as_str() == number.as_str());
+        assert!(rt; format!(in rt.alloc(); "{x:#}")?.as_str() == number.as_str());
+        assert!(rt; format!(in rt.alloc(); "{x:>8}")?.as_str() == number.as_str());
+    }
+    Ok(())
+}
+
 #[test]
 fn residues_of_goldilocks(rt: HostRuntime) -> Result<(), Fail> {
     let x = Goldilocks::from_int(-1i128);

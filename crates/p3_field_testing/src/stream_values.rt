@@ -1,5 +1,6 @@
 //! Worked values of the streams of bytes and words.
 
+use p3_bench_prime::extensions::F17x2;
 use p3_bench_prime::goldilocks::Goldilocks;
 use p3_bench_prime::small::F17;
 use p3_field::{PrimeField64, RawDataSerializable, into_parallel_u64_streams};
@@ -12,6 +13,18 @@ fn bytes_of_values(rt: HostRuntime) -> Result<(), Fail> {
     let items = [Goldilocks::new(258)];
     let bytes: Vec<u8> = Goldilocks::into_byte_stream(items.iter().copied()).collect(rt.alloc())?;
     assert_eq!(rt; bytes.as_slice(), [2u8, 1, 0, 0, 0, 0, 0, 0].as_slice());
+    Ok(())
+}
+
+#[test]
+fn bytes_of_extension_values(rt: HostRuntime) -> Result<(), Fail> {
+    let items = [
+        F17x2::new([F17::new(1), F17::new(2)]),
+        F17x2::new([F17::new(20), F17::new(16)]),
+    ];
+    let bytes: Vec<u8> = F17x2::into_byte_stream(items.iter().copied()).collect(rt.alloc())?;
+    let expected = [1u8, 0, 0, 0, 2, 0, 0, 0, 3, 0, 0, 0, 16, 0, 0, 0];
+    assert_eq!(rt; bytes.as_slice(), expected.as_slice());
     Ok(())
 }
 
