@@ -11,6 +11,7 @@ pub mod field_bytes;
 mod hints;
 pub mod in_memory;
 pub mod monomials;
+pub mod packed_field_extension;
 pub mod parallel_streams;
 pub mod sampling;
 pub mod streams;

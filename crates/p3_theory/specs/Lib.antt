@@ -8,3 +8,4 @@ pub mod Inverses
 pub mod FrobeniusMaps
 pub mod ResidueRings
 pub mod Roots
+pub mod Lanes
