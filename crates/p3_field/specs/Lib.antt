@@ -6,6 +6,8 @@ pub use Rattle.p3_theory.specs.FrobeniusMaps.BinomialFrobenius
 pub use Rattle.p3_theory.specs.FrobeniusMaps.Frobenius
 pub use Rattle.p3_theory.specs.FrobeniusMaps.FrobeniusTable
 pub use Rattle.p3_theory.specs.Inverses.ListInverses
+pub use Rattle.p3_theory.specs.Lanes.Interleaves
+pub use Rattle.p3_theory.specs.Lanes.Lanes
 pub use Rattle.p3_theory.specs.Lists.ListOrder
 pub use Rattle.p3_theory.specs.Lists.PairedLists
 pub use Rattle.p3_theory.specs.Polynomials.Coefficients

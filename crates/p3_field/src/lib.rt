@@ -4,7 +4,7 @@
 pub mod laws;
 
 pub use p3_base::field::{Field, PrimeField, PrimeField32, PrimeField64, TwoAdicField};
-pub use p3_base::packed_traits::Packable;
+pub use p3_base::packed_traits::{Packable, PackedField, PackedFieldPow2, PackedValue};
 pub use p3_base::sqrt::{
     Turns, tonelli_shanks, tonelli_shanks_counted, tonelli_shanks_two_adic,
     tonelli_shanks_two_adic_counted,
@@ -34,6 +34,7 @@ pub use p3_spaces::field_bounds::{FieldBounds, PrimeFieldBounds};
 pub use p3_spaces::field_bytes::{PrimeField32Bytes, PrimeField64Bytes};
 pub use p3_spaces::in_memory::InMemory;
 pub use p3_spaces::monomials::{InjectiveMonomial, PermutationMonomial};
+pub use p3_spaces::packed_field_extension::PackedFieldExtension;
 pub use p3_spaces::parallel_streams::{
     ParallelByteStreams, ParallelU32Streams, ParallelU64Streams, into_parallel_byte_streams,
     into_parallel_u32_streams, into_parallel_u64_streams,
