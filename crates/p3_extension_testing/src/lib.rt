@@ -25,6 +25,8 @@ mod square_root_tables;
 #[cfg(test)]
 mod square_roots;
 #[cfg(test)]
+mod tower_values;
+#[cfg(test)]
 mod trinomial_tables;
 #[cfg(test)]
 mod values;
