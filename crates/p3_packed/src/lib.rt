@@ -1,0 +1,4 @@
+//! Extension values side by side: each coefficient is a packing.
+#![tactic(auto)]
+
+pub mod packed_ext_field;
