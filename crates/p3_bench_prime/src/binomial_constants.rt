@@ -4,8 +4,14 @@ ghost use Rattle.p3_theory.specs.ResidueRings.RootsOfUnity.{is_root_of_unity};
 
 use crate::form::Form;
 use crate::fp::Fp;
-use p3_ext::extension::{Binomial, BinomiallyExtendable, ExtensionAlgebra, ExtensionProduct};
-use p3_products::binomial_extension::{ring_product, ring_square};
+use p3_ext::extension::{
+    Binomial, BinomiallyExtendable, ExtensionAlgebra, ExtensionOverAlgebra, ExtensionProduct,
+    PackedProduct,
+};
+use p3_products::binomial_extension::{
+    binomial_product, binomial_square, ring_product, ring_square,
+};
+use p3_ring::ring::{Algebra, PrimeCharacteristicRing};
 
 /// The constants of the extension of `Fp` by `X^D = W`, as numbers, for the marker of a form. It
 /// stands for what upstream writes in each impl of `BinomiallyExtendable`.
@@ -122,4 +128,40 @@ impl<W: BinomialConstants<D>, const D: usize> BinomiallyExtendable<D> for Fp<W> 
     ghost root_power = { root_power (is W.Form) D W.DTH_ROOT W.inverses W.root_of_unity };
 
     ghost apart = { root_apart (is W.Form) D W.DTH_ROOT W.inverses W.root_of_unity };
+}
+
+impl<W: BinomialConstants<D>, P: Algebra<Fp<W>>, const D: usize> PackedProduct<
+    P,
+    D,
+    Binomial<Fp<W>>,
+> for Fp<W> {
+    ghost use Rattle.p3_theory.specs.Polynomials.Polynomial.{quotient_mul, binomial};
+    ghost use Rattle.p3_bench_prime.specs.Elements.{of};
+
+    ghost packed_product_gives = { λ a b r. r ≡ quotient_mul P.ops D (binomial P.ops D (P.embed (of W.Form W.W))) a b };
+
+    #[inline]
+    fn packed_product(a: &[P], b: &[P], res: &mut [P]) {
+        binomial_product::<Self, P, D>(a, b, res, Self::new(W::W));
+    }
+
+    #[inline]
+    fn packed_square(a: &[P], res: &mut [P]) {
+        let mut square = [P::zero(); D];
+        binomial_square::<Self, P, D>(a, &mut square, Self::new(W::W));
+        res.copy_from_slice(&square);
+    }
+}
+
+impl<W: BinomialConstants<D>, P: Algebra<Fp<W>>, const D: usize> ExtensionOverAlgebra<
+    P,
+    D,
+    Binomial<Fp<W>>,
+> for Fp<W> {
+    ghost use Rattle.std.proofs.Common.{◌∙◌, ap, sym, map};
+    ghost use Rattle.p3_theory.specs.Polynomials.Polynomial.{quotient_mul};
+    ghost use Rattle.p3_theory.specs.FrobeniusMaps.TableEntries.{binomial-along};
+    ghost use Rattle.p3_bench_prime.specs.Elements.{of};
+
+    ghost packed_products = { λ a b r h. h ∙ sym (ap (λ f. quotient_mul P.ops D f a b) (binomial-along P.embeds D (of W.Form W.W))) };
 }

@@ -1,4 +1,4 @@
-ghost use Rattle.std.specs.Prelude.{◌≡◌, ◌≤◌, ◌<◌, ◌+◌, ℕ, List, length, replicate};
+ghost use Rattle.std.specs.Prelude.{◌≡◌, ◌≤◌, ◌<◌, ◌+◌, ℕ, List, length, map, replicate};
 ghost use Rattle.p3_theory.specs.Rings.Ring.{Ops, Invertible, IsInverse, subtract};
 ghost use Rattle.p3_theory.specs.Polynomials.Polynomial.{IsMonic, at, quotient_mul, quotient_add, quotient_ops, embed, binomial};
 ghost use Rattle.p3_theory.specs.Inverses.ListInverses.{HasNoInverse};
@@ -182,6 +182,43 @@ pub trait ExtensionAlgebra<F: Copy, const D: usize, S: ExtensionShape>: PrimeCha
 
     /// The product is the remainder of the convolution modulo the polynomial.
     ghost ext_products: { (a b r : List Self) → Self.ext_product_gives a b r → r ≡ quotient_mul Self.ops D modulus a b };
+}
+
+/// The product of coefficient lists whose coefficients are packings of the field, under the smallest
+/// bounds. `*` of a packed extension stands on it; upstream has the product in `ExtensionAlgebra`.
+pub trait PackedProduct<P, const D: usize, S>: Copy {
+    /// What the product may answer.
+    ghost packed_product_gives: { List P → List P → List P → Type 0 };
+
+    /// The product of two lists of D packings, written to `res`, whatever it held.
+    fn packed_product(a: &[P], b: &[P], res: &mut [P])
+        requires left { length a.now ≡ D }
+        requires right { length b.now ≡ D }
+        requires room { length res.old ≡ D }
+        ensures { packed_product_gives a.now b.now res.new };
+
+    /// The square of a list of D packings, written to `res`, whatever it held. A type with a faster
+    /// formula gives it.
+    #[inline]
+    fn packed_square(a: &[P], res: &mut [P])
+        requires input { length a.now ≡ D }
+        requires room { length res.old ≡ D }
+        ensures { packed_product_gives a.now a.now res.new }
+    {
+        Self::packed_product(a, a, res);
+    }
+}
+
+/// A ring whose extension modulo the shape's polynomial also multiplies lists of elements of the
+/// algebra P, modulo the same polynomial. It stands for upstream's `ExtensionAlgebra` of a packing.
+pub trait ExtensionOverAlgebra<
+    P: Algebra<Self>,
+    const D: usize,
+    S: ExtensionShape,
+>: ExtensionAlgebra<Self, D, S>
+    + PackedProduct<P, D, S> {
+    /// The product is the remainder of the convolution modulo the polynomial, embedded.
+    ghost packed_products: { (a b r : List P) → Self.packed_product_gives a b r → r ≡ quotient_mul P.ops D (map P.embed Self.modulus) a b };
 }
 
 /// A field with a W and a root of unity, for the extension of degree D by `X^D = W`. Upstream's

@@ -1,0 +1,56 @@
+use crate::packed_ext_field::PackedExtField;
+use p3_ext::extension::{ExtensionAlgebra, ExtensionShape};
+use p3_ring::ring::PrimeCharacteristicRing;
+use p3_spaces::array_chunks::take_up_to;
+use p3_spaces::basis::BasedVectorSpace;
+
+/// The basis is 1, X, .., X^(D-1).
+impl<
+    F: ExtensionAlgebra<F, D, S>,
+    const D: usize,
+    S: ExtensionShape,
+    P: PrimeCharacteristicRing,
+> BasedVectorSpace<P> for PackedExtField<F, D, S, P> {
+    ghost use Rattle.std.specs.Prelude.{[]};
+    ghost use Rattle.p3_ext.specs.Bases.{some_place};
+    ghost use Rattle.p3_packed.specs.PackedValues.{same_packed, packed_with};
+
+    const DIMENSION: usize = D;
+
+    ghost DIMENSION = { D };
+
+    ghost coefficients = { λ x. x.value.value };
+
+    #[inline]
+    fn as_basis_coefficients_slice(&self) -> &[P] {
+        &self.value.value
+    }
+
+    #[inline]
+    fn from_basis_coefficients_fn<G: FnMut(usize) -> P>(f: G) -> Self {
+        Self::new(std::array::from_fn(f))
+    }
+
+    #[inline]
+    fn from_basis_coefficients_iter<I: ExactSizeIterator<Item = P> + Drop>(
+        mut iter: I,
+    ) -> Option<Self> {
+        let mut value = [P::zero(); D];
+        let count = take_up_to(&mut iter, &mut value);
+        if count < D {
+            return None;
+        }
+        match iter.next() {
+            None => Some(Self::new(value)),
+            Some(_) => None,
+        }
+    }
+
+    ghost lengths = { λ x. x.value.sized };
+
+    ghost same = { same_packed P.ops [] };
+
+    ghost onto = { packed_with };
+
+    ghost positive = { some_place F.at_least_two };
+}

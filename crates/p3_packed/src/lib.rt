@@ -1,0 +1,6 @@
+//! Extension values side by side: each coefficient is a packing.
+#![tactic(auto)]
+
+pub mod algebra;
+pub mod basis;
+pub mod packed_ext_field;
