@@ -1,9 +1,9 @@
 //! The lanes of packings, and which packings the bench's prime fields have.
-ghost use Rattle.std.specs.Prelude.{◌<◌};
+ghost use Rattle.std.specs.Prelude.{◌≡◌, ◌<◌, ◌^◌, ℕ};
 
 use crate::packed::Packed;
 use p3_base::field::Field;
-use p3_base::packed_traits::{Packable, PackedField, PackedValue};
+use p3_base::packed_traits::{Packable, PackedField, PackedFieldPow2, PackedValue};
 use p3_bench_prime::form::{Form, Word};
 use p3_bench_prime::fp::Fp;
 
@@ -44,9 +44,13 @@ impl<F: Packable, const N: usize> PackedValue for Packed<F, N> {
     }
 }
 
-/// A field whose values stand in packings of N lanes.
+/// A field whose values stand in packings of N lanes, a power of two.
 pub trait Lanes<const N: usize>: Field + Packable {
+    /// There is at least one lane.
     ghost some_lane: { 0 < N };
+
+    /// The number of lanes is a power of two.
+    ghost power_of_two: { (k : ℕ) × (N ≡ 2 ^ k) };
 }
 
 impl<F: Lanes<N>, const N: usize> PackedField<F> for Packed<F, N> {
@@ -80,32 +84,68 @@ impl<F: Lanes<N>, const N: usize> PackedField<F> for Packed<F, N> {
     ghost divide_assigns_scalar = { λ x f r h. written_mixed_quotient packed_rows F.ops x f r (λ d k w. F.divides _ _ _ (h d k w)) };
 }
 
+impl<F: Lanes<N>, const N: usize> PackedFieldPow2<F> for Packed<F, N> {
+    #[inline]
+    fn interleave(&self, other: Self, block_len: usize) -> (Self, Self) {
+        if block_len == N {
+            return (*self, other);
+        }
+        let mut first = self.value;
+        let mut second = other.value;
+        for i in 0..N {
+            if (i / block_len) % 2 == 0 {
+                first[i] = self.value[i];
+                second[i] = self.value[i + block_len];
+            } else {
+                first[i] = other.value[i - block_len];
+                second[i] = other.value[i];
+            }
+        }
+        (Self::new(first), Self::new(second))
+    }
+}
+
 impl<W: Form<T>, T: Word> Lanes<1> for Fp<W, T> {
+    ghost use Rattle.std.specs.Prelude.{refl};
     ghost use Rattle.std.proofs.Common.{lit<};
 
     ghost some_lane = { lit< tt };
+
+    ghost power_of_two = { (0, refl) };
 }
 
 impl<W: Form<T>, T: Word> Lanes<2> for Fp<W, T> {
+    ghost use Rattle.std.specs.Prelude.{refl};
     ghost use Rattle.std.proofs.Common.{lit<};
 
     ghost some_lane = { lit< tt };
+
+    ghost power_of_two = { (1, refl) };
 }
 
 impl<W: Form<T>, T: Word> Lanes<4> for Fp<W, T> {
+    ghost use Rattle.std.specs.Prelude.{refl};
     ghost use Rattle.std.proofs.Common.{lit<};
 
     ghost some_lane = { lit< tt };
+
+    ghost power_of_two = { (2, refl) };
 }
 
 impl<W: Form<T>, T: Word> Lanes<8> for Fp<W, T> {
+    ghost use Rattle.std.specs.Prelude.{refl};
     ghost use Rattle.std.proofs.Common.{lit<};
 
     ghost some_lane = { lit< tt };
+
+    ghost power_of_two = { (3, refl) };
 }
 
 impl<W: Form<T>, T: Word> Lanes<16> for Fp<W, T> {
+    ghost use Rattle.std.specs.Prelude.{refl};
     ghost use Rattle.std.proofs.Common.{lit<};
 
     ghost some_lane = { lit< tt };
+
+    ghost power_of_two = { (4, refl) };
 }

@@ -59,8 +59,8 @@ impl<F: PrimeCharacteristicRing, const N: usize> Product<F> for Packed<F, N> {
     /// The product of the items in all lanes.
     #[inline]
     fn product<I: Iterator<Item = F>>(iter: I) -> Self {
-        let total = product_from(F::one(), iter);
-        Self::from(total)
+        let product = product_from(F::one(), iter);
+        Self::from(product)
     }
 }
 

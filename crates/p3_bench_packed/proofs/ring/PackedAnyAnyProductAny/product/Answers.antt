@@ -8,12 +8,12 @@ pub returns : goal.returns
 returns g c =
     let o = g.F.PrimeCharacteristicRing.ops in
     let m = g.met.F.PrimeCharacteristicRing in
-    let ran = c.product_from-total.ensures.ran in
+    let ran = c.product_from-product.ensures.ran in
     record {
       ran = (
         ran.0,
         λ _. ran.1,
-        written_constant packed_rows o c.from.result c.product_from-total.result c.from.ensures
-            ∙ ap (constant packed_rows o) (product_from_one m.ring _ m.muls.answer c.one.result c.one.ensures ran.0 c.product_from-total.result ran.2),
+        written_constant packed_rows o c.from.result c.product_from-product.result c.from.ensures
+            ∙ ap (constant packed_rows o) (product_from_one m.ring _ m.muls.answer c.one.result c.one.ensures ran.0 c.product_from-product.result ran.2),
       );
     }
