@@ -1,0 +1,151 @@
+//! The lanes of packings, and which packings the bench's prime fields have.
+ghost use Rattle.std.specs.Prelude.{◌≡◌, ◌<◌, ◌^◌, ℕ};
+
+use crate::packed::Packed;
+use p3_base::field::Field;
+use p3_base::packed_traits::{Packable, PackedField, PackedFieldPow2, PackedValue};
+use p3_bench_prime::form::{Form, Word};
+use p3_bench_prime::fp::Fp;
+
+impl<F: Packable, const N: usize> PackedValue for Packed<F, N> {
+    type Value = F;
+
+    const WIDTH: usize = N;
+
+    ghost WIDTH = { N };
+
+    ghost lanes = { λ x. x.value };
+
+    #[inline]
+    fn broadcast(value: F) -> Self {
+        Self::new([value; N])
+    }
+
+    #[inline]
+    fn from_slice(slice: &[F]) -> Self {
+        Self::new(<[F; N]>::try_from(slice).unwrap())
+    }
+
+    #[inline]
+    fn to_slice(&self, out: &mut [F]) {
+        out.copy_from_slice(&self.value);
+    }
+
+    #[inline]
+    fn extract(&self, lane: usize) -> F {
+        self.value[lane]
+    }
+
+    #[inline]
+    fn set_lane(&mut self, lane: usize, value: F) {
+        let mut lanes = self.value;
+        lanes[lane] = value;
+        *self = Self::new(lanes);
+    }
+}
+
+/// A field whose values stand in packings of N lanes, a power of two.
+pub trait Lanes<const N: usize>: Field + Packable {
+    /// There is at least one lane.
+    ghost some_lane: { 0 < N };
+
+    /// The number of lanes is a power of two.
+    ghost power_of_two: { (k : ℕ) × (N ≡ 2 ^ k) };
+}
+
+impl<F: Lanes<N>, const N: usize> PackedField<F> for Packed<F, N> {
+    ghost use Rattle.p3_theory.specs.Lanes.RowRing.{items_keep, items-constant, unit_at_item, written_quotient, written_mixed_quotient};
+    ghost use Rattle.p3_bench_packed.specs.Values.{packed_rows, same_value};
+
+    ghost some_lane = { F.some_lane };
+
+    ghost lengths = { λ x. x.sized };
+
+    ghost same = { same_value };
+
+    ghost keeps = { items_keep packed_rows F.ops };
+
+    ghost injects = { items-constant packed_rows F.ops };
+
+    ghost can_divide = { λ x y h d k w. F.can_divide _ _ (unit_at_item packed_rows F.ops y h d k w) };
+
+    ghost divides = { λ x y r h. written_quotient packed_rows F.ops x y r (λ d k w. F.divides _ _ _ (h d k w)) };
+
+    ghost can_divide_assign = { λ x y h d k w. F.can_divide _ _ (unit_at_item packed_rows F.ops y h d k w) };
+
+    ghost divide_assigns = { λ x y r h. written_quotient packed_rows F.ops x y r (λ d k w. F.divides _ _ _ (h d k w)) };
+
+    ghost can_divide_scalar = { λ x f h d k w. F.can_divide _ _ h };
+
+    ghost divides_scalar = { λ x f r h. written_mixed_quotient packed_rows F.ops x f r (λ d k w. F.divides _ _ _ (h d k w)) };
+
+    ghost can_divide_assign_scalar = { λ x f h d k w. F.can_divide _ _ h };
+
+    ghost divide_assigns_scalar = { λ x f r h. written_mixed_quotient packed_rows F.ops x f r (λ d k w. F.divides _ _ _ (h d k w)) };
+}
+
+impl<F: Lanes<N>, const N: usize> PackedFieldPow2<F> for Packed<F, N> {
+    #[inline]
+    fn interleave(&self, other: Self, block_len: usize) -> (Self, Self) {
+        if block_len == N {
+            return (*self, other);
+        }
+        let mut first = self.value;
+        let mut second = other.value;
+        for i in 0..N {
+            if (i / block_len) % 2 == 0 {
+                first[i] = self.value[i];
+                second[i] = self.value[i + block_len];
+            } else {
+                first[i] = other.value[i - block_len];
+                second[i] = other.value[i];
+            }
+        }
+        (Self::new(first), Self::new(second))
+    }
+}
+
+impl<W: Form<T>, T: Word> Lanes<1> for Fp<W, T> {
+    ghost use Rattle.std.specs.Prelude.{refl};
+    ghost use Rattle.std.proofs.Common.{lit<};
+
+    ghost some_lane = { lit< tt };
+
+    ghost power_of_two = { (0, refl) };
+}
+
+impl<W: Form<T>, T: Word> Lanes<2> for Fp<W, T> {
+    ghost use Rattle.std.specs.Prelude.{refl};
+    ghost use Rattle.std.proofs.Common.{lit<};
+
+    ghost some_lane = { lit< tt };
+
+    ghost power_of_two = { (1, refl) };
+}
+
+impl<W: Form<T>, T: Word> Lanes<4> for Fp<W, T> {
+    ghost use Rattle.std.specs.Prelude.{refl};
+    ghost use Rattle.std.proofs.Common.{lit<};
+
+    ghost some_lane = { lit< tt };
+
+    ghost power_of_two = { (2, refl) };
+}
+
+impl<W: Form<T>, T: Word> Lanes<8> for Fp<W, T> {
+    ghost use Rattle.std.specs.Prelude.{refl};
+    ghost use Rattle.std.proofs.Common.{lit<};
+
+    ghost some_lane = { lit< tt };
+
+    ghost power_of_two = { (3, refl) };
+}
+
+impl<W: Form<T>, T: Word> Lanes<16> for Fp<W, T> {
+    ghost use Rattle.std.specs.Prelude.{refl};
+    ghost use Rattle.std.proofs.Common.{lit<};
+
+    ghost some_lane = { lit< tt };
+
+    ghost power_of_two = { (4, refl) };
+}

@@ -1,0 +1,8 @@
+//! Packings of the bench's prime fields: `Packed<F, N>`, N values of a field side by side.
+#![tactic(auto)]
+
+pub mod lanes;
+pub mod operators;
+pub mod packed;
+pub mod ring;
+pub mod scalar_operators;
