@@ -1,0 +1,5 @@
+//! Vectors of packings, and runs of steps over them.
+#![tactic(auto)]
+
+pub mod steps;
+pub mod vectorized_ext;
