@@ -2,4 +2,5 @@
 #![tactic(auto)]
 
 pub mod steps;
+pub mod vectorized;
 pub mod vectorized_ext;

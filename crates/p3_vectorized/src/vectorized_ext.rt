@@ -1,4 +1,4 @@
-ghost use Rattle.std.specs.Prelude.{◌≡◌, ◌<◌, ◌*◌, ℕ, length, get_or, map};
+ghost use Rattle.std.specs.Prelude.{◌≡◌, ◌<◌, ◌*◌, ℕ, length, get_or, replicate};
 ghost use Rattle.p3_theory.specs.Rings.Ring.{subtract};
 ghost use Rattle.p3_theory.specs.Lanes.VectorLanes.{vector_lane};
 
@@ -9,11 +9,13 @@ use p3_ring::ring::{PrimeCharacteristicRing, RingSums};
 use p3_spaces::extension_field::ExtensionField;
 use p3_spaces::packed_field_extension::PackedFieldExtension;
 use std::alloc::AllocError;
+use std::fmt;
 use std::iter::{Product, Sum};
 use std::marker::{Model, PhantomData};
 use std::ops::{Add, AddAssign, Mul, MulAssign, Neg, Sub, SubAssign};
 
-/// N packings of extension values.
+/// N packings of extension values, one after the other. Upstream's `VectorizedExt`, with the packing
+/// as a parameter.
 pub struct VectorizedExt<F, EF, PE: PrimeCharacteristicRing, const N: usize>(
     pub [PE; N],
     PhantomData<(F, EF)>,
@@ -39,6 +41,13 @@ impl<F, EF, PE: PrimeCharacteristicRing, const N: usize> Model for VectorizedExt
 
 impl<F: Copy, EF: Copy, PE: PrimeCharacteristicRing, const N: usize> Clone
     for VectorizedExt<F, EF, PE, N> {
+    ghost use Rattle.std.specs.Prelude.{⊤};
+
+    ghost is_clone = { λ x y. y ≡ x };
+
+    ghost is_infallible = { λ _. ⊤ };
+
+    #[inline]
     fn clone(&self) -> Result<Self, AllocError> {
         Ok(*self)
     }
@@ -48,6 +57,7 @@ impl<F: Copy, EF: Copy, PE: PrimeCharacteristicRing, const N: usize> Copy
     for VectorizedExt<F, EF, PE, N> {}
 
 impl<F: Copy, EF: Copy, PE: PrimeCharacteristicRing, const N: usize> VectorizedExt<F, EF, PE, N> {
+    /// The vector of these packings. This project's own: upstream writes the array alone.
     #[tactic(auto, using(p3_theory::specs::Lanes::Rows::fit_same))]
     #[inline]
     pub fn new(items: [PE; N]) -> Self
@@ -56,11 +66,32 @@ impl<F: Copy, EF: Copy, PE: PrimeCharacteristicRing, const N: usize> VectorizedE
         VectorizedExt(items, PhantomData)
     }
 
+    /// The packings.
     #[inline]
     fn items(self) -> [PE; N]
         ensures { result ≡ self.items }
     {
         self.0
+    }
+}
+
+/// Zero. Upstream's `Default`.
+impl<F: Copy, EF: Copy, PE: PrimeCharacteristicRing, const N: usize> Default
+    for VectorizedExt<F, EF, PE, N> {
+    ghost is_default = { λ x. x.items ≡ replicate N PE.ops.zero };
+
+    /// The vector of zeros.
+    #[inline]
+    fn default() -> Self {
+        Self::new([PE::zero(); N])
+    }
+}
+
+/// The packings as a list. No contract speaks of the text.
+impl<F, EF, PE: PrimeCharacteristicRing + fmt::Debug, const N: usize> fmt::Debug
+    for VectorizedExt<F, EF, PE, N> {
+    fn fmt<W: fmt::Write>(&self, f: &mut fmt::Formatter<W>) -> fmt::Result {
+        fmt::Debug::fmt(&self.0, f)
     }
 }
 
@@ -235,6 +266,17 @@ impl<F: Copy, EF: Copy, PE: PrimeCharacteristicRing, const N: usize> PrimeCharac
         Self::new(items)
     }
 
+    #[inline]
+    fn square(&self) -> Self {
+        let xs = self.items();
+        let mut items = xs;
+        for i in 0..N {
+            let x = xs[i];
+            items[i] = x.square();
+        }
+        Self::new(items)
+    }
+
     ghost ring = { row_laws rows PE.ops PE.ring };
 
     ghost characteristic = { row_characteristic rows PE.ops PE.PrimeSubfield.order PE.characteristic };
@@ -267,7 +309,8 @@ impl<
     PE: PackedFieldExtension<F, EF>,
     const N: usize,
 > VectorizedExt<F, EF, PE, N> {
-    /// The value at a lane: lane `lane mod WIDTH` of part `lane / WIDTH`.
+    /// The value at a lane: lane `lane % WIDTH` of packing `lane / WIDTH`, where `WIDTH` is the
+    /// number of lanes of a packing. The lane is below `WIDTH * N`. Upstream's `extract`.
     #[inline]
     pub fn extract(&self, lane: usize) -> EF
         requires { lane < PE.Base.WIDTH * N }
