@@ -1,12 +1,12 @@
 -- What is written index by index.
-use Rattle.std.specs.Prelude.{◌≡◌, ◌<◌, ◌≤◌, ℕ, List, get_or}
+use Rattle.std.specs.Prelude.{◌≡◌, ◌<◌, ◌≤◌, ℕ, List, get_or, replicate}
 use Rattle.std.proofs.Common.{ap, ap₂, ◌∙◌, sym, arith}
 use Rattle.p3_theory.specs.Rings.Ring.{Ops}
 use Rattle.p3_theory.specs.Rings.Powers.{power}
 use Rattle.p3_theory.specs.Rings.Multiples.{two}
 use Rattle.p3_theory.specs.Rings.Homomorphism.{map-power}
 use Rattle.p3_theory.specs.Lanes.Rows.{Rows}
-use Rattle.p3_theory.specs.Lanes.RowRing.{row_ops, item, item_keeps, is_row, written_product}
+use Rattle.p3_theory.specs.Lanes.RowRing.{row_ops, item, item_keeps, is_row, written_product, constant, filled}
 
 module _ {V A : Type 0} {n : ℕ} (R : Rows V A n) (O : Ops A) where
   -- the product of two rows, from a list that is written up to i
@@ -32,3 +32,7 @@ module _ {V A : Type 0} {n : ℕ} (R : Rows V A n) (O : Ops A) where
       is_row R O r _ (λ k b.
       ap (λ l. get_or l k O.zero) er ∙ w O.zero k (omega (arith, h, b)) ∙ ap (λ l. O.mul (get_or l k O.zero) (power O (two O) e)) ex
       ∙ ap (O.mul (item R O k x)) (sym (item-shift e k b)))
+
+  -- one value at every index, from a list of it
+  pub written_embedding : (x : V) (v w : A) → R.items x ≡ replicate n v → v ≡ w → x ≡ constant R O w
+  written_embedding x v w e h = filled R O x v w e h

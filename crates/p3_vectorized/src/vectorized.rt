@@ -1,3 +1,6 @@
+//! Vectors of packings of field values.
+mod algebra;
+
 ghost use Rattle.std.specs.Prelude.{◌≡◌, ◌<◌, ℕ, length, get_or, replicate};
 ghost use Rattle.p3_theory.specs.Rings.Ring.{subtract};
 
@@ -253,6 +256,17 @@ impl<F: Copy, P: PrimeCharacteristicRing, const N: usize> PrimeCharacteristicRin
         for i in 0..N {
             let x = xs[i];
             items[i] = x.square();
+        }
+        Self::new(items)
+    }
+
+    #[inline]
+    fn mul_2exp_u64(&self, exponent: u64) -> Self {
+        let xs = self.items();
+        let mut items = xs;
+        for i in 0..N {
+            let x = xs[i];
+            items[i] = x.mul_2exp_u64(exponent);
         }
         Self::new(items)
     }

@@ -277,6 +277,17 @@ impl<F: Copy, EF: Copy, PE: PrimeCharacteristicRing, const N: usize> PrimeCharac
         Self::new(items)
     }
 
+    #[inline]
+    fn mul_2exp_u64(&self, exponent: u64) -> Self {
+        let xs = self.items();
+        let mut items = xs;
+        for i in 0..N {
+            let x = xs[i];
+            items[i] = x.mul_2exp_u64(exponent);
+        }
+        Self::new(items)
+    }
+
     ghost ring = { row_laws rows PE.ops PE.ring };
 
     ghost characteristic = { row_characteristic rows PE.ops PE.PrimeSubfield.order PE.characteristic };
