@@ -1,0 +1,6 @@
+//! Vectors of packings, and runs of steps over them.
+#![tactic(auto)]
+
+pub mod steps;
+pub mod vectorized;
+pub mod vectorized_ext;

@@ -1,0 +1,336 @@
+ghost use Rattle.std.specs.Prelude.{◌≡◌, ◌<◌, ◌*◌, ℕ, length, get_or, replicate};
+ghost use Rattle.p3_theory.specs.Rings.Ring.{subtract};
+ghost use Rattle.p3_theory.specs.Lanes.VectorLanes.{vector_lane};
+
+use p3_base::field::Field;
+use p3_base::packed_traits::PackedValue;
+use p3_ring::accumulate::{product_from, sum_from};
+use p3_ring::ring::{PrimeCharacteristicRing, RingSums};
+use p3_spaces::extension_field::ExtensionField;
+use p3_spaces::packed_field_extension::PackedFieldExtension;
+use std::alloc::AllocError;
+use std::fmt;
+use std::iter::{Product, Sum};
+use std::marker::{Model, PhantomData};
+use std::ops::{Add, AddAssign, Mul, MulAssign, Neg, Sub, SubAssign};
+
+/// N packings of extension values, one after the other. Upstream's `VectorizedExt`, with the packing
+/// as a parameter.
+pub struct VectorizedExt<F, EF, PE: PrimeCharacteristicRing, const N: usize>(
+    pub [PE; N],
+    PhantomData<(F, EF)>,
+);
+
+impl<F, EF, PE: PrimeCharacteristicRing, const N: usize> Model for VectorizedExt<F, EF, PE, N> {
+    ghost use Rattle.std.specs.Prelude.{◌≡◌, length};
+    ghost use Rattle.p3_theory.specs.Lanes.Rows.{Row, fitted, row_code};
+    ghost use Rattle.p3_vectorized.specs.Inside.{same_inside};
+
+    ghost Value = { Row PE N };
+
+    ghost coded = { row_code N PE.code };
+
+    ghost view = { λ a. fitted PE.ops.zero N a.0 };
+
+    ghost invariant = { λ a. length a.0 ≡ N };
+
+    ghost inverse = { λ v. record { 0 = v.items; 1 = record {} } };
+
+    ghost inverse_ok = { λ a h. same_inside PE.ops.zero N a h };
+}
+
+impl<F: Copy, EF: Copy, PE: PrimeCharacteristicRing, const N: usize> Clone
+    for VectorizedExt<F, EF, PE, N> {
+    ghost use Rattle.std.specs.Prelude.{⊤};
+
+    ghost is_clone = { λ x y. y ≡ x };
+
+    ghost is_infallible = { λ _. ⊤ };
+
+    #[inline]
+    fn clone(&self) -> Result<Self, AllocError> {
+        Ok(*self)
+    }
+}
+
+impl<F: Copy, EF: Copy, PE: PrimeCharacteristicRing, const N: usize> Copy
+    for VectorizedExt<F, EF, PE, N> {}
+
+impl<F: Copy, EF: Copy, PE: PrimeCharacteristicRing, const N: usize> VectorizedExt<F, EF, PE, N> {
+    /// The vector of these packings. This project's own: upstream writes the array alone.
+    #[tactic(auto, using(p3_theory::specs::Lanes::Rows::fit_same))]
+    #[inline]
+    pub fn new(items: [PE; N]) -> Self
+        ensures { result.items ≡ items }
+    {
+        VectorizedExt(items, PhantomData)
+    }
+
+    /// The packings.
+    #[inline]
+    fn items(self) -> [PE; N]
+        ensures { result ≡ self.items }
+    {
+        self.0
+    }
+}
+
+/// Zero. Upstream's `Default`.
+impl<F: Copy, EF: Copy, PE: PrimeCharacteristicRing, const N: usize> Default
+    for VectorizedExt<F, EF, PE, N> {
+    ghost is_default = { λ x. x.items ≡ replicate N PE.ops.zero };
+
+    /// The vector of zeros.
+    #[inline]
+    fn default() -> Self {
+        Self::new([PE::zero(); N])
+    }
+}
+
+/// The packings as a list. No contract speaks of the text.
+impl<F, EF, PE: PrimeCharacteristicRing + fmt::Debug, const N: usize> fmt::Debug
+    for VectorizedExt<F, EF, PE, N> {
+    fn fmt<W: fmt::Write>(&self, f: &mut fmt::Formatter<W>) -> fmt::Result {
+        fmt::Debug::fmt(&self.0, f)
+    }
+}
+
+impl<F: Copy, EF: Copy, PE: PrimeCharacteristicRing, const N: usize> Add
+    for VectorizedExt<F, EF, PE, N> {
+    type Output = Self;
+
+    ghost add_gives = { λ x y r. (d : PE) (k : ℕ) → k < N → get_or r.items k d ≡ PE.ops.add (get_or x.items k d) (get_or y.items k d) };
+
+    #[inline]
+    fn add(self, other: Self) -> Self {
+        let xs = self.items();
+        let ys = other.items();
+        let mut items = xs;
+        for i in 0..N {
+            items[i] = xs[i] + ys[i];
+        }
+        Self::new(items)
+    }
+}
+
+impl<F: Copy, EF: Copy, PE: PrimeCharacteristicRing, const N: usize> AddAssign
+    for VectorizedExt<F, EF, PE, N> {
+    ghost add_assign_gives = { λ x y r. (d : PE) (k : ℕ) → k < N → get_or r.items k d ≡ PE.ops.add (get_or x.items k d) (get_or y.items k d) };
+
+    #[inline]
+    fn add_assign(&mut self, other: Self) {
+        *self = *self + other;
+    }
+}
+
+impl<F: Copy, EF: Copy, PE: PrimeCharacteristicRing, const N: usize> Sub
+    for VectorizedExt<F, EF, PE, N> {
+    type Output = Self;
+
+    ghost sub_gives = { λ x y r. (d : PE) (k : ℕ) → k < N → get_or r.items k d ≡ subtract PE.ops (get_or x.items k d) (get_or y.items k d) };
+
+    #[inline]
+    fn sub(self, other: Self) -> Self {
+        let xs = self.items();
+        let ys = other.items();
+        let mut items = xs;
+        for i in 0..N {
+            items[i] = xs[i] - ys[i];
+        }
+        Self::new(items)
+    }
+}
+
+impl<F: Copy, EF: Copy, PE: PrimeCharacteristicRing, const N: usize> SubAssign
+    for VectorizedExt<F, EF, PE, N> {
+    ghost sub_assign_gives = { λ x y r. (d : PE) (k : ℕ) → k < N → get_or r.items k d ≡ subtract PE.ops (get_or x.items k d) (get_or y.items k d) };
+
+    #[inline]
+    fn sub_assign(&mut self, other: Self) {
+        *self = *self - other;
+    }
+}
+
+impl<F: Copy, EF: Copy, PE: PrimeCharacteristicRing, const N: usize> Mul
+    for VectorizedExt<F, EF, PE, N> {
+    type Output = Self;
+
+    ghost mul_gives = { λ x y r. (d : PE) (k : ℕ) → k < N → get_or r.items k d ≡ PE.ops.mul (get_or x.items k d) (get_or y.items k d) };
+
+    #[inline]
+    fn mul(self, other: Self) -> Self {
+        let xs = self.items();
+        let ys = other.items();
+        let mut items = xs;
+        for i in 0..N {
+            items[i] = xs[i] * ys[i];
+        }
+        Self::new(items)
+    }
+}
+
+impl<F: Copy, EF: Copy, PE: PrimeCharacteristicRing, const N: usize> MulAssign
+    for VectorizedExt<F, EF, PE, N> {
+    ghost mul_assign_gives = { λ x y r. (d : PE) (k : ℕ) → k < N → get_or r.items k d ≡ PE.ops.mul (get_or x.items k d) (get_or y.items k d) };
+
+    #[inline]
+    fn mul_assign(&mut self, other: Self) {
+        *self = *self * other;
+    }
+}
+
+impl<F: Copy, EF: Copy, PE: PrimeCharacteristicRing, const N: usize> Neg
+    for VectorizedExt<F, EF, PE, N> {
+    type Output = Self;
+
+    ghost neg_gives = { λ x r. (d : PE) (k : ℕ) → k < N → get_or r.items k d ≡ PE.ops.neg (get_or x.items k d) };
+
+    #[inline]
+    fn neg(self) -> Self {
+        let xs = self.items();
+        let mut items = xs;
+        for i in 0..N {
+            items[i] = -xs[i];
+        }
+        Self::new(items)
+    }
+}
+
+impl<F: Copy, EF: Copy, PE: PrimeCharacteristicRing, const N: usize> Sum<
+    VectorizedExt<F, EF, PE, N>,
+> for VectorizedExt<F, EF, PE, N> {
+    ghost use Rattle.p3_theory.specs.Rings.Operators.{sum_list};
+    ghost use Rattle.p3_theory.specs.Lanes.Rows.{rows};
+    ghost use Rattle.p3_theory.specs.Lanes.RowRing.{row_ops};
+
+    ghost sum_gives = { λ xs r. r ≡ sum_list (row_ops rows PE.ops) xs };
+
+    #[inline]
+    fn sum<I: Iterator<Item = Self>>(iter: I) -> Self {
+        let start = <Self as PrimeCharacteristicRing>::zero();
+        sum_from(start, iter)
+    }
+}
+
+impl<F: Copy, EF: Copy, PE: PrimeCharacteristicRing, const N: usize> Product<
+    VectorizedExt<F, EF, PE, N>,
+> for VectorizedExt<F, EF, PE, N> {
+    ghost use Rattle.p3_theory.specs.Rings.Operators.{product_list};
+    ghost use Rattle.p3_theory.specs.Lanes.Rows.{rows};
+    ghost use Rattle.p3_theory.specs.Lanes.RowRing.{row_ops};
+
+    ghost product_gives = { λ xs r. r ≡ product_list (row_ops rows PE.ops) xs };
+
+    #[inline]
+    fn product<I: Iterator<Item = Self>>(iter: I) -> Self {
+        let start = <Self as PrimeCharacteristicRing>::one();
+        product_from(start, iter)
+    }
+}
+
+impl<F: Copy, EF: Copy, PE: PrimeCharacteristicRing, const N: usize> PrimeCharacteristicRing
+    for VectorizedExt<F, EF, PE, N> {
+    ghost use Rattle.p3_theory.specs.Lanes.Rows.{rows};
+    ghost use Rattle.p3_theory.specs.Lanes.RowRing.{row_ops, row_laws, row_characteristic, written_sum, written_product, written_negation, written_difference};
+
+    type PrimeSubfield = PE::PrimeSubfield;
+
+    ghost ops = { row_ops rows PE.ops };
+
+    #[inline]
+    fn zero() -> Self {
+        let zero = PE::zero();
+        Self::new([zero; N])
+    }
+
+    #[inline]
+    fn one() -> Self {
+        let one = PE::one();
+        Self::new([one; N])
+    }
+
+    #[inline]
+    fn from_prime_subfield(f: PE::PrimeSubfield) -> Self {
+        let value = PE::from_prime_subfield(f);
+        Self::new([value; N])
+    }
+
+    #[inline]
+    fn halve(&self) -> Self {
+        let xs = self.items();
+        let mut items = xs;
+        for i in 0..N {
+            let x = xs[i];
+            items[i] = x.halve();
+        }
+        Self::new(items)
+    }
+
+    #[inline]
+    fn square(&self) -> Self {
+        let xs = self.items();
+        let mut items = xs;
+        for i in 0..N {
+            let x = xs[i];
+            items[i] = x.square();
+        }
+        Self::new(items)
+    }
+
+    #[inline]
+    fn mul_2exp_u64(&self, exponent: u64) -> Self {
+        let xs = self.items();
+        let mut items = xs;
+        for i in 0..N {
+            let x = xs[i];
+            items[i] = x.mul_2exp_u64(exponent);
+        }
+        Self::new(items)
+    }
+
+    ghost ring = { row_laws rows PE.ops PE.ring };
+
+    ghost characteristic = { row_characteristic rows PE.ops PE.PrimeSubfield.order PE.characteristic };
+
+    ghost adds = { record { called = λ _ _. tt; answer = written_sum rows PE.ops } };
+
+    ghost add_assigns = { record { called = λ _ _. tt; answer = written_sum rows PE.ops } };
+
+    ghost subs = { record { called = λ _ _. tt; answer = written_difference rows PE.ops } };
+
+    ghost sub_assigns = { record { called = λ _ _. tt; answer = written_difference rows PE.ops } };
+
+    ghost negs = { record { called = λ _. tt; answer = written_negation rows PE.ops } };
+
+    ghost muls = { record { called = λ _ _. tt; answer = written_product rows PE.ops } };
+
+    ghost mul_assigns = { record { called = λ _ _. tt; answer = written_product rows PE.ops } };
+}
+
+impl<F: Copy, EF: Copy, PE: PrimeCharacteristicRing, const N: usize> RingSums
+    for VectorizedExt<F, EF, PE, N> {
+    ghost sums = { record { called = λ _. tt; answer = λ _ _ h. h; whole = λ _. tt } };
+
+    ghost products = { record { called = λ _. tt; answer = λ _ _ h. h; whole = λ _. tt } };
+}
+
+impl<
+    F: Field,
+    EF: ExtensionField<F>,
+    PE: PackedFieldExtension<F, EF>,
+    const N: usize,
+> VectorizedExt<F, EF, PE, N> {
+    /// The value at a lane: lane `lane % WIDTH` of packing `lane / WIDTH`, where `WIDTH` is the
+    /// number of lanes of a packing. The lane is below `WIDTH * N`. Upstream's `extract`.
+    #[inline]
+    pub fn extract(&self, lane: usize) -> EF
+        requires { lane < PE.Base.WIDTH * N }
+        ensures { result ≡ vector_lane PE.ops EF.ops PE.ext_lanes PE.Base.WIDTH lane self.now }
+    {
+        let parts = self.items();
+        let width = <PE::Base as PackedValue>::WIDTH;
+        let all = &parts[..];
+        let part = all[lane / width];
+        PackedFieldExtension::extract(&part, lane % width)
+    }
+}
