@@ -8,6 +8,9 @@ pub use Rattle.p3_theory.specs.FrobeniusMaps.FrobeniusTable
 pub use Rattle.p3_theory.specs.Inverses.ListInverses
 pub use Rattle.p3_theory.specs.Lanes.Interleaves
 pub use Rattle.p3_theory.specs.Lanes.Lanes
+pub use Rattle.p3_theory.specs.Lanes.RowRing
+pub use Rattle.p3_theory.specs.Lanes.Rows
+pub use Rattle.p3_theory.specs.Lanes.VectorLanes
 pub use Rattle.p3_theory.specs.Lists.ListOrder
 pub use Rattle.p3_theory.specs.Lists.PairedLists
 pub use Rattle.p3_theory.specs.Polynomials.Coefficients
@@ -56,3 +59,6 @@ pub use Rattle.p3_ext.specs.ValueOrder
 pub use Rattle.p3_ext.specs.Values
 pub use Rattle.p3_runs.specs.FieldRuns
 pub use Rattle.p3_runs.specs.Runs
+pub use Rattle.p3_packed.specs.PackedValues
+pub use Rattle.p3_vectorized.specs.Inside
+pub use Rattle.p3_vectorized.specs.Written

@@ -4,3 +4,4 @@ pub use p3_ext::laws::{
     bytes_are_of_coefficients, default_is_zero, hash_is_of_coefficients, orbit_product_is_norm,
     order_is_lexicographic, product_is_remainder,
 };
+pub use p3_run_laws::laws::run_lane_steps_by_coefficients;

@@ -1,7 +1,9 @@
 //! The front of the library: every public name at its place, over the crates that hold them.
 #![tactic(auto)]
 
+pub mod extension;
 pub mod laws;
+pub mod steps;
 
 pub use p3_base::field::{Field, PrimeField, PrimeField32, PrimeField64, TwoAdicField};
 pub use p3_base::packed_traits::{Packable, PackedField, PackedFieldPow2, PackedValue};
@@ -9,7 +11,6 @@ pub use p3_base::sqrt::{
     Turns, tonelli_shanks, tonelli_shanks_counted, tonelli_shanks_two_adic,
     tonelli_shanks_two_adic_counted,
 };
-pub use p3_ext::extension as extension;
 pub use p3_ext::subfield::HasSubfield;
 pub use p3_integers::dup::Dup;
 pub use p3_integers::integers as integers;
@@ -24,7 +25,6 @@ pub use p3_ring::powers::{BoundedPowers, Powers};
 pub use p3_ring::ring::{Algebra, PrimeCharacteristicRing, RingSums};
 pub use p3_ring::sponge::SpongePaddingValue;
 pub use p3_ring::sums::sum_array;
-pub use p3_runs::steps as steps;
 pub use p3_spaces::basis::{AlgebraIdentity, BasedVectorSpace};
 pub use p3_spaces::columnwise::{
     AsRow, batched_columnwise_dot_product, generic_batched_columnwise_dot_product,
@@ -47,3 +47,5 @@ pub use p3_tools::helpers::{
     cyclic_subgroup_known_order, dot_product, field_to_array, par_add_scaled_slice_in_place,
     par_scale_slice_in_place, scale_slice_in_place_single_core,
 };
+pub use p3_vectorized::vectorized::Vectorized;
+pub use p3_vectorized::vectorized_ext::VectorizedExt;
