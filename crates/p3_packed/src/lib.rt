@@ -4,3 +4,4 @@
 pub mod algebra;
 pub mod basis;
 pub mod packed_ext_field;
+pub mod packed_field_extension;

@@ -1,0 +1,89 @@
+ghost use Rattle.std.specs.Prelude.{◌≡◌, ◌<◌, ℕ, length, get_or, map};
+
+use crate::packed_ext_field::{PackedExtField, Packing};
+use p3_base::field::Field;
+use p3_base::packed_traits::{Packable, PackedField, PackedValue};
+use p3_ext::extension::{ExtField, ExtensionOverAlgebra, ExtensionShape, FrobeniusExtendable};
+use p3_ring::ring::{Algebra, PrimeCharacteristicRing};
+use p3_spaces::packed_field_extension::PackedFieldExtension;
+
+/// The packing of coefficient i of the values.
+#[inline]
+fn packed_coefficient<F: Field, P: PackedField<F>, const D: usize, S: Copy>(
+    slice: &[ExtField<F, D, S, F>],
+    i: usize,
+) -> P
+    requires whole { length slice.now ≡ P.WIDTH }
+    requires place { i < D }
+    ensures { (d : _) (k : ℕ) → k < P.WIDTH → get_or (P.lanes result) k F.ops.zero ≡ get_or (get_or slice.now k d).value i F.ops.zero }
+{
+    let mut part = P::zero();
+    for lane in 0..P::WIDTH {
+        let value = &slice[lane];
+        let coefficient = value.value[i];
+        part.set_lane(lane, coefficient);
+    }
+    part
+}
+
+/// Writes the packings of all coefficients of the values.
+#[inline]
+fn pack_coefficients<F: Field, P: PackedField<F>, const D: usize, S: Copy>(
+    slice: &[ExtField<F, D, S, F>],
+    res: &mut [P],
+)
+    requires whole { length slice.now ≡ P.WIDTH }
+    requires room { length res.old ≡ D }
+    ensures { (p : P) (d : _) (j k : ℕ) → j < D → k < P.WIDTH → get_or (P.lanes (get_or res.new j p)) k F.ops.zero ≡ get_or (get_or slice.now k d).value j F.ops.zero }
+{
+    for i in 0..D {
+        let part = packed_coefficient::<F, P, D, S>(slice, i);
+        res[i] = part;
+    }
+}
+
+/// The lanes are extension values: lane k has lane k of each coefficient.
+impl<
+    F: FrobeniusExtendable<D, S> + ExtensionOverAlgebra<P, D, S> + Packable,
+    const D: usize,
+    S: ExtensionShape,
+    P: PackedField<F> + Packing,
+> PackedFieldExtension<F, ExtField<F, D, S, F>> for PackedExtField<F, D, S, P> {
+    ghost use Rattle.std.specs.Prelude.{refl};
+    ghost use Rattle.std.proofs.Common.{ap};
+    ghost use Rattle.p3_theory.specs.Polynomials.Coefficients.{length-tabulate};
+    ghost use Rattle.p3_packed.specs.ValueLanes.{value_lanes, lanes_keep, lanes_apart, lane_of_spread, lanes_of_spread, at_lane, coefficients_of};
+
+    type Base = P;
+
+    ghost ext_lanes = { value_lanes P.ops F.ops P.lanes P.WIDTH };
+
+    #[inline]
+    fn from_ext_slice(slice: &[ExtField<F, D, S, F>]) -> Self {
+        let mut value = [P::zero(); D];
+        pack_coefficients::<F, P, D, S>(slice, &mut value);
+        Self::new(value)
+    }
+
+    #[inline]
+    fn extract(&self, lane: usize) -> ExtField<F, D, S, F> {
+        let mut value = [F::zero(); D];
+        for i in 0..D {
+            let part = self.value.value[i];
+            value[i] = PackedValue::extract(&part, lane);
+        }
+        ExtField::<F, D, S, F>::new(value)
+    }
+
+    ghost ext_lengths = { λ x. length-tabulate P.WIDTH _ };
+
+    ghost ext_same = { lanes_apart P.ops F.ops P.lanes P.WIDTH P.PackedField.same P.PackedField.lengths };
+
+    ghost ext_keeps = { lanes_keep P.ops F.ops P.lanes P.WIDTH P.keeps (map ⟦<P as Algebra<F>>⟧.embed F.modulus) F.modulus (λ k h. lane_of_spread F.ops P.lanes P.WIDTH ⟦<P as Algebra<F>>⟧.embed P.injects k h F.modulus) };
+
+    ghost dimension = { refl };
+
+    ghost reads = { λ x k h. ap coefficients_of (at_lane P.ops F.ops P.lanes P.WIDTH _ x k h) };
+
+    ghost ext_injects = { lanes_of_spread P.ops F.ops P.lanes P.WIDTH ⟦<P as Algebra<F>>⟧.embed P.injects };
+}
