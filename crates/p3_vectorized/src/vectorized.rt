@@ -61,7 +61,7 @@ impl<F: Copy, P: PrimeCharacteristicRing, const N: usize> Vectorized<F, P, N> {
 
     /// The packings.
     #[inline]
-    fn items(self) -> [P; N]
+    pub(crate) fn items(self) -> [P; N]
         ensures { result ≡ self.items }
     {
         self.0

@@ -1,3 +1,7 @@
+//! Vectors of packings of extension values.
+mod algebra;
+mod vectors;
+
 ghost use Rattle.std.specs.Prelude.{◌≡◌, ◌<◌, ◌*◌, ℕ, length, get_or, replicate};
 ghost use Rattle.p3_theory.specs.Rings.Ring.{subtract};
 ghost use Rattle.p3_theory.specs.Lanes.VectorLanes.{vector_lane};

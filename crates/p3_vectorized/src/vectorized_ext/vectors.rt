@@ -1,0 +1,188 @@
+ghost use Rattle.std.specs.Prelude.{◌≡◌, ◌<◌, ℕ, get_or, length};
+
+use super::VectorizedExt;
+use crate::vectorized::Vectorized;
+use p3_ring::ring::{Algebra, PrimeCharacteristicRing};
+use std::ops::{Add, AddAssign, Mul, MulAssign, Sub, SubAssign};
+
+/// Each packing of field values as a packing of extension values.
+impl<
+    F: Copy,
+    EF: Copy,
+    P: PrimeCharacteristicRing,
+    PE: PrimeCharacteristicRing + From<P>,
+    const N: usize,
+> From<Vectorized<F, P, N>> for VectorizedExt<F, EF, PE, N> {
+    ghost from_gives = { λ x r. (d : P) (e : PE) (k : ℕ) → k < N → ⟦<PE as From<P>>⟧.from_gives (get_or x.items k d) (get_or r.items k e) };
+
+    #[inline]
+    fn from(value: Vectorized<F, P, N>) -> Self {
+        let xs = value.items();
+        let mut items = [PE::zero(); N];
+        for i in 0..N {
+            items[i] = <PE as From<P>>::from(xs[i]);
+        }
+        Self::new(items)
+    }
+}
+
+/// Each packing and the packing of field values at its index.
+impl<
+    F: Copy,
+    EF: Copy,
+    P: PrimeCharacteristicRing,
+    PE: PrimeCharacteristicRing + Add<P, Output = PE>,
+    const N: usize,
+> Add<Vectorized<F, P, N>> for VectorizedExt<F, EF, PE, N> {
+    type Output = Self;
+
+    ghost can_add = { λ x y. (d : PE) (e : P) (k : ℕ) → k < N → ⟦<PE as Add<P>>⟧.can_add (get_or x.items k d) (get_or y.items k e) };
+
+    ghost add_gives = { λ x y r. (d : PE) (e : P) (k : ℕ) → k < N → ⟦<PE as Add<P>>⟧.add_gives (get_or x.items k d) (get_or y.items k e) (get_or r.items k d) };
+
+    #[inline]
+    fn add(self, rhs: Vectorized<F, P, N>) -> Self {
+        let xs = self.items();
+        let ys = rhs.items();
+        let mut items = xs;
+        for i in 0..N {
+            items[i] = xs[i] + ys[i];
+        }
+        Self::new(items)
+    }
+}
+
+impl<
+    F: Copy,
+    EF: Copy,
+    P: PrimeCharacteristicRing,
+    PE: PrimeCharacteristicRing + Add<P, Output = PE>,
+    const N: usize,
+> AddAssign<Vectorized<F, P, N>> for VectorizedExt<F, EF, PE, N> {
+    ghost can_add_assign = { λ x y. (d : PE) (e : P) (k : ℕ) → k < N → ⟦<PE as Add<P>>⟧.can_add (get_or x.items k d) (get_or y.items k e) };
+
+    ghost add_assign_gives = { λ x y r. (d : PE) (e : P) (k : ℕ) → k < N → ⟦<PE as Add<P>>⟧.add_gives (get_or x.items k d) (get_or y.items k e) (get_or r.items k d) };
+
+    #[inline]
+    fn add_assign(&mut self, rhs: Vectorized<F, P, N>) {
+        *self = *self + rhs;
+    }
+}
+
+/// Each packing less the packing of field values at its index.
+impl<
+    F: Copy,
+    EF: Copy,
+    P: PrimeCharacteristicRing,
+    PE: PrimeCharacteristicRing + Sub<P, Output = PE>,
+    const N: usize,
+> Sub<Vectorized<F, P, N>> for VectorizedExt<F, EF, PE, N> {
+    type Output = Self;
+
+    ghost can_sub = { λ x y. (d : PE) (e : P) (k : ℕ) → k < N → ⟦<PE as Sub<P>>⟧.can_sub (get_or x.items k d) (get_or y.items k e) };
+
+    ghost sub_gives = { λ x y r. (d : PE) (e : P) (k : ℕ) → k < N → ⟦<PE as Sub<P>>⟧.sub_gives (get_or x.items k d) (get_or y.items k e) (get_or r.items k d) };
+
+    #[inline]
+    fn sub(self, rhs: Vectorized<F, P, N>) -> Self {
+        let xs = self.items();
+        let ys = rhs.items();
+        let mut items = xs;
+        for i in 0..N {
+            items[i] = xs[i] - ys[i];
+        }
+        Self::new(items)
+    }
+}
+
+impl<
+    F: Copy,
+    EF: Copy,
+    P: PrimeCharacteristicRing,
+    PE: PrimeCharacteristicRing + Sub<P, Output = PE>,
+    const N: usize,
+> SubAssign<Vectorized<F, P, N>> for VectorizedExt<F, EF, PE, N> {
+    ghost can_sub_assign = { λ x y. (d : PE) (e : P) (k : ℕ) → k < N → ⟦<PE as Sub<P>>⟧.can_sub (get_or x.items k d) (get_or y.items k e) };
+
+    ghost sub_assign_gives = { λ x y r. (d : PE) (e : P) (k : ℕ) → k < N → ⟦<PE as Sub<P>>⟧.sub_gives (get_or x.items k d) (get_or y.items k e) (get_or r.items k d) };
+
+    #[inline]
+    fn sub_assign(&mut self, rhs: Vectorized<F, P, N>) {
+        *self = *self - rhs;
+    }
+}
+
+/// Each packing times the packing of field values at its index.
+impl<
+    F: Copy,
+    EF: Copy,
+    P: PrimeCharacteristicRing,
+    PE: PrimeCharacteristicRing + Mul<P, Output = PE>,
+    const N: usize,
+> Mul<Vectorized<F, P, N>> for VectorizedExt<F, EF, PE, N> {
+    type Output = Self;
+
+    ghost can_mul = { λ x y. (d : PE) (e : P) (k : ℕ) → k < N → ⟦<PE as Mul<P>>⟧.can_mul (get_or x.items k d) (get_or y.items k e) };
+
+    ghost mul_gives = { λ x y r. (d : PE) (e : P) (k : ℕ) → k < N → ⟦<PE as Mul<P>>⟧.mul_gives (get_or x.items k d) (get_or y.items k e) (get_or r.items k d) };
+
+    #[inline]
+    fn mul(self, rhs: Vectorized<F, P, N>) -> Self {
+        let xs = self.items();
+        let ys = rhs.items();
+        let mut items = xs;
+        for i in 0..N {
+            items[i] = xs[i] * ys[i];
+        }
+        Self::new(items)
+    }
+}
+
+impl<
+    F: Copy,
+    EF: Copy,
+    P: PrimeCharacteristicRing,
+    PE: PrimeCharacteristicRing + Mul<P, Output = PE>,
+    const N: usize,
+> MulAssign<Vectorized<F, P, N>> for VectorizedExt<F, EF, PE, N> {
+    ghost can_mul_assign = { λ x y. (d : PE) (e : P) (k : ℕ) → k < N → ⟦<PE as Mul<P>>⟧.can_mul (get_or x.items k d) (get_or y.items k e) };
+
+    ghost mul_assign_gives = { λ x y r. (d : PE) (e : P) (k : ℕ) → k < N → ⟦<PE as Mul<P>>⟧.mul_gives (get_or x.items k d) (get_or y.items k e) (get_or r.items k d) };
+
+    #[inline]
+    fn mul_assign(&mut self, rhs: Vectorized<F, P, N>) {
+        *self = *self * rhs;
+    }
+}
+
+/// A vector of packings of field values stands for the vector of the packings that they stand for.
+impl<F: Copy, EF: Copy, P: PrimeCharacteristicRing, PE: Algebra<P>, const N: usize> Algebra<
+    Vectorized<F, P, N>,
+> for VectorizedExt<F, EF, PE, N> {
+    ghost use Rattle.p3_theory.specs.Lanes.Rows.{rows};
+    ghost use Rattle.p3_vectorized.specs.RowMaps.{mapped, maps_keep, written_map, written_row_sum, written_row_difference, written_row_product};
+
+    ghost embed = { mapped rows rows P.ops PE.ops PE.embed };
+
+    const BATCHED_LC_CHUNK: usize = <PE as Algebra<P>>::BATCHED_LC_CHUNK;
+
+    ghost BATCHED_LC_CHUNK = { PE.BATCHED_LC_CHUNK };
+
+    ghost chunk_length = { PE.chunk_length };
+
+    ghost embeds = { maps_keep rows rows P.ops PE.ops PE.embed PE.embeds };
+
+    ghost froms = { λ x r h. written_map rows rows P.ops PE.ops PE.embed x r (λ d e k b. PE.froms _ _ (h d e k b)) };
+
+    ghost mixed_adds = { record { called = λ x y d e k h. PE.mixed_adds.called _ _; answer = λ x y r h. written_row_sum rows rows P.ops PE.ops PE.embed _ PE.mixed_adds.answer x y r h } };
+
+    ghost mixed_add_assigns = { record { called = λ x y d e k h. PE.mixed_adds.called _ _; answer = λ x y r h. written_row_sum rows rows P.ops PE.ops PE.embed _ PE.mixed_adds.answer x y r h } };
+
+    ghost mixed_subs = { record { called = λ x y d e k h. PE.mixed_subs.called _ _; answer = λ x y r h. written_row_difference rows rows P.ops PE.ops PE.embed _ PE.mixed_subs.answer x y r h } };
+
+    ghost mixed_sub_assigns = { record { called = λ x y d e k h. PE.mixed_subs.called _ _; answer = λ x y r h. written_row_difference rows rows P.ops PE.ops PE.embed _ PE.mixed_subs.answer x y r h } };
+
+    ghost mixed_muls = { record { called = λ x y d e k h. PE.mixed_muls.called _ _; answer = λ x y r h. written_row_product rows rows P.ops PE.ops PE.embed _ PE.mixed_muls.answer x y r h } };
+
+    ghost mixed_mul_assigns = { record { called = λ x y d e k h. PE.mixed_muls.called _ _; answer = λ x y r h. written_row_product rows rows P.ops PE.ops PE.embed _ PE.mixed_muls.answer x y r h } };
+}
