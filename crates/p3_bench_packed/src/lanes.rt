@@ -6,6 +6,7 @@ use p3_base::field::Field;
 use p3_base::packed_traits::{Packable, PackedField, PackedFieldPow2, PackedValue};
 use p3_bench_prime::form::{Form, Word};
 use p3_bench_prime::fp::Fp;
+use p3_packed::packed_ext_field::Packing;
 
 impl<F: Packable, const N: usize> PackedValue for Packed<F, N> {
     type Value = F;
@@ -43,6 +44,9 @@ impl<F: Packable, const N: usize> PackedValue for Packed<F, N> {
         *self = Self::new(lanes);
     }
 }
+
+/// A packing, and no extension value.
+impl<F: Copy, const N: usize> Packing for Packed<F, N> {}
 
 /// A field whose values stand in packings of N lanes, a power of two.
 pub trait Lanes<const N: usize>: Field + Packable {
