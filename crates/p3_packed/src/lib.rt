@@ -3,5 +3,6 @@
 
 pub mod algebra;
 pub mod basis;
+pub mod extension_values;
 pub mod packed_ext_field;
 pub mod packed_field_extension;

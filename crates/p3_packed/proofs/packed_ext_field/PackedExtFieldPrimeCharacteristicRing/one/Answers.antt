@@ -7,4 +7,4 @@ pub returns : goal.returns
 returns g c =
     let o = g.P.PrimeCharacteristicRing.ops in
     let f = map g.P.Algebra.embed g.F.ExtensionAlgebra.modulus in
-    same_packed o f c.constant.result ((packed_ops o f).one) (c.constant.ensures ∙ ap (embed o g.row.D) c.one.ensures)
+    same_packed o f c.constant.result ((packed_ops o f).one) (◌∙◌ {b = embed o g.row.D c.one.result} c.constant.ensures (ap (embed o g.row.D) c.one.ensures))

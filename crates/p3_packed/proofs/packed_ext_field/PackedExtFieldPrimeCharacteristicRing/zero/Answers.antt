@@ -7,4 +7,4 @@ pub returns : goal.returns
 returns g c =
     let o = g.P.PrimeCharacteristicRing.ops in
     let f = map g.P.Algebra.embed g.F.ExtensionAlgebra.modulus in
-    same_packed o f c.constant.result ((packed_ops o f).zero) (c.constant.ensures ∙ ap (embed o g.row.D) c.zero.ensures)
+    same_packed o f c.constant.result ((packed_ops o f).zero) (◌∙◌ {b = embed o g.row.D c.zero.result} c.constant.ensures (ap (embed o g.row.D) c.zero.ensures))

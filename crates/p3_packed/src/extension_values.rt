@@ -1,0 +1,136 @@
+//! A packed extension as an algebra over the extension values of one lane.
+ghost use Rattle.std.specs.Prelude.{◌≡◌, map};
+ghost use Rattle.p3_theory.specs.Polynomials.Polynomial.{quotient_add};
+ghost use Rattle.p3_products.specs.Entries.{entrywise_difference};
+
+use crate::packed_ext_field::PackedExtField;
+use p3_ext::extension::{
+    ExtField, ExtensionOverAlgebra, ExtensionShape, PackedProduct, vector_add, vector_sub,
+};
+use p3_products::vectors::embed_entries;
+use p3_ring::ring::{Algebra, PrimeCharacteristicRing};
+use std::ops::{Add, AddAssign, Mul, MulAssign, Sub, SubAssign};
+
+/// An extension value in all lanes.
+impl<F: PrimeCharacteristicRing, const D: usize, S: Copy, P: Algebra<F>> From<ExtField<F, D, S, F>>
+    for PackedExtField<F, D, S, P> {
+    ghost from_gives = { λ v r. r.value.value ≡ map P.embed v.value };
+
+    #[inline]
+    fn from(x: ExtField<F, D, S, F>) -> Self {
+        let mut value = [P::zero(); D];
+        embed_entries::<P, F>(&x.value, &mut value);
+        Self::new(value)
+    }
+}
+
+impl<F: PrimeCharacteristicRing, const D: usize, S: Copy, P: Algebra<F>> Add<ExtField<F, D, S, F>>
+    for PackedExtField<F, D, S, P> {
+    type Output = Self;
+
+    ghost add_gives = { λ x v r. r.value.value ≡ quotient_add P.ops D x.value.value (map P.embed v.value) };
+
+    #[inline]
+    fn add(self, rhs: ExtField<F, D, S, F>) -> Self {
+        let value = vector_add(&self.value.value, &rhs.value);
+        Self::new(value)
+    }
+}
+
+impl<F: PrimeCharacteristicRing, const D: usize, S: Copy, P: Algebra<F>> Sub<ExtField<F, D, S, F>>
+    for PackedExtField<F, D, S, P> {
+    type Output = Self;
+
+    ghost sub_gives = { λ x v r. r.value.value ≡ entrywise_difference P.ops D x.value.value (map P.embed v.value) };
+
+    #[inline]
+    fn sub(self, rhs: ExtField<F, D, S, F>) -> Self {
+        let value = vector_sub(&self.value.value, &rhs.value);
+        Self::new(value)
+    }
+}
+
+impl<
+    F: PrimeCharacteristicRing + PackedProduct<P, D, S>,
+    const D: usize,
+    S: Copy,
+    P: Algebra<F>,
+> Mul<ExtField<F, D, S, F>> for PackedExtField<F, D, S, P> {
+    type Output = Self;
+
+    ghost mul_gives = { λ x v r. F.packed_product_gives x.value.value (map P.embed v.value) r.value.value };
+
+    #[inline]
+    fn mul(self, rhs: ExtField<F, D, S, F>) -> Self {
+        let other = <Self as From<ExtField<F, D, S, F>>>::from(rhs);
+        self * other
+    }
+}
+
+impl<F: PrimeCharacteristicRing, const D: usize, S: Copy, P: Algebra<F>> AddAssign<
+    ExtField<F, D, S, F>,
+> for PackedExtField<F, D, S, P> {
+    ghost add_assign_gives = { λ x v r. r.value.value ≡ quotient_add P.ops D x.value.value (map P.embed v.value) };
+
+    #[inline]
+    fn add_assign(&mut self, rhs: ExtField<F, D, S, F>) {
+        *self = *self + rhs;
+    }
+}
+
+impl<F: PrimeCharacteristicRing, const D: usize, S: Copy, P: Algebra<F>> SubAssign<
+    ExtField<F, D, S, F>,
+> for PackedExtField<F, D, S, P> {
+    ghost sub_assign_gives = { λ x v r. r.value.value ≡ entrywise_difference P.ops D x.value.value (map P.embed v.value) };
+
+    #[inline]
+    fn sub_assign(&mut self, rhs: ExtField<F, D, S, F>) {
+        *self = *self - rhs;
+    }
+}
+
+impl<
+    F: PrimeCharacteristicRing + PackedProduct<P, D, S>,
+    const D: usize,
+    S: Copy,
+    P: Algebra<F>,
+> MulAssign<ExtField<F, D, S, F>> for PackedExtField<F, D, S, P> {
+    ghost mul_assign_gives = { λ x v r. F.packed_product_gives x.value.value (map P.embed v.value) r.value.value };
+
+    #[inline]
+    fn mul_assign(&mut self, rhs: ExtField<F, D, S, F>) {
+        *self = *self * rhs;
+    }
+}
+
+impl<F: ExtensionOverAlgebra<P, D, S>, const D: usize, S: ExtensionShape, P: Algebra<F>> Algebra<
+    ExtField<F, D, S, F>,
+> for PackedExtField<F, D, S, P> {
+    ghost use Rattle.std.specs.Prelude.{refl, []};
+    ghost use Rattle.std.proofs.Common.{lit<};
+    ghost use Rattle.p3_packed.specs.PackedValues.{spread, same_packed, spread_keeps, spread_sum, spread_difference, spread_product};
+
+    ghost embed = { spread P.embed };
+
+    const BATCHED_LC_CHUNK: usize = 8;
+
+    ghost BATCHED_LC_CHUNK = { 8 };
+
+    ghost chunk_length = { (3, lit< tt, refl) };
+
+    ghost embeds = { spread_keeps P.ops F.ops P.embed P.embeds F.modulus };
+
+    ghost froms = { λ v r h. same_packed P.ops [] r (spread P.embed v) h };
+
+    ghost mixed_adds = { record { called = λ _ _. tt; answer = spread_sum P.ops (map P.embed F.modulus) P.embed } };
+
+    ghost mixed_add_assigns = { record { called = λ _ _. tt; answer = spread_sum P.ops (map P.embed F.modulus) P.embed } };
+
+    ghost mixed_subs = { record { called = λ _ _. tt; answer = spread_difference P.ops (map P.embed F.modulus) P.embed } };
+
+    ghost mixed_sub_assigns = { record { called = λ _ _. tt; answer = spread_difference P.ops (map P.embed F.modulus) P.embed } };
+
+    ghost mixed_muls = { record { called = λ _ _. tt; answer = λ x v r h. spread_product P.ops (map P.embed F.modulus) P.embed x v r (F.packed_products _ _ _ h) } };
+
+    ghost mixed_mul_assigns = { record { called = λ _ _. tt; answer = λ x v r h. spread_product P.ops (map P.embed F.modulus) P.embed x v r (F.packed_products _ _ _ h) } };
+}
