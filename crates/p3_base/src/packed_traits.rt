@@ -7,8 +7,35 @@ use crate::field::Field;
 use p3_ring::ring::Algebra;
 use std::ops::{Div, DivAssign};
 
+/// A type with a value. What a vector's theorem reads past its end is this value, so that the type of
+/// a vector asks nothing more of its parts. This project's own.
+pub trait Inhabited: Copy {
+    /// A value of the type.
+    ghost inhabitant: { Self };
+}
+
+impl Inhabited for u8 {
+    ghost inhabitant = { 0 };
+}
+
+impl Inhabited for u16 {
+    ghost inhabitant = { 0 };
+}
+
+impl Inhabited for u32 {
+    ghost inhabitant = { 0 };
+}
+
+impl Inhabited for u64 {
+    ghost inhabitant = { 0 };
+}
+
+impl Inhabited for u128 {
+    ghost inhabitant = { 0 };
+}
+
 /// A value that may stand in a lane of a packing. Upstream's `Packable`.
-pub trait Packable: Default + Copy + PartialEq + Eq {}
+pub trait Packable: Default + Inhabited + PartialEq + Eq {}
 
 impl Packable for u8 {}
 
@@ -139,6 +166,7 @@ impl<T: Packable, const N: usize> PackedValue for [T; N] {
 /// that lane. Upstream's `PackedField`, with the scalar as a parameter.
 pub trait PackedField<F: Field>: Algebra<F>
     + PackedValue<Value = F>
+    + Inhabited
     + Div<Output = Self>
     + Div<F, Output = Self>
     + DivAssign

@@ -3,7 +3,7 @@ ghost use Rattle.std.specs.Prelude.{◌≡◌, ◌<◌, ◌^◌, ℕ};
 
 use crate::packed::Packed;
 use p3_base::field::Field;
-use p3_base::packed_traits::{Packable, PackedField, PackedFieldPow2, PackedValue};
+use p3_base::packed_traits::{Inhabited, Packable, PackedField, PackedFieldPow2, PackedValue};
 use p3_bench_prime::form::{Form, Word};
 use p3_bench_prime::fp::Fp;
 use p3_packed::packed_ext_field::Packing;
@@ -43,6 +43,15 @@ impl<F: Packable, const N: usize> PackedValue for Packed<F, N> {
         lanes[lane] = value;
         *self = Self::new(lanes);
     }
+}
+
+/// One value of the lanes' type in all lanes.
+impl<F: Inhabited, const N: usize> Inhabited for Packed<F, N> {
+    ghost use Rattle.std.specs.Prelude.{replicate};
+    ghost use Rattle.std.proofs.lemmas.List.{length-replicate};
+    ghost use Rattle.p3_bench_packed.specs.Values.{value_of};
+
+    ghost inhabitant = { value_of (replicate N F.inhabitant) (length-replicate N F.inhabitant) };
 }
 
 /// A packing, and no extension value.

@@ -5,6 +5,7 @@ use p3_ext::extension::{
     Binomial, CubicTrinomial, ExtField, ExtensionOverAlgebra, ExtensionShape, PackedProduct,
     QuinticTrinomial,
 };
+use p3_base::packed_traits::Inhabited;
 use p3_ring::accumulate::{product_from, sum_from};
 use p3_ring::ring::{Algebra, PrimeCharacteristicRing, RingSums};
 use std::alloc::AllocError;
@@ -71,6 +72,13 @@ impl<F: Copy, const D: usize, S: Copy, P: PrimeCharacteristicRing> PackedExtFiel
         value[0] = x;
         Self::new(value)
     }
+}
+
+/// The value whose coefficients are all one value of the packing.
+impl<F: Copy, const D: usize, S: Copy, P: Inhabited> Inhabited for PackedExtField<F, D, S, P> {
+    ghost use Rattle.p3_packed.specs.PackedValues.{packed};
+
+    ghost inhabitant = { packed ⟦<ExtField<F, D, S, P> as Inhabited>⟧.inhabitant };
 }
 
 /// Zero. Upstream's `Default` of its packed extensions.

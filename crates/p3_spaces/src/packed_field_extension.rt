@@ -4,14 +4,15 @@ ghost use Rattle.p3_theory.specs.Lanes.Lanes.{lane, KeepsLanes};
 use crate::basis::BasedVectorSpace;
 use crate::extension_field::ExtensionField;
 use p3_base::field::Field;
-use p3_base::packed_traits::{Packable, PackedField, PackedValue};
+use p3_base::packed_traits::{Inhabited, Packable, PackedField, PackedValue};
 use p3_ring::ring::Algebra;
 
 /// Values of an extension side by side: what an operation gives at a lane is the extension's own
 /// operation on that lane. Upstream's `PackedFieldExtension`.
 pub trait PackedFieldExtension<F: Field, EF: ExtensionField<F>>: Algebra<EF>
     + Algebra<Self::Base>
-    + BasedVectorSpace<Self::Base> {
+    + BasedVectorSpace<Self::Base>
+    + Inhabited {
     /// The packing of the coefficients. It stands for upstream's `F::Packing`.
     type Base: PackedField<F>;
 

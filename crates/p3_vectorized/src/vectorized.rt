@@ -4,6 +4,7 @@ mod algebra;
 ghost use Rattle.std.specs.Prelude.{◌≡◌, ◌<◌, ℕ, length, get_or, replicate};
 ghost use Rattle.p3_theory.specs.Rings.Ring.{subtract};
 
+use p3_base::packed_traits::Inhabited;
 use p3_ring::accumulate::{product_from, sum_from};
 use p3_ring::ring::{PrimeCharacteristicRing, RingSums};
 use std::alloc::AllocError;
@@ -14,9 +15,9 @@ use std::ops::{Add, AddAssign, Mul, MulAssign, Neg, Sub, SubAssign};
 
 /// N packings of field values, one after the other. Upstream's `Vectorized`, with the packing as a
 /// parameter.
-pub struct Vectorized<F, P: PrimeCharacteristicRing, const N: usize>(pub [P; N], PhantomData<F>);
+pub struct Vectorized<F, P: Inhabited, const N: usize>(pub [P; N], PhantomData<F>);
 
-impl<F, P: PrimeCharacteristicRing, const N: usize> Model for Vectorized<F, P, N> {
+impl<F, P: Inhabited, const N: usize> Model for Vectorized<F, P, N> {
     ghost use Rattle.std.specs.Prelude.{◌≡◌, length};
     ghost use Rattle.p3_theory.specs.Lanes.Rows.{Row, fitted, row_code};
     ghost use Rattle.p3_vectorized.specs.Inside.{same_vectorized};
@@ -25,16 +26,16 @@ impl<F, P: PrimeCharacteristicRing, const N: usize> Model for Vectorized<F, P, N
 
     ghost coded = { row_code N P.code };
 
-    ghost view = { λ a. fitted P.ops.zero N a.0 };
+    ghost view = { λ a. fitted P.inhabitant N a.0 };
 
     ghost invariant = { λ a. length a.0 ≡ N };
 
     ghost inverse = { λ v. record { 0 = v.items; 1 = record {} } };
 
-    ghost inverse_ok = { λ a h. same_vectorized P.ops.zero N a h };
+    ghost inverse_ok = { λ a h. same_vectorized P.inhabitant N a h };
 }
 
-impl<F: Copy, P: PrimeCharacteristicRing, const N: usize> Clone for Vectorized<F, P, N> {
+impl<F: Copy, P: Inhabited, const N: usize> Clone for Vectorized<F, P, N> {
     ghost use Rattle.std.specs.Prelude.{⊤};
 
     ghost is_clone = { λ x y. y ≡ x };
@@ -47,9 +48,9 @@ impl<F: Copy, P: PrimeCharacteristicRing, const N: usize> Clone for Vectorized<F
     }
 }
 
-impl<F: Copy, P: PrimeCharacteristicRing, const N: usize> Copy for Vectorized<F, P, N> {}
+impl<F: Copy, P: Inhabited, const N: usize> Copy for Vectorized<F, P, N> {}
 
-impl<F: Copy, P: PrimeCharacteristicRing, const N: usize> Vectorized<F, P, N> {
+impl<F: Copy, P: Inhabited, const N: usize> Vectorized<F, P, N> {
     /// The vector of these packings. This project's own: upstream writes the array alone.
     #[tactic(auto, using(p3_theory::specs::Lanes::Rows::fit_same))]
     #[inline]
@@ -69,7 +70,7 @@ impl<F: Copy, P: PrimeCharacteristicRing, const N: usize> Vectorized<F, P, N> {
 }
 
 /// Zero. Upstream's `Default`.
-impl<F: Copy, P: PrimeCharacteristicRing, const N: usize> Default for Vectorized<F, P, N> {
+impl<F: Copy, P: PrimeCharacteristicRing + Inhabited, const N: usize> Default for Vectorized<F, P, N> {
     ghost is_default = { λ x. x.items ≡ replicate N P.ops.zero };
 
     /// The vector of zeros.
@@ -80,14 +81,14 @@ impl<F: Copy, P: PrimeCharacteristicRing, const N: usize> Default for Vectorized
 }
 
 /// The packings as a list. No contract speaks of the text.
-impl<F, P: PrimeCharacteristicRing + fmt::Debug, const N: usize> fmt::Debug
+impl<F, P: Inhabited + fmt::Debug, const N: usize> fmt::Debug
     for Vectorized<F, P, N> {
     fn fmt<W: fmt::Write>(&self, f: &mut fmt::Formatter<W>) -> fmt::Result {
         fmt::Debug::fmt(&self.0, f)
     }
 }
 
-impl<F: Copy, P: PrimeCharacteristicRing, const N: usize> Add for Vectorized<F, P, N> {
+impl<F: Copy, P: PrimeCharacteristicRing + Inhabited, const N: usize> Add for Vectorized<F, P, N> {
     type Output = Self;
 
     ghost add_gives = { λ x y r. (d : P) (k : ℕ) → k < N → get_or r.items k d ≡ P.ops.add (get_or x.items k d) (get_or y.items k d) };
@@ -104,7 +105,7 @@ impl<F: Copy, P: PrimeCharacteristicRing, const N: usize> Add for Vectorized<F, 
     }
 }
 
-impl<F: Copy, P: PrimeCharacteristicRing, const N: usize> AddAssign for Vectorized<F, P, N> {
+impl<F: Copy, P: PrimeCharacteristicRing + Inhabited, const N: usize> AddAssign for Vectorized<F, P, N> {
     ghost add_assign_gives = { λ x y r. (d : P) (k : ℕ) → k < N → get_or r.items k d ≡ P.ops.add (get_or x.items k d) (get_or y.items k d) };
 
     #[inline]
@@ -113,7 +114,7 @@ impl<F: Copy, P: PrimeCharacteristicRing, const N: usize> AddAssign for Vectoriz
     }
 }
 
-impl<F: Copy, P: PrimeCharacteristicRing, const N: usize> Sub for Vectorized<F, P, N> {
+impl<F: Copy, P: PrimeCharacteristicRing + Inhabited, const N: usize> Sub for Vectorized<F, P, N> {
     type Output = Self;
 
     ghost sub_gives = { λ x y r. (d : P) (k : ℕ) → k < N → get_or r.items k d ≡ subtract P.ops (get_or x.items k d) (get_or y.items k d) };
@@ -130,7 +131,7 @@ impl<F: Copy, P: PrimeCharacteristicRing, const N: usize> Sub for Vectorized<F, 
     }
 }
 
-impl<F: Copy, P: PrimeCharacteristicRing, const N: usize> SubAssign for Vectorized<F, P, N> {
+impl<F: Copy, P: PrimeCharacteristicRing + Inhabited, const N: usize> SubAssign for Vectorized<F, P, N> {
     ghost sub_assign_gives = { λ x y r. (d : P) (k : ℕ) → k < N → get_or r.items k d ≡ subtract P.ops (get_or x.items k d) (get_or y.items k d) };
 
     #[inline]
@@ -139,7 +140,7 @@ impl<F: Copy, P: PrimeCharacteristicRing, const N: usize> SubAssign for Vectoriz
     }
 }
 
-impl<F: Copy, P: PrimeCharacteristicRing, const N: usize> Mul for Vectorized<F, P, N> {
+impl<F: Copy, P: PrimeCharacteristicRing + Inhabited, const N: usize> Mul for Vectorized<F, P, N> {
     type Output = Self;
 
     ghost mul_gives = { λ x y r. (d : P) (k : ℕ) → k < N → get_or r.items k d ≡ P.ops.mul (get_or x.items k d) (get_or y.items k d) };
@@ -156,7 +157,7 @@ impl<F: Copy, P: PrimeCharacteristicRing, const N: usize> Mul for Vectorized<F, 
     }
 }
 
-impl<F: Copy, P: PrimeCharacteristicRing, const N: usize> MulAssign for Vectorized<F, P, N> {
+impl<F: Copy, P: PrimeCharacteristicRing + Inhabited, const N: usize> MulAssign for Vectorized<F, P, N> {
     ghost mul_assign_gives = { λ x y r. (d : P) (k : ℕ) → k < N → get_or r.items k d ≡ P.ops.mul (get_or x.items k d) (get_or y.items k d) };
 
     #[inline]
@@ -165,7 +166,7 @@ impl<F: Copy, P: PrimeCharacteristicRing, const N: usize> MulAssign for Vectoriz
     }
 }
 
-impl<F: Copy, P: PrimeCharacteristicRing, const N: usize> Neg for Vectorized<F, P, N> {
+impl<F: Copy, P: PrimeCharacteristicRing + Inhabited, const N: usize> Neg for Vectorized<F, P, N> {
     type Output = Self;
 
     ghost neg_gives = { λ x r. (d : P) (k : ℕ) → k < N → get_or r.items k d ≡ P.ops.neg (get_or x.items k d) };
@@ -181,7 +182,7 @@ impl<F: Copy, P: PrimeCharacteristicRing, const N: usize> Neg for Vectorized<F, 
     }
 }
 
-impl<F: Copy, P: PrimeCharacteristicRing, const N: usize> Sum<Vectorized<F, P, N>>
+impl<F: Copy, P: PrimeCharacteristicRing + Inhabited, const N: usize> Sum<Vectorized<F, P, N>>
     for Vectorized<F, P, N> {
     ghost use Rattle.p3_theory.specs.Rings.Operators.{sum_list};
     ghost use Rattle.p3_theory.specs.Lanes.Rows.{rows};
@@ -196,7 +197,7 @@ impl<F: Copy, P: PrimeCharacteristicRing, const N: usize> Sum<Vectorized<F, P, N
     }
 }
 
-impl<F: Copy, P: PrimeCharacteristicRing, const N: usize> Product<Vectorized<F, P, N>>
+impl<F: Copy, P: PrimeCharacteristicRing + Inhabited, const N: usize> Product<Vectorized<F, P, N>>
     for Vectorized<F, P, N> {
     ghost use Rattle.p3_theory.specs.Rings.Operators.{product_list};
     ghost use Rattle.p3_theory.specs.Lanes.Rows.{rows};
@@ -211,7 +212,7 @@ impl<F: Copy, P: PrimeCharacteristicRing, const N: usize> Product<Vectorized<F, 
     }
 }
 
-impl<F: Copy, P: PrimeCharacteristicRing, const N: usize> PrimeCharacteristicRing
+impl<F: Copy, P: PrimeCharacteristicRing + Inhabited, const N: usize> PrimeCharacteristicRing
     for Vectorized<F, P, N> {
     ghost use Rattle.p3_theory.specs.Lanes.Rows.{rows};
     ghost use Rattle.p3_theory.specs.Lanes.RowRing.{row_ops, row_laws, row_characteristic, written_sum, written_product, written_negation, written_difference};
@@ -290,7 +291,7 @@ impl<F: Copy, P: PrimeCharacteristicRing, const N: usize> PrimeCharacteristicRin
     ghost mul_assigns = { record { called = λ _ _. tt; answer = written_product rows P.ops } };
 }
 
-impl<F: Copy, P: PrimeCharacteristicRing, const N: usize> RingSums for Vectorized<F, P, N> {
+impl<F: Copy, P: PrimeCharacteristicRing + Inhabited, const N: usize> RingSums for Vectorized<F, P, N> {
     ghost sums = { record { called = λ _. tt; answer = λ _ _ h. h; whole = λ _. tt } };
 
     ghost products = { record { called = λ _. tt; answer = λ _ _ h. h; whole = λ _. tt } };

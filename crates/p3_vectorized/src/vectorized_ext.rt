@@ -7,7 +7,7 @@ ghost use Rattle.p3_theory.specs.Rings.Ring.{subtract};
 ghost use Rattle.p3_theory.specs.Lanes.VectorLanes.{vector_lane};
 
 use p3_base::field::Field;
-use p3_base::packed_traits::PackedValue;
+use p3_base::packed_traits::{Inhabited, PackedValue};
 use p3_ring::accumulate::{product_from, sum_from};
 use p3_ring::ring::{PrimeCharacteristicRing, RingSums};
 use p3_spaces::extension_field::ExtensionField;
@@ -20,12 +20,12 @@ use std::ops::{Add, AddAssign, Mul, MulAssign, Neg, Sub, SubAssign};
 
 /// N packings of extension values, one after the other. Upstream's `VectorizedExt`, with the packing
 /// as a parameter.
-pub struct VectorizedExt<F, EF, PE: PrimeCharacteristicRing, const N: usize>(
+pub struct VectorizedExt<F, EF, PE: Inhabited, const N: usize>(
     pub [PE; N],
     PhantomData<(F, EF)>,
 );
 
-impl<F, EF, PE: PrimeCharacteristicRing, const N: usize> Model for VectorizedExt<F, EF, PE, N> {
+impl<F, EF, PE: Inhabited, const N: usize> Model for VectorizedExt<F, EF, PE, N> {
     ghost use Rattle.std.specs.Prelude.{◌≡◌, length};
     ghost use Rattle.p3_theory.specs.Lanes.Rows.{Row, fitted, row_code};
     ghost use Rattle.p3_vectorized.specs.Inside.{same_inside};
@@ -34,16 +34,16 @@ impl<F, EF, PE: PrimeCharacteristicRing, const N: usize> Model for VectorizedExt
 
     ghost coded = { row_code N PE.code };
 
-    ghost view = { λ a. fitted PE.ops.zero N a.0 };
+    ghost view = { λ a. fitted PE.inhabitant N a.0 };
 
     ghost invariant = { λ a. length a.0 ≡ N };
 
     ghost inverse = { λ v. record { 0 = v.items; 1 = record {} } };
 
-    ghost inverse_ok = { λ a h. same_inside PE.ops.zero N a h };
+    ghost inverse_ok = { λ a h. same_inside PE.inhabitant N a h };
 }
 
-impl<F: Copy, EF: Copy, PE: PrimeCharacteristicRing, const N: usize> Clone
+impl<F: Copy, EF: Copy, PE: Inhabited, const N: usize> Clone
     for VectorizedExt<F, EF, PE, N> {
     ghost use Rattle.std.specs.Prelude.{⊤};
 
@@ -57,10 +57,10 @@ impl<F: Copy, EF: Copy, PE: PrimeCharacteristicRing, const N: usize> Clone
     }
 }
 
-impl<F: Copy, EF: Copy, PE: PrimeCharacteristicRing, const N: usize> Copy
+impl<F: Copy, EF: Copy, PE: Inhabited, const N: usize> Copy
     for VectorizedExt<F, EF, PE, N> {}
 
-impl<F: Copy, EF: Copy, PE: PrimeCharacteristicRing, const N: usize> VectorizedExt<F, EF, PE, N> {
+impl<F: Copy, EF: Copy, PE: Inhabited, const N: usize> VectorizedExt<F, EF, PE, N> {
     /// The vector of these packings. This project's own: upstream writes the array alone.
     #[tactic(auto, using(p3_theory::specs::Lanes::Rows::fit_same))]
     #[inline]
@@ -80,7 +80,7 @@ impl<F: Copy, EF: Copy, PE: PrimeCharacteristicRing, const N: usize> VectorizedE
 }
 
 /// Zero. Upstream's `Default`.
-impl<F: Copy, EF: Copy, PE: PrimeCharacteristicRing, const N: usize> Default
+impl<F: Copy, EF: Copy, PE: PrimeCharacteristicRing + Inhabited, const N: usize> Default
     for VectorizedExt<F, EF, PE, N> {
     ghost is_default = { λ x. x.items ≡ replicate N PE.ops.zero };
 
@@ -92,14 +92,14 @@ impl<F: Copy, EF: Copy, PE: PrimeCharacteristicRing, const N: usize> Default
 }
 
 /// The packings as a list. No contract speaks of the text.
-impl<F, EF, PE: PrimeCharacteristicRing + fmt::Debug, const N: usize> fmt::Debug
+impl<F, EF, PE: Inhabited + fmt::Debug, const N: usize> fmt::Debug
     for VectorizedExt<F, EF, PE, N> {
     fn fmt<W: fmt::Write>(&self, f: &mut fmt::Formatter<W>) -> fmt::Result {
         fmt::Debug::fmt(&self.0, f)
     }
 }
 
-impl<F: Copy, EF: Copy, PE: PrimeCharacteristicRing, const N: usize> Add
+impl<F: Copy, EF: Copy, PE: PrimeCharacteristicRing + Inhabited, const N: usize> Add
     for VectorizedExt<F, EF, PE, N> {
     type Output = Self;
 
@@ -117,7 +117,7 @@ impl<F: Copy, EF: Copy, PE: PrimeCharacteristicRing, const N: usize> Add
     }
 }
 
-impl<F: Copy, EF: Copy, PE: PrimeCharacteristicRing, const N: usize> AddAssign
+impl<F: Copy, EF: Copy, PE: PrimeCharacteristicRing + Inhabited, const N: usize> AddAssign
     for VectorizedExt<F, EF, PE, N> {
     ghost add_assign_gives = { λ x y r. (d : PE) (k : ℕ) → k < N → get_or r.items k d ≡ PE.ops.add (get_or x.items k d) (get_or y.items k d) };
 
@@ -127,7 +127,7 @@ impl<F: Copy, EF: Copy, PE: PrimeCharacteristicRing, const N: usize> AddAssign
     }
 }
 
-impl<F: Copy, EF: Copy, PE: PrimeCharacteristicRing, const N: usize> Sub
+impl<F: Copy, EF: Copy, PE: PrimeCharacteristicRing + Inhabited, const N: usize> Sub
     for VectorizedExt<F, EF, PE, N> {
     type Output = Self;
 
@@ -145,7 +145,7 @@ impl<F: Copy, EF: Copy, PE: PrimeCharacteristicRing, const N: usize> Sub
     }
 }
 
-impl<F: Copy, EF: Copy, PE: PrimeCharacteristicRing, const N: usize> SubAssign
+impl<F: Copy, EF: Copy, PE: PrimeCharacteristicRing + Inhabited, const N: usize> SubAssign
     for VectorizedExt<F, EF, PE, N> {
     ghost sub_assign_gives = { λ x y r. (d : PE) (k : ℕ) → k < N → get_or r.items k d ≡ subtract PE.ops (get_or x.items k d) (get_or y.items k d) };
 
@@ -155,7 +155,7 @@ impl<F: Copy, EF: Copy, PE: PrimeCharacteristicRing, const N: usize> SubAssign
     }
 }
 
-impl<F: Copy, EF: Copy, PE: PrimeCharacteristicRing, const N: usize> Mul
+impl<F: Copy, EF: Copy, PE: PrimeCharacteristicRing + Inhabited, const N: usize> Mul
     for VectorizedExt<F, EF, PE, N> {
     type Output = Self;
 
@@ -173,7 +173,7 @@ impl<F: Copy, EF: Copy, PE: PrimeCharacteristicRing, const N: usize> Mul
     }
 }
 
-impl<F: Copy, EF: Copy, PE: PrimeCharacteristicRing, const N: usize> MulAssign
+impl<F: Copy, EF: Copy, PE: PrimeCharacteristicRing + Inhabited, const N: usize> MulAssign
     for VectorizedExt<F, EF, PE, N> {
     ghost mul_assign_gives = { λ x y r. (d : PE) (k : ℕ) → k < N → get_or r.items k d ≡ PE.ops.mul (get_or x.items k d) (get_or y.items k d) };
 
@@ -183,7 +183,7 @@ impl<F: Copy, EF: Copy, PE: PrimeCharacteristicRing, const N: usize> MulAssign
     }
 }
 
-impl<F: Copy, EF: Copy, PE: PrimeCharacteristicRing, const N: usize> Neg
+impl<F: Copy, EF: Copy, PE: PrimeCharacteristicRing + Inhabited, const N: usize> Neg
     for VectorizedExt<F, EF, PE, N> {
     type Output = Self;
 
@@ -200,7 +200,7 @@ impl<F: Copy, EF: Copy, PE: PrimeCharacteristicRing, const N: usize> Neg
     }
 }
 
-impl<F: Copy, EF: Copy, PE: PrimeCharacteristicRing, const N: usize> Sum<
+impl<F: Copy, EF: Copy, PE: PrimeCharacteristicRing + Inhabited, const N: usize> Sum<
     VectorizedExt<F, EF, PE, N>,
 > for VectorizedExt<F, EF, PE, N> {
     ghost use Rattle.p3_theory.specs.Rings.Operators.{sum_list};
@@ -216,7 +216,7 @@ impl<F: Copy, EF: Copy, PE: PrimeCharacteristicRing, const N: usize> Sum<
     }
 }
 
-impl<F: Copy, EF: Copy, PE: PrimeCharacteristicRing, const N: usize> Product<
+impl<F: Copy, EF: Copy, PE: PrimeCharacteristicRing + Inhabited, const N: usize> Product<
     VectorizedExt<F, EF, PE, N>,
 > for VectorizedExt<F, EF, PE, N> {
     ghost use Rattle.p3_theory.specs.Rings.Operators.{product_list};
@@ -232,7 +232,7 @@ impl<F: Copy, EF: Copy, PE: PrimeCharacteristicRing, const N: usize> Product<
     }
 }
 
-impl<F: Copy, EF: Copy, PE: PrimeCharacteristicRing, const N: usize> PrimeCharacteristicRing
+impl<F: Copy, EF: Copy, PE: PrimeCharacteristicRing + Inhabited, const N: usize> PrimeCharacteristicRing
     for VectorizedExt<F, EF, PE, N> {
     ghost use Rattle.p3_theory.specs.Lanes.Rows.{rows};
     ghost use Rattle.p3_theory.specs.Lanes.RowRing.{row_ops, row_laws, row_characteristic, written_sum, written_product, written_negation, written_difference};
@@ -311,7 +311,7 @@ impl<F: Copy, EF: Copy, PE: PrimeCharacteristicRing, const N: usize> PrimeCharac
     ghost mul_assigns = { record { called = λ _ _. tt; answer = written_product rows PE.ops } };
 }
 
-impl<F: Copy, EF: Copy, PE: PrimeCharacteristicRing, const N: usize> RingSums
+impl<F: Copy, EF: Copy, PE: PrimeCharacteristicRing + Inhabited, const N: usize> RingSums
     for VectorizedExt<F, EF, PE, N> {
     ghost sums = { record { called = λ _. tt; answer = λ _ _ h. h; whole = λ _. tt } };
 

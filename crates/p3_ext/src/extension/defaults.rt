@@ -2,7 +2,7 @@
 ghost use Rattle.std.specs.Prelude.{◌≡◌, replicate};
 
 use super::ext_field::ExtField;
-use p3_base::packed_traits::Packable;
+use p3_base::packed_traits::{Inhabited, Packable};
 use p3_ring::ring::PrimeCharacteristicRing;
 use std::fmt;
 
@@ -18,9 +18,17 @@ impl<F: Copy, const D: usize, S: Copy, A: PrimeCharacteristicRing> Default
     }
 }
 
+/// The value whose coefficients are all one value of the coefficient type.
+impl<F: Copy, const D: usize, S: Copy, A: Inhabited> Inhabited for ExtField<F, D, S, A> {
+    ghost use Rattle.std.proofs.lemmas.List.{length-replicate};
+    ghost use Rattle.p3_ext.specs.Values.{value_of};
+
+    ghost inhabitant = { value_of (replicate D A.inhabitant) (length-replicate D A.inhabitant) };
+}
+
 /// Extension values may stand in the lanes of a packing. Upstream's `Packable` of its extension
 /// types.
-impl<F: Copy, const D: usize, S: Copy, A: PrimeCharacteristicRing + Eq> Packable
+impl<F: Copy, const D: usize, S: Copy, A: PrimeCharacteristicRing + Eq + Inhabited> Packable
     for ExtField<F, D, S, A> {}
 
 /// The coefficients as a list. No contract speaks of the text, which isn't the one that upstream

@@ -1,11 +1,12 @@
 ghost use Rattle.std.specs.Prelude.{◌≡◌, ◌<◌, ℕ, get_or, replicate};
 
 use super::Vectorized;
+use p3_base::packed_traits::Inhabited;
 use p3_ring::ring::{Algebra, PrimeCharacteristicRing};
 use std::ops::{Add, AddAssign, Mul, MulAssign, Sub, SubAssign};
 
 /// The scalar in each packing.
-impl<F: Copy, P: PrimeCharacteristicRing + From<F>, const N: usize> From<F>
+impl<F: Copy, P: PrimeCharacteristicRing + Inhabited + From<F>, const N: usize> From<F>
     for Vectorized<F, P, N> {
     ghost from_gives = { λ f r. (v : P) × ⟦<P as From<F>>⟧.from_gives f v × (r.items ≡ replicate N v) };
 
@@ -17,7 +18,7 @@ impl<F: Copy, P: PrimeCharacteristicRing + From<F>, const N: usize> From<F>
 }
 
 /// Each packing and the scalar.
-impl<F: Copy, P: PrimeCharacteristicRing + Add<F, Output = P>, const N: usize> Add<F>
+impl<F: Copy, P: PrimeCharacteristicRing + Inhabited + Add<F, Output = P>, const N: usize> Add<F>
     for Vectorized<F, P, N> {
     type Output = Self;
 
@@ -36,7 +37,7 @@ impl<F: Copy, P: PrimeCharacteristicRing + Add<F, Output = P>, const N: usize> A
     }
 }
 
-impl<F: Copy, P: PrimeCharacteristicRing + Add<F, Output = P>, const N: usize> AddAssign<F>
+impl<F: Copy, P: PrimeCharacteristicRing + Inhabited + Add<F, Output = P>, const N: usize> AddAssign<F>
     for Vectorized<F, P, N> {
     ghost can_add_assign = { λ x f. (d : P) (k : ℕ) → k < N → ⟦<P as Add<F>>⟧.can_add (get_or x.items k d) f };
 
@@ -49,7 +50,7 @@ impl<F: Copy, P: PrimeCharacteristicRing + Add<F, Output = P>, const N: usize> A
 }
 
 /// Each packing less the scalar.
-impl<F: Copy, P: PrimeCharacteristicRing + Sub<F, Output = P>, const N: usize> Sub<F>
+impl<F: Copy, P: PrimeCharacteristicRing + Inhabited + Sub<F, Output = P>, const N: usize> Sub<F>
     for Vectorized<F, P, N> {
     type Output = Self;
 
@@ -68,7 +69,7 @@ impl<F: Copy, P: PrimeCharacteristicRing + Sub<F, Output = P>, const N: usize> S
     }
 }
 
-impl<F: Copy, P: PrimeCharacteristicRing + Sub<F, Output = P>, const N: usize> SubAssign<F>
+impl<F: Copy, P: PrimeCharacteristicRing + Inhabited + Sub<F, Output = P>, const N: usize> SubAssign<F>
     for Vectorized<F, P, N> {
     ghost can_sub_assign = { λ x f. (d : P) (k : ℕ) → k < N → ⟦<P as Sub<F>>⟧.can_sub (get_or x.items k d) f };
 
@@ -81,7 +82,7 @@ impl<F: Copy, P: PrimeCharacteristicRing + Sub<F, Output = P>, const N: usize> S
 }
 
 /// Each packing times the scalar.
-impl<F: Copy, P: PrimeCharacteristicRing + Mul<F, Output = P>, const N: usize> Mul<F>
+impl<F: Copy, P: PrimeCharacteristicRing + Inhabited + Mul<F, Output = P>, const N: usize> Mul<F>
     for Vectorized<F, P, N> {
     type Output = Self;
 
@@ -100,7 +101,7 @@ impl<F: Copy, P: PrimeCharacteristicRing + Mul<F, Output = P>, const N: usize> M
     }
 }
 
-impl<F: Copy, P: PrimeCharacteristicRing + Mul<F, Output = P>, const N: usize> MulAssign<F>
+impl<F: Copy, P: PrimeCharacteristicRing + Inhabited + Mul<F, Output = P>, const N: usize> MulAssign<F>
     for Vectorized<F, P, N> {
     ghost can_mul_assign = { λ x f. (d : P) (k : ℕ) → k < N → ⟦<P as Mul<F>>⟧.can_mul (get_or x.items k d) f };
 
@@ -113,7 +114,7 @@ impl<F: Copy, P: PrimeCharacteristicRing + Mul<F, Output = P>, const N: usize> M
 }
 
 /// A scalar stands for the vector that has it in every lane.
-impl<F: PrimeCharacteristicRing, P: Algebra<F>, const N: usize> Algebra<F> for Vectorized<F, P, N> {
+impl<F: PrimeCharacteristicRing, P: Inhabited + Algebra<F>, const N: usize> Algebra<F> for Vectorized<F, P, N> {
     ghost use Rattle.p3_theory.specs.Rings.Homomorphism.{compose};
     ghost use Rattle.p3_theory.specs.Lanes.Rows.{rows};
     ghost use Rattle.p3_theory.specs.Lanes.RowRing.{constant, constants_keep, written_mixed_sum, written_mixed_difference, written_mixed_product};

@@ -2,11 +2,12 @@ ghost use Rattle.std.specs.Prelude.{◌≡◌, ◌<◌, ℕ, get_or, replicate};
 
 use super::VectorizedExt;
 use p3_base::field::Field;
+use p3_base::packed_traits::Inhabited;
 use p3_ring::ring::{Algebra, PrimeCharacteristicRing};
 use std::ops::{Add, AddAssign, Mul, MulAssign, Sub, SubAssign};
 
 /// The extension value in each packing.
-impl<F: Copy, EF: Field, PE: PrimeCharacteristicRing + From<EF>, const N: usize> From<EF>
+impl<F: Copy, EF: Field, PE: PrimeCharacteristicRing + Inhabited + From<EF>, const N: usize> From<EF>
     for VectorizedExt<F, EF, PE, N> {
     ghost from_gives = { λ f r. (v : PE) × ⟦<PE as From<EF>>⟧.from_gives f v × (r.items ≡ replicate N v) };
 
@@ -18,7 +19,7 @@ impl<F: Copy, EF: Field, PE: PrimeCharacteristicRing + From<EF>, const N: usize>
 }
 
 /// Each packing and the extension value.
-impl<F: Copy, EF: Field, PE: PrimeCharacteristicRing + Add<EF, Output = PE>, const N: usize> Add<EF>
+impl<F: Copy, EF: Field, PE: PrimeCharacteristicRing + Inhabited + Add<EF, Output = PE>, const N: usize> Add<EF>
     for VectorizedExt<F, EF, PE, N> {
     type Output = Self;
 
@@ -40,7 +41,7 @@ impl<F: Copy, EF: Field, PE: PrimeCharacteristicRing + Add<EF, Output = PE>, con
 impl<
     F: Copy,
     EF: Field,
-    PE: PrimeCharacteristicRing + Add<EF, Output = PE>,
+    PE: PrimeCharacteristicRing + Inhabited + Add<EF, Output = PE>,
     const N: usize,
 > AddAssign<EF> for VectorizedExt<F, EF, PE, N> {
     ghost can_add_assign = { λ x f. (d : PE) (k : ℕ) → k < N → ⟦<PE as Add<EF>>⟧.can_add (get_or x.items k d) f };
@@ -54,7 +55,7 @@ impl<
 }
 
 /// Each packing less the extension value.
-impl<F: Copy, EF: Field, PE: PrimeCharacteristicRing + Sub<EF, Output = PE>, const N: usize> Sub<EF>
+impl<F: Copy, EF: Field, PE: PrimeCharacteristicRing + Inhabited + Sub<EF, Output = PE>, const N: usize> Sub<EF>
     for VectorizedExt<F, EF, PE, N> {
     type Output = Self;
 
@@ -76,7 +77,7 @@ impl<F: Copy, EF: Field, PE: PrimeCharacteristicRing + Sub<EF, Output = PE>, con
 impl<
     F: Copy,
     EF: Field,
-    PE: PrimeCharacteristicRing + Sub<EF, Output = PE>,
+    PE: PrimeCharacteristicRing + Inhabited + Sub<EF, Output = PE>,
     const N: usize,
 > SubAssign<EF> for VectorizedExt<F, EF, PE, N> {
     ghost can_sub_assign = { λ x f. (d : PE) (k : ℕ) → k < N → ⟦<PE as Sub<EF>>⟧.can_sub (get_or x.items k d) f };
@@ -90,7 +91,7 @@ impl<
 }
 
 /// Each packing times the extension value.
-impl<F: Copy, EF: Field, PE: PrimeCharacteristicRing + Mul<EF, Output = PE>, const N: usize> Mul<EF>
+impl<F: Copy, EF: Field, PE: PrimeCharacteristicRing + Inhabited + Mul<EF, Output = PE>, const N: usize> Mul<EF>
     for VectorizedExt<F, EF, PE, N> {
     type Output = Self;
 
@@ -112,7 +113,7 @@ impl<F: Copy, EF: Field, PE: PrimeCharacteristicRing + Mul<EF, Output = PE>, con
 impl<
     F: Copy,
     EF: Field,
-    PE: PrimeCharacteristicRing + Mul<EF, Output = PE>,
+    PE: PrimeCharacteristicRing + Inhabited + Mul<EF, Output = PE>,
     const N: usize,
 > MulAssign<EF> for VectorizedExt<F, EF, PE, N> {
     ghost can_mul_assign = { λ x f. (d : PE) (k : ℕ) → k < N → ⟦<PE as Mul<EF>>⟧.can_mul (get_or x.items k d) f };
@@ -126,7 +127,7 @@ impl<
 }
 
 /// An extension value stands for the vector that has it in every lane.
-impl<F: Copy, EF: Field, PE: Algebra<EF>, const N: usize> Algebra<EF>
+impl<F: Copy, EF: Field, PE: Inhabited + Algebra<EF>, const N: usize> Algebra<EF>
     for VectorizedExt<F, EF, PE, N> {
     ghost use Rattle.p3_theory.specs.Rings.Homomorphism.{compose};
     ghost use Rattle.p3_theory.specs.Lanes.Rows.{rows};

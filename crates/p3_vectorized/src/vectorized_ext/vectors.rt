@@ -2,6 +2,7 @@ ghost use Rattle.std.specs.Prelude.{◌≡◌, ◌<◌, ℕ, get_or, length};
 
 use super::VectorizedExt;
 use crate::vectorized::Vectorized;
+use p3_base::packed_traits::Inhabited;
 use p3_ring::ring::{Algebra, PrimeCharacteristicRing};
 use std::ops::{Add, AddAssign, Mul, MulAssign, Sub, SubAssign};
 
@@ -9,8 +10,8 @@ use std::ops::{Add, AddAssign, Mul, MulAssign, Sub, SubAssign};
 impl<
     F: Copy,
     EF: Copy,
-    P: PrimeCharacteristicRing,
-    PE: PrimeCharacteristicRing + From<P>,
+    P: PrimeCharacteristicRing + Inhabited,
+    PE: PrimeCharacteristicRing + Inhabited + From<P>,
     const N: usize,
 > From<Vectorized<F, P, N>> for VectorizedExt<F, EF, PE, N> {
     ghost from_gives = { λ x r. (d : P) (e : PE) (k : ℕ) → k < N → ⟦<PE as From<P>>⟧.from_gives (get_or x.items k d) (get_or r.items k e) };
@@ -30,8 +31,8 @@ impl<
 impl<
     F: Copy,
     EF: Copy,
-    P: PrimeCharacteristicRing,
-    PE: PrimeCharacteristicRing + Add<P, Output = PE>,
+    P: PrimeCharacteristicRing + Inhabited,
+    PE: PrimeCharacteristicRing + Inhabited + Add<P, Output = PE>,
     const N: usize,
 > Add<Vectorized<F, P, N>> for VectorizedExt<F, EF, PE, N> {
     type Output = Self;
@@ -55,8 +56,8 @@ impl<
 impl<
     F: Copy,
     EF: Copy,
-    P: PrimeCharacteristicRing,
-    PE: PrimeCharacteristicRing + Add<P, Output = PE>,
+    P: PrimeCharacteristicRing + Inhabited,
+    PE: PrimeCharacteristicRing + Inhabited + Add<P, Output = PE>,
     const N: usize,
 > AddAssign<Vectorized<F, P, N>> for VectorizedExt<F, EF, PE, N> {
     ghost can_add_assign = { λ x y. (d : PE) (e : P) (k : ℕ) → k < N → ⟦<PE as Add<P>>⟧.can_add (get_or x.items k d) (get_or y.items k e) };
@@ -73,8 +74,8 @@ impl<
 impl<
     F: Copy,
     EF: Copy,
-    P: PrimeCharacteristicRing,
-    PE: PrimeCharacteristicRing + Sub<P, Output = PE>,
+    P: PrimeCharacteristicRing + Inhabited,
+    PE: PrimeCharacteristicRing + Inhabited + Sub<P, Output = PE>,
     const N: usize,
 > Sub<Vectorized<F, P, N>> for VectorizedExt<F, EF, PE, N> {
     type Output = Self;
@@ -98,8 +99,8 @@ impl<
 impl<
     F: Copy,
     EF: Copy,
-    P: PrimeCharacteristicRing,
-    PE: PrimeCharacteristicRing + Sub<P, Output = PE>,
+    P: PrimeCharacteristicRing + Inhabited,
+    PE: PrimeCharacteristicRing + Inhabited + Sub<P, Output = PE>,
     const N: usize,
 > SubAssign<Vectorized<F, P, N>> for VectorizedExt<F, EF, PE, N> {
     ghost can_sub_assign = { λ x y. (d : PE) (e : P) (k : ℕ) → k < N → ⟦<PE as Sub<P>>⟧.can_sub (get_or x.items k d) (get_or y.items k e) };
@@ -116,8 +117,8 @@ impl<
 impl<
     F: Copy,
     EF: Copy,
-    P: PrimeCharacteristicRing,
-    PE: PrimeCharacteristicRing + Mul<P, Output = PE>,
+    P: PrimeCharacteristicRing + Inhabited,
+    PE: PrimeCharacteristicRing + Inhabited + Mul<P, Output = PE>,
     const N: usize,
 > Mul<Vectorized<F, P, N>> for VectorizedExt<F, EF, PE, N> {
     type Output = Self;
@@ -141,8 +142,8 @@ impl<
 impl<
     F: Copy,
     EF: Copy,
-    P: PrimeCharacteristicRing,
-    PE: PrimeCharacteristicRing + Mul<P, Output = PE>,
+    P: PrimeCharacteristicRing + Inhabited,
+    PE: PrimeCharacteristicRing + Inhabited + Mul<P, Output = PE>,
     const N: usize,
 > MulAssign<Vectorized<F, P, N>> for VectorizedExt<F, EF, PE, N> {
     ghost can_mul_assign = { λ x y. (d : PE) (e : P) (k : ℕ) → k < N → ⟦<PE as Mul<P>>⟧.can_mul (get_or x.items k d) (get_or y.items k e) };
@@ -156,7 +157,7 @@ impl<
 }
 
 /// A vector of packings of field values stands for the vector of the packings that they stand for.
-impl<F: Copy, EF: Copy, P: PrimeCharacteristicRing, PE: Algebra<P>, const N: usize> Algebra<
+impl<F: Copy, EF: Copy, P: PrimeCharacteristicRing + Inhabited, PE: Inhabited + Algebra<P>, const N: usize> Algebra<
     Vectorized<F, P, N>,
 > for VectorizedExt<F, EF, PE, N> {
     ghost use Rattle.p3_theory.specs.Lanes.Rows.{rows};
