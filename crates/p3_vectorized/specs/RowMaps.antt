@@ -1,8 +1,14 @@
 -- Rows mapped item by item.
-use Rattle.std.specs.Prelude.{◌≡◌, ◌<◌, ℕ, get_or}
+use Rattle.std.specs.Prelude.{◌≡◌, ◌<◌, ℕ, List, get_or, length, map, refl}
 use Rattle.std.proofs.Common.{ap, ap₂, ◌∙◌, sym}
 use Rattle.p3_theory.specs.Rings.Ring.{Ops, Hom, subtract}
-use Rattle.p3_theory.specs.Lanes.Rows.{Rows}
+use Rattle.p3_theory.specs.Polynomials.Polynomial.{tabulate}
+use Rattle.p3_theory.specs.Lists.Places.{to-tabulate}
+use Rattle.p3_theory.specs.Lists.IndexCalls.{answers-tabulate}
+use Rattle.std.specs.Array.{IsFromFnResult}
+use Rattle.std.specs.Fn.{Called}
+use denote.Param.Members.{Mut}
+use Rattle.p3_theory.specs.Lanes.Rows.{Row, Rows}
 use Rattle.p3_theory.specs.Lanes.RowRing.{row, row_ops, item, item-row, is_row}
 
 module _ {U V A B : Type 0} {n : ℕ} (Q : Rows U A n) (R : Rows V B n) (O : Ops A) (P : Ops B) (h : A → B) where
@@ -49,3 +55,18 @@ module _ {U V A B : Type 0} {n : ℕ} (Q : Rows U A n) (R : Rows V B n) (O : Ops
     pub written_row_product : ((a : B) (f : A) (c : B) → gives a f c → c ≡ P.mul a (h f)) → (x : V) (y : U) (r : V)
         → ((d : B) (e : A) (k : ℕ) → k < n → gives (get_or (R.items x) k d) (get_or (Q.items y) k e) (get_or (R.items r) k d)) → r ≡ (row_ops R P).mul x (mapped y)
     written_row_product is x y r w = is_row R P r _ (λ k b. is _ _ _ (w P.zero O.zero k b) ∙ ap (P.mul (item R P k x)) (sym (item-mapped y k b)))
+
+-- a list is the table of its items
+pub by_items : {A : Type 0} (z : A) (xs : List A) (m : ℕ) (ys : List A) → length xs ≡ m → ys ≡ tabulate m (λ k. get_or xs k z) → ys ≡ xs
+by_items z xs m ys h e = e ∙ sym (to-tabulate z m (λ k. get_or xs k z) xs h (λ k b. refl))
+
+-- what calls at the indices below m answered is the table of s
+pub called_tabulate : {F B : Type 0} (g : Mut F (ℕ × Unit {0}) B) (f : F) (ys : List B) (m : ℕ) → IsFromFnResult g f ys m → (I : F → Type 0) (s : ℕ → B) → I f
+    → ((p : F) (i : ℕ) (y : B) (q : F) → I p → Called g p (i, tt) y q → (y ≡ s i) × I q) → B → ys ≡ tabulate m s
+called_tabulate g f ys m h I s kept step d = answers-tabulate g I s step d f ys m kept h
+
+-- an answer told of equal rows and an equal index
+pub column_answer : {A : Type 0} {n : ℕ} (z : A) (xs ys : List (Row A n)) (i j k : ℕ) (y : A) → xs ≡ ys → i ≡ j
+    → ((e : A) → y ≡ get_or (map (λ v. get_or v.items i z) xs) k e) → y ≡ get_or (map (λ v. get_or v.items j z) ys) k z
+column_answer z xs ys i j k y rows_are index_is told =
+    told z ∙ ap (λ l. get_or (map (λ v. get_or v.items i z) l) k z) rows_are ∙ ap (λ m. get_or (map (λ v. get_or v.items m z) ys) k z) index_is

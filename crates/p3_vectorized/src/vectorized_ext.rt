@@ -2,14 +2,16 @@
 mod algebra;
 mod vectors;
 
-ghost use Rattle.std.specs.Prelude.{◌≡◌, ◌<◌, ◌*◌, ℕ, length, get_or, replicate};
+ghost use Rattle.std.specs.Prelude.{◌≡◌, ◌<◌, ◌*◌, ℕ, length, get_or, map, replicate};
 ghost use Rattle.p3_theory.specs.Rings.Ring.{subtract};
 ghost use Rattle.p3_theory.specs.Lanes.VectorLanes.{vector_lane};
 
+use crate::vectorized::Vectorized;
 use p3_base::field::Field;
 use p3_base::packed_traits::{Inhabited, PackedValue};
 use p3_ring::accumulate::{product_from, sum_from};
 use p3_ring::ring::{PrimeCharacteristicRing, RingSums};
+use p3_spaces::basis::BasedVectorSpace;
 use p3_spaces::extension_field::ExtensionField;
 use p3_spaces::packed_field_extension::PackedFieldExtension;
 use std::alloc::AllocError;
@@ -324,6 +326,20 @@ impl<
     PE: PackedFieldExtension<F, EF>,
     const N: usize,
 > VectorizedExt<F, EF, PE, N> {
+    /// The vector whose packings have these packings of field values as their coefficients, index by
+    /// index. There are as many as the dimension. Upstream's `from_vectorized_basis_coefficients`.
+    #[inline]
+    pub fn from_vectorized_basis_coefficients(coefficients: &[Vectorized<F, PE::Base, N>]) -> Self
+        requires { length coefficients.now ≡ EF.DIMENSION }
+        ensures { (d : PE) (k : ℕ) → k < N → ⟦<PE as BasedVectorSpace<PE::Base>>⟧.coefficients (get_or result.items k d) ≡ map (λ v. get_or v.items k PE.Base.ops.zero) coefficients.now }
+    {
+        let mut items = [PE::zero(); N];
+        for i in 0..N {
+            items[i] = packing_of_coefficients::<F, EF, PE, N>(coefficients, i);
+        }
+        Self::new(items)
+    }
+
     /// The value at a lane: lane `lane % WIDTH` of packing `lane / WIDTH`, where `WIDTH` is the
     /// number of lanes of a packing. The lane is below `WIDTH * N`. Upstream's `extract`.
     #[inline]
@@ -337,4 +353,42 @@ impl<
         let part = all[lane / width];
         PackedFieldExtension::extract(&part, lane % width)
     }
+}
+
+/// The packing at index i of vector d.
+#[inline]
+fn packing_at<F: Copy, P: PrimeCharacteristicRing, const N: usize>(
+    vectors: &[Vectorized<F, P, N>],
+    d: usize,
+    i: usize,
+) -> P
+    requires vector { d < length vectors.now }
+    requires index { i < N }
+    ensures { (e : P) → result ≡ get_or (map (λ v. get_or v.items i P.ops.zero) vectors.now) d e }
+{
+    let vector = &vectors[d];
+    let packings = vector.items();
+    packings[i]
+}
+
+/// The packing of extension values whose coefficients are the packings at index i.
+#[inline]
+fn packing_of_coefficients<
+    F: Field,
+    EF: ExtensionField<F>,
+    PE: PackedFieldExtension<F, EF>,
+    const N: usize,
+>(coefficients: &[Vectorized<F, PE::Base, N>], i: usize) -> PE
+    requires index { i < N }
+    requires dimension { length coefficients.now ≡ EF.DIMENSION }
+    ensures { ⟦<PE as BasedVectorSpace<PE::Base>>⟧.coefficients result ≡ map (λ v. get_or v.items i PE.Base.ops.zero) coefficients.now }
+{
+    <PE as BasedVectorSpace<PE::Base>>::from_basis_coefficients_fn(
+        |d: usize| -> PE::Base
+            requires vector { d < length coefficients.now }
+            requires index { i < N }
+            ensures packing { (e : PE.Base) → result ≡ get_or (map (λ v. get_or v.items i PE.Base.ops.zero) coefficients.entry.now) d e }
+            ensures kept { coefficients.exit ≡ coefficients.entry }
+        { packing_at(coefficients, d, i) },
+    )
 }
