@@ -1,0 +1,3 @@
+pub mod ModularLanes
+pub mod Blocks
+pub mod Interleaving
