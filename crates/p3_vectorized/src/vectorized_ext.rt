@@ -335,7 +335,7 @@ impl<
     {
         let mut items = [PE::zero(); N];
         for i in 0..N {
-            items[i] = packing_of_coefficients::<F, EF, PE, N>(coefficients, i);
+            items[i] = packing_of_coefficients::<F, PE::Base, PE, N>(coefficients, i);
         }
         Self::new(items)
     }
@@ -357,7 +357,7 @@ impl<
 
 /// The packing at index i of vector d.
 #[inline]
-fn packing_at<F: Copy, P: PrimeCharacteristicRing, const N: usize>(
+fn packing_at<F: Copy, P: PrimeCharacteristicRing + Inhabited, const N: usize>(
     vectors: &[Vectorized<F, P, N>],
     d: usize,
     i: usize,
@@ -374,20 +374,20 @@ fn packing_at<F: Copy, P: PrimeCharacteristicRing, const N: usize>(
 /// The packing of extension values whose coefficients are the packings at index i.
 #[inline]
 fn packing_of_coefficients<
-    F: Field,
-    EF: ExtensionField<F>,
-    PE: PackedFieldExtension<F, EF>,
+    F: Copy,
+    P: PrimeCharacteristicRing + Inhabited,
+    PE: BasedVectorSpace<P>,
     const N: usize,
->(coefficients: &[Vectorized<F, PE::Base, N>], i: usize) -> PE
+>(coefficients: &[Vectorized<F, P, N>], i: usize) -> PE
     requires index { i < N }
-    requires dimension { length coefficients.now ≡ EF.DIMENSION }
-    ensures { ⟦<PE as BasedVectorSpace<PE::Base>>⟧.coefficients result ≡ map (λ v. get_or v.items i PE.Base.ops.zero) coefficients.now }
+    requires dimension { length coefficients.now ≡ PE.DIMENSION }
+    ensures { PE.coefficients result ≡ map (λ v. get_or v.items i P.ops.zero) coefficients.now }
 {
-    <PE as BasedVectorSpace<PE::Base>>::from_basis_coefficients_fn(
-        |d: usize| -> PE::Base
+    PE::from_basis_coefficients_fn(
+        |d: usize| -> P
             requires vector { d < length coefficients.now }
             requires index { i < N }
-            ensures packing { (e : PE.Base) → result ≡ get_or (map (λ v. get_or v.items i PE.Base.ops.zero) coefficients.entry.now) d e }
+            ensures packing { (e : P) → result ≡ get_or (map (λ v. get_or v.items i P.ops.zero) coefficients.entry.now) d e }
             ensures kept { coefficients.exit ≡ coefficients.entry }
         { packing_at(coefficients, d, i) },
     )
