@@ -3,7 +3,7 @@ ghost use Rattle.std.specs.Prelude.{◌≡◌, ℕ, ◌+◌, ◌-◌, ◌*◌, �
 
 use std::simd::prelude::*;
 
-/// Two values as a pair.
+/// Two values as a pair, whatever their type: `interleave` pairs vectors by it.
 #[inline(always)]
 fn pair<T>(first: T, second: T) -> (T, T)
     ensures left { result.0 ≡ first }
