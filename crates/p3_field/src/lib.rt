@@ -6,7 +6,7 @@ pub mod laws;
 pub mod steps;
 
 pub use p3_base::field::{Field, PrimeField, PrimeField32, PrimeField64, TwoAdicField};
-pub use p3_base::packed_traits::{Packable, PackedField, PackedFieldPow2, PackedValue};
+pub use p3_base::packed_traits::{Inhabited, Packable, PackedField, PackedFieldPow2, PackedValue};
 pub use p3_base::sqrt::{
     Turns, tonelli_shanks, tonelli_shanks_counted, tonelli_shanks_two_adic,
     tonelli_shanks_two_adic_counted,

@@ -1,11 +1,11 @@
 ghost use Rattle.std.specs.Prelude.{◌≡◌, ◌<◌, ℕ, get_or, map, replicate};
 ghost use Rattle.p3_theory.specs.Polynomials.Polynomial.{embed};
 
+use p3_base::packed_traits::Inhabited;
 use p3_ext::extension::{
     Binomial, CubicTrinomial, ExtField, ExtensionOverAlgebra, ExtensionShape, PackedProduct,
     QuinticTrinomial,
 };
-use p3_base::packed_traits::Inhabited;
 use p3_ring::accumulate::{product_from, sum_from};
 use p3_ring::ring::{Algebra, PrimeCharacteristicRing, RingSums};
 use std::alloc::AllocError;

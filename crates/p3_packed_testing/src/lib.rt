@@ -2,6 +2,4 @@
 #![tactic(auto)]
 
 #[cfg(test)]
-mod lane_run_tables;
-#[cfg(test)]
 mod lane_runs;

@@ -70,7 +70,8 @@ impl<F: Copy, P: Inhabited, const N: usize> Vectorized<F, P, N> {
 }
 
 /// Zero. Upstream's `Default`.
-impl<F: Copy, P: PrimeCharacteristicRing + Inhabited, const N: usize> Default for Vectorized<F, P, N> {
+impl<F: Copy, P: PrimeCharacteristicRing + Inhabited, const N: usize> Default
+    for Vectorized<F, P, N> {
     ghost is_default = { λ x. x.items ≡ replicate N P.ops.zero };
 
     /// The vector of zeros.
@@ -81,8 +82,7 @@ impl<F: Copy, P: PrimeCharacteristicRing + Inhabited, const N: usize> Default fo
 }
 
 /// The packings as a list. No contract speaks of the text.
-impl<F, P: Inhabited + fmt::Debug, const N: usize> fmt::Debug
-    for Vectorized<F, P, N> {
+impl<F, P: Inhabited + fmt::Debug, const N: usize> fmt::Debug for Vectorized<F, P, N> {
     fn fmt<W: fmt::Write>(&self, f: &mut fmt::Formatter<W>) -> fmt::Result {
         fmt::Debug::fmt(&self.0, f)
     }
@@ -105,7 +105,8 @@ impl<F: Copy, P: PrimeCharacteristicRing + Inhabited, const N: usize> Add for Ve
     }
 }
 
-impl<F: Copy, P: PrimeCharacteristicRing + Inhabited, const N: usize> AddAssign for Vectorized<F, P, N> {
+impl<F: Copy, P: PrimeCharacteristicRing + Inhabited, const N: usize> AddAssign
+    for Vectorized<F, P, N> {
     ghost add_assign_gives = { λ x y r. (d : P) (k : ℕ) → k < N → get_or r.items k d ≡ P.ops.add (get_or x.items k d) (get_or y.items k d) };
 
     #[inline]
@@ -131,7 +132,8 @@ impl<F: Copy, P: PrimeCharacteristicRing + Inhabited, const N: usize> Sub for Ve
     }
 }
 
-impl<F: Copy, P: PrimeCharacteristicRing + Inhabited, const N: usize> SubAssign for Vectorized<F, P, N> {
+impl<F: Copy, P: PrimeCharacteristicRing + Inhabited, const N: usize> SubAssign
+    for Vectorized<F, P, N> {
     ghost sub_assign_gives = { λ x y r. (d : P) (k : ℕ) → k < N → get_or r.items k d ≡ subtract P.ops (get_or x.items k d) (get_or y.items k d) };
 
     #[inline]
@@ -157,7 +159,8 @@ impl<F: Copy, P: PrimeCharacteristicRing + Inhabited, const N: usize> Mul for Ve
     }
 }
 
-impl<F: Copy, P: PrimeCharacteristicRing + Inhabited, const N: usize> MulAssign for Vectorized<F, P, N> {
+impl<F: Copy, P: PrimeCharacteristicRing + Inhabited, const N: usize> MulAssign
+    for Vectorized<F, P, N> {
     ghost mul_assign_gives = { λ x y r. (d : P) (k : ℕ) → k < N → get_or r.items k d ≡ P.ops.mul (get_or x.items k d) (get_or y.items k d) };
 
     #[inline]
@@ -291,7 +294,8 @@ impl<F: Copy, P: PrimeCharacteristicRing + Inhabited, const N: usize> PrimeChara
     ghost mul_assigns = { record { called = λ _ _. tt; answer = written_product rows P.ops } };
 }
 
-impl<F: Copy, P: PrimeCharacteristicRing + Inhabited, const N: usize> RingSums for Vectorized<F, P, N> {
+impl<F: Copy, P: PrimeCharacteristicRing + Inhabited, const N: usize> RingSums
+    for Vectorized<F, P, N> {
     ghost sums = { record { called = λ _. tt; answer = λ _ _ h. h; whole = λ _. tt } };
 
     ghost products = { record { called = λ _. tt; answer = λ _ _ h. h; whole = λ _. tt } };

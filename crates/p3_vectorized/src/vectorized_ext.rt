@@ -22,10 +22,7 @@ use std::ops::{Add, AddAssign, Mul, MulAssign, Neg, Sub, SubAssign};
 
 /// N packings of extension values, one after the other. Upstream's `VectorizedExt`, with the packing
 /// as a parameter.
-pub struct VectorizedExt<F, EF, PE: Inhabited, const N: usize>(
-    pub [PE; N],
-    PhantomData<(F, EF)>,
-);
+pub struct VectorizedExt<F, EF, PE: Inhabited, const N: usize>(pub [PE; N], PhantomData<(F, EF)>);
 
 impl<F, EF, PE: Inhabited, const N: usize> Model for VectorizedExt<F, EF, PE, N> {
     ghost use Rattle.std.specs.Prelude.{◌≡◌, length};
@@ -45,8 +42,7 @@ impl<F, EF, PE: Inhabited, const N: usize> Model for VectorizedExt<F, EF, PE, N>
     ghost inverse_ok = { λ a h. same_inside PE.inhabitant N a h };
 }
 
-impl<F: Copy, EF: Copy, PE: Inhabited, const N: usize> Clone
-    for VectorizedExt<F, EF, PE, N> {
+impl<F: Copy, EF: Copy, PE: Inhabited, const N: usize> Clone for VectorizedExt<F, EF, PE, N> {
     ghost use Rattle.std.specs.Prelude.{⊤};
 
     ghost is_clone = { λ x y. y ≡ x };
@@ -59,8 +55,7 @@ impl<F: Copy, EF: Copy, PE: Inhabited, const N: usize> Clone
     }
 }
 
-impl<F: Copy, EF: Copy, PE: Inhabited, const N: usize> Copy
-    for VectorizedExt<F, EF, PE, N> {}
+impl<F: Copy, EF: Copy, PE: Inhabited, const N: usize> Copy for VectorizedExt<F, EF, PE, N> {}
 
 impl<F: Copy, EF: Copy, PE: Inhabited, const N: usize> VectorizedExt<F, EF, PE, N> {
     /// The vector of these packings. This project's own: upstream writes the array alone.
@@ -94,8 +89,7 @@ impl<F: Copy, EF: Copy, PE: PrimeCharacteristicRing + Inhabited, const N: usize>
 }
 
 /// The packings as a list. No contract speaks of the text.
-impl<F, EF, PE: Inhabited + fmt::Debug, const N: usize> fmt::Debug
-    for VectorizedExt<F, EF, PE, N> {
+impl<F, EF, PE: Inhabited + fmt::Debug, const N: usize> fmt::Debug for VectorizedExt<F, EF, PE, N> {
     fn fmt<W: fmt::Write>(&self, f: &mut fmt::Formatter<W>) -> fmt::Result {
         fmt::Debug::fmt(&self.0, f)
     }
@@ -234,8 +228,12 @@ impl<F: Copy, EF: Copy, PE: PrimeCharacteristicRing + Inhabited, const N: usize>
     }
 }
 
-impl<F: Copy, EF: Copy, PE: PrimeCharacteristicRing + Inhabited, const N: usize> PrimeCharacteristicRing
-    for VectorizedExt<F, EF, PE, N> {
+impl<
+    F: Copy,
+    EF: Copy,
+    PE: PrimeCharacteristicRing + Inhabited,
+    const N: usize,
+> PrimeCharacteristicRing for VectorizedExt<F, EF, PE, N> {
     ghost use Rattle.p3_theory.specs.Lanes.Rows.{rows};
     ghost use Rattle.p3_theory.specs.Lanes.RowRing.{row_ops, row_laws, row_characteristic, written_sum, written_product, written_negation, written_difference};
 

@@ -37,8 +37,11 @@ impl<F: Copy, P: PrimeCharacteristicRing + Inhabited + Add<F, Output = P>, const
     }
 }
 
-impl<F: Copy, P: PrimeCharacteristicRing + Inhabited + Add<F, Output = P>, const N: usize> AddAssign<F>
-    for Vectorized<F, P, N> {
+impl<
+    F: Copy,
+    P: PrimeCharacteristicRing + Inhabited + Add<F, Output = P>,
+    const N: usize,
+> AddAssign<F> for Vectorized<F, P, N> {
     ghost can_add_assign = { λ x f. (d : P) (k : ℕ) → k < N → ⟦<P as Add<F>>⟧.can_add (get_or x.items k d) f };
 
     ghost add_assign_gives = { λ x f r. (d : P) (k : ℕ) → k < N → ⟦<P as Add<F>>⟧.add_gives (get_or x.items k d) f (get_or r.items k d) };
@@ -69,8 +72,11 @@ impl<F: Copy, P: PrimeCharacteristicRing + Inhabited + Sub<F, Output = P>, const
     }
 }
 
-impl<F: Copy, P: PrimeCharacteristicRing + Inhabited + Sub<F, Output = P>, const N: usize> SubAssign<F>
-    for Vectorized<F, P, N> {
+impl<
+    F: Copy,
+    P: PrimeCharacteristicRing + Inhabited + Sub<F, Output = P>,
+    const N: usize,
+> SubAssign<F> for Vectorized<F, P, N> {
     ghost can_sub_assign = { λ x f. (d : P) (k : ℕ) → k < N → ⟦<P as Sub<F>>⟧.can_sub (get_or x.items k d) f };
 
     ghost sub_assign_gives = { λ x f r. (d : P) (k : ℕ) → k < N → ⟦<P as Sub<F>>⟧.sub_gives (get_or x.items k d) f (get_or r.items k d) };
@@ -101,8 +107,11 @@ impl<F: Copy, P: PrimeCharacteristicRing + Inhabited + Mul<F, Output = P>, const
     }
 }
 
-impl<F: Copy, P: PrimeCharacteristicRing + Inhabited + Mul<F, Output = P>, const N: usize> MulAssign<F>
-    for Vectorized<F, P, N> {
+impl<
+    F: Copy,
+    P: PrimeCharacteristicRing + Inhabited + Mul<F, Output = P>,
+    const N: usize,
+> MulAssign<F> for Vectorized<F, P, N> {
     ghost can_mul_assign = { λ x f. (d : P) (k : ℕ) → k < N → ⟦<P as Mul<F>>⟧.can_mul (get_or x.items k d) f };
 
     ghost mul_assign_gives = { λ x f r. (d : P) (k : ℕ) → k < N → ⟦<P as Mul<F>>⟧.mul_gives (get_or x.items k d) f (get_or r.items k d) };
@@ -114,7 +123,8 @@ impl<F: Copy, P: PrimeCharacteristicRing + Inhabited + Mul<F, Output = P>, const
 }
 
 /// A scalar stands for the vector that has it in every lane.
-impl<F: PrimeCharacteristicRing, P: Inhabited + Algebra<F>, const N: usize> Algebra<F> for Vectorized<F, P, N> {
+impl<F: PrimeCharacteristicRing, P: Inhabited + Algebra<F>, const N: usize> Algebra<F>
+    for Vectorized<F, P, N> {
     ghost use Rattle.p3_theory.specs.Rings.Homomorphism.{compose};
     ghost use Rattle.p3_theory.specs.Lanes.Rows.{rows};
     ghost use Rattle.p3_theory.specs.Lanes.RowRing.{constant, constants_keep, written_mixed_sum, written_mixed_difference, written_mixed_product};

@@ -7,8 +7,9 @@ use p3_ring::ring::{Algebra, PrimeCharacteristicRing};
 use std::ops::{Add, AddAssign, Mul, MulAssign, Sub, SubAssign};
 
 /// The extension value in each packing.
-impl<F: Copy, EF: Field, PE: PrimeCharacteristicRing + Inhabited + From<EF>, const N: usize> From<EF>
-    for VectorizedExt<F, EF, PE, N> {
+impl<F: Copy, EF: Field, PE: PrimeCharacteristicRing + Inhabited + From<EF>, const N: usize> From<
+    EF,
+> for VectorizedExt<F, EF, PE, N> {
     ghost from_gives = { λ f r. (v : PE) × ⟦<PE as From<EF>>⟧.from_gives f v × (r.items ≡ replicate N v) };
 
     #[inline]
@@ -19,8 +20,12 @@ impl<F: Copy, EF: Field, PE: PrimeCharacteristicRing + Inhabited + From<EF>, con
 }
 
 /// Each packing and the extension value.
-impl<F: Copy, EF: Field, PE: PrimeCharacteristicRing + Inhabited + Add<EF, Output = PE>, const N: usize> Add<EF>
-    for VectorizedExt<F, EF, PE, N> {
+impl<
+    F: Copy,
+    EF: Field,
+    PE: PrimeCharacteristicRing + Inhabited + Add<EF, Output = PE>,
+    const N: usize,
+> Add<EF> for VectorizedExt<F, EF, PE, N> {
     type Output = Self;
 
     ghost can_add = { λ x f. (d : PE) (k : ℕ) → k < N → ⟦<PE as Add<EF>>⟧.can_add (get_or x.items k d) f };
@@ -55,8 +60,12 @@ impl<
 }
 
 /// Each packing less the extension value.
-impl<F: Copy, EF: Field, PE: PrimeCharacteristicRing + Inhabited + Sub<EF, Output = PE>, const N: usize> Sub<EF>
-    for VectorizedExt<F, EF, PE, N> {
+impl<
+    F: Copy,
+    EF: Field,
+    PE: PrimeCharacteristicRing + Inhabited + Sub<EF, Output = PE>,
+    const N: usize,
+> Sub<EF> for VectorizedExt<F, EF, PE, N> {
     type Output = Self;
 
     ghost can_sub = { λ x f. (d : PE) (k : ℕ) → k < N → ⟦<PE as Sub<EF>>⟧.can_sub (get_or x.items k d) f };
@@ -91,8 +100,12 @@ impl<
 }
 
 /// Each packing times the extension value.
-impl<F: Copy, EF: Field, PE: PrimeCharacteristicRing + Inhabited + Mul<EF, Output = PE>, const N: usize> Mul<EF>
-    for VectorizedExt<F, EF, PE, N> {
+impl<
+    F: Copy,
+    EF: Field,
+    PE: PrimeCharacteristicRing + Inhabited + Mul<EF, Output = PE>,
+    const N: usize,
+> Mul<EF> for VectorizedExt<F, EF, PE, N> {
     type Output = Self;
 
     ghost can_mul = { λ x f. (d : PE) (k : ℕ) → k < N → ⟦<PE as Mul<EF>>⟧.can_mul (get_or x.items k d) f };

@@ -157,9 +157,13 @@ impl<
 }
 
 /// A vector of packings of field values stands for the vector of the packings that they stand for.
-impl<F: Copy, EF: Copy, P: PrimeCharacteristicRing + Inhabited, PE: Inhabited + Algebra<P>, const N: usize> Algebra<
-    Vectorized<F, P, N>,
-> for VectorizedExt<F, EF, PE, N> {
+impl<
+    F: Copy,
+    EF: Copy,
+    P: PrimeCharacteristicRing + Inhabited,
+    PE: Inhabited + Algebra<P>,
+    const N: usize,
+> Algebra<Vectorized<F, P, N>> for VectorizedExt<F, EF, PE, N> {
     ghost use Rattle.p3_theory.specs.Lanes.Rows.{rows};
     ghost use Rattle.p3_vectorized.specs.RowMaps.{mapped, maps_keep, written_map, written_row_sum, written_row_difference, written_row_product};
 
