@@ -10,10 +10,11 @@ ghost use Rattle.p3_theory.specs.Products.Trinomials.{cubic_trinomial, quintic_t
 use crate::form::Form;
 use crate::fp::Fp;
 use p3_ext::extension::{
-    CubicTrinomial, CubicTrinomialExtendable, ExtensionAlgebra, ExtensionProduct, QuinticTrinomial,
-    QuinticTrinomialExtendable, cubic_square, quintic_square, trinomial_cubic_mul,
-    trinomial_quintic_mul,
+    CubicTrinomial, CubicTrinomialExtendable, ExtensionAlgebra, ExtensionOverAlgebra,
+    ExtensionProduct, PackedProduct, QuinticTrinomial, QuinticTrinomialExtendable, cubic_square,
+    quintic_square, trinomial_cubic_mul, trinomial_quintic_mul,
 };
+use p3_ring::ring::Algebra;
 
 /// A shape of extensions of degree D by a trinomial with one formula over every ring.
 pub trait TrinomialShape<const D: usize> {
@@ -184,4 +185,68 @@ impl<W: TrinomialConstants<5, QuinticTrinomial>> QuinticTrinomialExtendable for 
     ghost by_trinomial = { refl };
 
     ghost table_laws = { table_laws_of (is W.Form) 4 (quintic_trinomial (residues W.ORDER)) W.TrinomialConstants.image _ (quintic-along (of_keeps (is W.Form))) W.powers W.dual (quintic_trinomial_is_monic (residues W.ORDER)) W.table };
+}
+
+impl<W: TrinomialConstants<3, CubicTrinomial>, P: Algebra<Fp<W>>> PackedProduct<
+    P,
+    3,
+    CubicTrinomial,
+> for Fp<W> {
+    ghost use Rattle.p3_theory.specs.Polynomials.Polynomial.{quotient_mul};
+
+    ghost packed_product_gives = { λ a b r. r ≡ quotient_mul P.ops 3 (cubic_trinomial P.ops) a b };
+
+    #[inline]
+    fn packed_product(a: &[P], b: &[P], res: &mut [P]) {
+        trinomial_cubic_mul::<P>(a, b, res);
+    }
+
+    #[inline]
+    fn packed_square(a: &[P], res: &mut [P]) {
+        cubic_square::<P>(a, res);
+    }
+}
+
+impl<W: TrinomialConstants<3, CubicTrinomial>, P: Algebra<Fp<W>>> ExtensionOverAlgebra<
+    P,
+    3,
+    CubicTrinomial,
+> for Fp<W> {
+    ghost use Rattle.std.proofs.Common.{◌∙◌, ap, sym};
+    ghost use Rattle.p3_theory.specs.Polynomials.Polynomial.{quotient_mul};
+    ghost use Rattle.p3_theory.specs.FrobeniusMaps.TableEntries.{cubic-along};
+
+    ghost packed_products = { λ a b r h. h ∙ sym (ap (λ f. quotient_mul P.ops 3 f a b) (cubic-along P.embeds)) };
+}
+
+impl<W: TrinomialConstants<5, QuinticTrinomial>, P: Algebra<Fp<W>>> PackedProduct<
+    P,
+    5,
+    QuinticTrinomial,
+> for Fp<W> {
+    ghost use Rattle.p3_theory.specs.Polynomials.Polynomial.{quotient_mul};
+
+    ghost packed_product_gives = { λ a b r. r ≡ quotient_mul P.ops 5 (quintic_trinomial P.ops) a b };
+
+    #[inline]
+    fn packed_product(a: &[P], b: &[P], res: &mut [P]) {
+        trinomial_quintic_mul::<P>(a, b, res);
+    }
+
+    #[inline]
+    fn packed_square(a: &[P], res: &mut [P]) {
+        quintic_square::<P>(a, res);
+    }
+}
+
+impl<W: TrinomialConstants<5, QuinticTrinomial>, P: Algebra<Fp<W>>> ExtensionOverAlgebra<
+    P,
+    5,
+    QuinticTrinomial,
+> for Fp<W> {
+    ghost use Rattle.std.proofs.Common.{◌∙◌, ap, sym};
+    ghost use Rattle.p3_theory.specs.Polynomials.Polynomial.{quotient_mul};
+    ghost use Rattle.p3_theory.specs.FrobeniusMaps.TableEntries.{quintic-along};
+
+    ghost packed_products = { λ a b r h. h ∙ sym (ap (λ f. quotient_mul P.ops 5 f a b) (quintic-along P.embeds)) };
 }

@@ -35,3 +35,7 @@ module _ {A B : Type 0} {O : Ops A} {P : Ops B} {h : A → B} (k : Hom O P h) wh
   pub run-along : (steps : List Step) (rs : List A) → map h (run O steps rs) ≡ run P steps (map h rs)
   run-along [] rs = refl
   run-along (s ∷ steps) rs = run-along steps (after_step O s rs) ∙ ap (run P steps) (step-along s rs)
+
+  -- registers that a run made, along the map
+  pub run-through : (steps : List Step) (new old : List A) → new ≡ run O steps old → map h new ≡ run P steps (map h old)
+  run-through steps new old e = ap (map h) e ∙ run-along steps old

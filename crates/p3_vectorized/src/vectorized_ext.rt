@@ -74,6 +74,17 @@ impl<F: Copy, EF: Copy, PE: Inhabited, const N: usize> VectorizedExt<F, EF, PE, 
     {
         self.0
     }
+
+    /// The packing at an index below N.
+    #[inline]
+    fn part(self, index: usize) -> PE
+        requires { index < N }
+        ensures { result ≡ get_or self.items index result }
+    {
+        let parts = self.items();
+        let all = &parts[..];
+        all[index]
+    }
 }
 
 /// Zero. Upstream's `Default`.
@@ -345,10 +356,8 @@ impl<
         requires { lane < PE.Base.WIDTH * N }
         ensures { result ≡ vector_lane PE.ops EF.ops PE.ext_lanes PE.Base.WIDTH lane self.now }
     {
-        let parts = self.items();
         let width = <PE::Base as PackedValue>::WIDTH;
-        let all = &parts[..];
-        let part = all[lane / width];
+        let part = self.part(lane / width);
         PackedFieldExtension::extract(&part, lane % width)
     }
 }

@@ -1,0 +1,191 @@
+//! Runs of steps over vectors of packed extension values, and beside each the same run over the values
+//! of every lane alone. A run is told by three texts: the registers before, the steps, and the
+//! registers afterwards.
+ghost use Rattle.std.specs.Prelude.{◌<◌, ◌*◌};
+
+use p3_bench_packed::packed::Packed;
+use p3_bench_prime::binomial_constants::BinomialConstants;
+use p3_bench_prime::fp::Fp;
+use p3_field::extension::{BinomialExtensionField, PackedBinomialExtensionField, Packing};
+use p3_field::steps::{Step, run_lane_steps, run_steps, steps_fit};
+use p3_field::{
+    ExtensionField, Field, PackedField, PackedFieldExtension, PackedValue, VectorizedExt,
+};
+
+/// Runs over the values of a binomial's extension of degree D, implemented once for all fields: a call
+/// at a field's own name passes the field's constants alone.
+pub trait LaneRuns<const D: usize> {
+    /// `run_agrees` over vectors of `n` packings of `width` lanes; none but for widths 4 and 8 and up to
+    /// three packings.
+    fn agrees(width: usize, n: usize, before: &str, steps: &str, after: &str) -> Option<bool>;
+}
+
+impl<W: BinomialConstants<D>, const D: usize> LaneRuns<D> for W {
+    fn agrees(width: usize, n: usize, before: &str, steps: &str, after: &str) -> Option<bool> {
+        match (width, n) {
+            (4, 1) => over_packings::<W, D, Packed<Fp<W>, 4>, 1>(before, steps, after),
+            (4, 2) => over_packings::<W, D, Packed<Fp<W>, 4>, 2>(before, steps, after),
+            (4, 3) => over_packings::<W, D, Packed<Fp<W>, 4>, 3>(before, steps, after),
+            (8, 1) => over_packings::<W, D, Packed<Fp<W>, 8>, 1>(before, steps, after),
+            (8, 2) => over_packings::<W, D, Packed<Fp<W>, 8>, 2>(before, steps, after),
+            (8, 3) => over_packings::<W, D, Packed<Fp<W>, 8>, 3>(before, steps, after),
+            _ => None,
+        }
+    }
+}
+
+/// `run_agrees` over vectors of N packings P.
+fn over_packings<
+    W: BinomialConstants<D>,
+    const D: usize,
+    P: PackedField<Fp<W>> + Packing,
+    const N: usize,
+>(before: &str, steps: &str, after: &str) -> Option<bool> {
+    run_agrees::<
+        Fp<W>,
+        BinomialExtensionField<Fp<W>, D>,
+        PackedBinomialExtensionField<Fp<W>, P, D>,
+        N,
+    >(before, steps, after)
+}
+
+/// The greatest number of lanes of a packing.
+const MOST_LANES: usize = 16;
+
+/// The greatest number of steps of a run.
+const MOST_STEPS: usize = 24;
+
+/// Whether the steps make the registers `after` of the registers `before`, over vectors of packings and
+/// over the values of each lane alone; none where a text can't be read. Registers stand between
+/// semicolons, the values of their lanes between spaces, and the coefficients of a value between
+/// commas.
+fn run_agrees<F: Field, EF: ExtensionField<F>, PE: PackedFieldExtension<F, EF>, const N: usize>(
+    before: &str,
+    steps: &str,
+    after: &str,
+) -> Option<bool> {
+    let start = registers::<F, EF, PE, N>(before)?;
+    let wanted = registers::<F, EF, PE, N>(after)?;
+    let mut list = [Step::Neg { d: 0, a: 0 }; MOST_STEPS];
+    let mut count = 0usize;
+    for word in steps.split_ascii_whitespace() {
+        if count == MOST_STEPS {
+            return None;
+        }
+        list[count] = step(word)?;
+        count += 1;
+    }
+    let steps = &list[..count];
+    if !steps_fit(steps, 4) {
+        return None;
+    }
+    let mut vectors = start;
+    run_lane_steps(&mut vectors, steps);
+    let lanes = <PE::Base as PackedValue>::WIDTH.checked_mul(N)?;
+    for lane in 0..lanes {
+        let at_lane = lane_of::<F, EF, PE, N>(&wanted, lane);
+        let mut scalars = lane_of::<F, EF, PE, N>(&start, lane);
+        run_steps(&mut scalars, steps);
+        if scalars != at_lane || lane_of::<F, EF, PE, N>(&vectors, lane) != at_lane {
+            return Some(false);
+        }
+    }
+    Some(true)
+}
+
+/// The values of four registers at a lane.
+fn lane_of<F: Field, EF: ExtensionField<F>, PE: PackedFieldExtension<F, EF>, const N: usize>(
+    registers: &[VectorizedExt<F, EF, PE, N>; 4],
+    lane: usize,
+) -> [EF; 4]
+    requires { lane < PE.Base.WIDTH * N }
+{
+    let all = &registers[..];
+    [
+        all[0].extract(lane),
+        all[1].extract(lane),
+        all[2].extract(lane),
+        all[3].extract(lane),
+    ]
+}
+
+/// The four registers of a text.
+fn registers<F: Field, EF: ExtensionField<F>, PE: PackedFieldExtension<F, EF>, const N: usize>(
+    text: &str,
+) -> Option<[VectorizedExt<F, EF, PE, N>; 4]> {
+    let mut texts = text.split(';');
+    let first = register::<F, EF, PE, N>(texts.next()?)?;
+    let second = register::<F, EF, PE, N>(texts.next()?)?;
+    let third = register::<F, EF, PE, N>(texts.next()?)?;
+    let fourth = register::<F, EF, PE, N>(texts.next()?)?;
+    Some([first, second, third, fourth])
+}
+
+/// The register with the values of a text, from lane 0 upward.
+fn register<F: Field, EF: ExtensionField<F>, PE: PackedFieldExtension<F, EF>, const N: usize>(
+    text: &str,
+) -> Option<VectorizedExt<F, EF, PE, N>> {
+    let width = <PE::Base as PackedValue>::WIDTH;
+    if width > MOST_LANES {
+        return None;
+    }
+    let mut values = text.split_ascii_whitespace();
+    let mut packings = [PE::zero(); N];
+    for i in 0..N {
+        let mut lanes = [EF::zero(); MOST_LANES];
+        for lane in 0..width {
+            lanes[lane] = value::<F, EF>(values.next()?)?;
+        }
+        packings[i] = PE::from_ext_slice(&lanes[..width]);
+    }
+    Some(VectorizedExt::new(packings))
+}
+
+/// The extension value with the coefficients of a text.
+fn value<F: Field, EF: ExtensionField<F>>(text: &str) -> Option<EF> {
+    let mut coefficients = [F::zero(); 8];
+    let mut count = 0usize;
+    for word in text.split(',') {
+        if count == 8 {
+            return None;
+        }
+        coefficients[count] = F::from_u32(word.parse::<u32>().ok()?);
+        count += 1;
+    }
+    EF::from_basis_coefficients_slice(&coefficients[..count])
+}
+
+/// The step of a word, as `Add:0:1:2`.
+fn step(word: &str) -> Option<Step> {
+    let mut parts = word.split(':');
+    let name = parts.next()?;
+    let d = parts.next()?.parse::<usize>().ok()?;
+    let a = parts.next()?.parse::<usize>().ok()?;
+    match name {
+        "Neg" => return Some(Step::Neg { d, a }),
+        "Square" => return Some(Step::Square { d, a }),
+        "Double" => return Some(Step::Double { d, a }),
+        _ => {}
+    }
+    let last = parts.next()?.parse::<u64>().ok()?;
+    match name {
+        "Exp" => Some(Step::Exp { d, a, e: last }),
+        "Mul2Exp" => Some(Step::Mul2Exp { d, a, e: last }),
+        "Add" => Some(Step::Add {
+            d,
+            a,
+            b: last as usize,
+        }),
+        "Sub" => Some(Step::Sub {
+            d,
+            a,
+            b: last as usize,
+        }),
+        "Mul" => Some(Step::Mul {
+            d,
+            a,
+            b: last as usize,
+        }),
+        _ => None,
+    }
+}
