@@ -69,13 +69,13 @@ fn run_agrees<F: Field, EF: ExtensionField<F>, PE: PackedFieldExtension<F, EF>, 
     let mut list = [Step::Neg { d: 0, a: 0 }; MOST_STEPS];
     let mut count = 0usize;
     for word in steps.split_ascii_whitespace() {
-        if count == MOST_STEPS {
+        if count >= MOST_STEPS {
             return None;
         }
         list[count] = step(word)?;
         count += 1;
     }
-    let steps = &list[..count];
+    let steps = list.get(..count)?;
     if !steps_fit(steps, 4) {
         return None;
     }
@@ -146,13 +146,13 @@ fn value<F: Field, EF: ExtensionField<F>>(text: &str) -> Option<EF> {
     let mut coefficients = [F::zero(); 8];
     let mut count = 0usize;
     for word in text.split(',') {
-        if count == 8 {
+        if count >= 8 {
             return None;
         }
         coefficients[count] = F::from_u32(word.parse::<u32>().ok()?);
         count += 1;
     }
-    EF::from_basis_coefficients_slice(&coefficients[..count])
+    EF::from_basis_coefficients_slice(coefficients.get(..count)?)
 }
 
 /// The step of a word, as `Add:0:1:2`.
