@@ -66,19 +66,11 @@ fn run_agrees<F: Field, EF: ExtensionField<F>, PE: PackedFieldExtension<F, EF>, 
 ) -> Option<bool> {
     let start = registers::<F, EF, PE, N>(before)?;
     let wanted = registers::<F, EF, PE, N>(after)?;
-    let mut list = [Step::Neg { d: 0, a: 0 }; MOST_STEPS];
-    let mut count = 0usize;
-    for word in steps.split_ascii_whitespace() {
-        if count >= MOST_STEPS {
-            return None;
-        }
-        list[count] = step(word)?;
-        count += 1;
-    }
-    let steps = list.get(..count)?;
-    if !steps_fit(steps, 4) {
+    let list = list_of(steps)?;
+    if !steps_fit(&list, 4) {
         return None;
     }
+    let steps = &list[..];
     let mut vectors = start;
     run_lane_steps(&mut vectors, steps);
     let lanes = <PE::Base as PackedValue>::WIDTH.checked_mul(N)?;
@@ -126,33 +118,63 @@ fn register<F: Field, EF: ExtensionField<F>, PE: PackedFieldExtension<F, EF>, co
     text: &str,
 ) -> Option<VectorizedExt<F, EF, PE, N>> {
     let width = <PE::Base as PackedValue>::WIDTH;
-    if width > MOST_LANES {
-        return None;
-    }
     let mut values = text.split_ascii_whitespace();
     let mut packings = [PE::zero(); N];
     for i in 0..N {
         let mut lanes = [EF::zero(); MOST_LANES];
         for lane in 0..width {
-            lanes[lane] = value::<F, EF>(values.next()?)?;
+            *lanes.get_mut(lane)? = value::<F, EF>(values.next()?)?;
         }
-        packings[i] = PE::from_ext_slice(&lanes[..width]);
+        *packings.get_mut(i)? = packing_of::<F, EF, PE>(lanes.get(..width)?)?;
     }
     Some(VectorizedExt::new(packings))
 }
 
+/// The packing with these lanes; none where there are more or fewer than the packing has.
+fn packing_of<F: Field, EF: ExtensionField<F>, PE: PackedFieldExtension<F, EF>>(
+    lanes: &[EF],
+) -> Option<PE> {
+    if lanes.len() != <PE::Base as PackedValue>::WIDTH {
+        return None;
+    }
+    Some(PE::from_ext_slice(lanes))
+}
+
 /// The extension value with the coefficients of a text.
 fn value<F: Field, EF: ExtensionField<F>>(text: &str) -> Option<EF> {
-    let mut coefficients = [F::zero(); 8];
-    let mut count = 0usize;
     for word in text.split(',') {
-        if count >= 8 {
-            return None;
-        }
-        coefficients[count] = F::from_u32(word.parse::<u32>().ok()?);
-        count += 1;
+        word.parse::<u32>().ok()?;
     }
-    EF::from_basis_coefficients_slice(coefficients.get(..count)?)
+    Some(EF::from_basis_coefficients_fn(|d: usize| -> F { coefficient(text, d) }))
+}
+
+/// The coefficient at an index of a text, zero past its end.
+fn coefficient<F: Field>(text: &str, index: usize) -> F {
+    let number = match text.split(',').nth(index) {
+        Some(word) => word.parse::<u32>().unwrap_or(0),
+        None => 0,
+    };
+    F::from_u32(number)
+}
+
+/// The steps of a text, and after them steps that change nothing.
+fn list_of(text: &str) -> Option<[Step; MOST_STEPS]> {
+    if text.split_ascii_whitespace().count() > MOST_STEPS {
+        return None;
+    }
+    for word in text.split_ascii_whitespace() {
+        step(word)?;
+    }
+    Some(std::array::from_fn(|i: usize| -> Step { step_at(text, i) }))
+}
+
+/// The step at an index of a text; past its end, register 0 to the power one.
+fn step_at(text: &str, index: usize) -> Step {
+    let read = match text.split_ascii_whitespace().nth(index) {
+        Some(word) => step(word),
+        None => None,
+    };
+    read.unwrap_or(Step::Exp { d: 0, a: 0, e: 1 })
 }
 
 /// The step of a word, as `Add:0:1:2`.
