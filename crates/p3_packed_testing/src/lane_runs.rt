@@ -118,16 +118,44 @@ fn register<F: Field, EF: ExtensionField<F>, PE: PackedFieldExtension<F, EF>, co
     text: &str,
 ) -> Option<VectorizedExt<F, EF, PE, N>> {
     let width = <PE::Base as PackedValue>::WIDTH;
-    let mut values = text.split_ascii_whitespace();
-    let mut packings = [PE::zero(); N];
-    for i in 0..N {
-        let mut lanes = [EF::zero(); MOST_LANES];
-        for lane in 0..width {
-            *lanes.get_mut(lane)? = value::<F, EF>(values.next()?)?;
-        }
-        *packings.get_mut(i)? = packing_of::<F, EF, PE>(lanes.get(..width)?)?;
+    let lanes = width.checked_mul(N)?;
+    if width > MOST_LANES || text.split_ascii_whitespace().count() != lanes {
+        return None;
     }
+    for word in text.split_ascii_whitespace() {
+        value::<F, EF>(word)?;
+    }
+    let packings: [PE; N] = std::array::from_fn(|i: usize| -> PE {
+        packing_at::<F, EF, PE>(text, i)
+    });
     Some(VectorizedExt::new(packings))
+}
+
+/// The packing at an index of a text; zero where the text has no such lanes.
+fn packing_at<F: Field, EF: ExtensionField<F>, PE: PackedFieldExtension<F, EF>>(
+    text: &str,
+    index: usize,
+) -> PE {
+    let width = <PE::Base as PackedValue>::WIDTH;
+    let lanes: [EF; MOST_LANES] = std::array::from_fn(|lane: usize| -> EF {
+        value_at::<F, EF>(text, index, width, lane).unwrap_or(EF::zero())
+    });
+    let packing = match lanes.get(..width) {
+        Some(lanes) => packing_of::<F, EF, PE>(lanes),
+        None => None,
+    };
+    packing.unwrap_or(PE::zero())
+}
+
+/// The value at a lane of a packing of a text.
+fn value_at<F: Field, EF: ExtensionField<F>>(
+    text: &str,
+    index: usize,
+    width: usize,
+    lane: usize,
+) -> Option<EF> {
+    let place = index.checked_mul(width)?.checked_add(lane)?;
+    value::<F, EF>(text.split_ascii_whitespace().nth(place)?)
 }
 
 /// The packing with these lanes; none where there are more or fewer than the packing has.
