@@ -1,4 +1,6 @@
-ghost use Rattle.std.specs.Prelude.{◌≡◌, ◌<◌, ◌%◌, ◌^◌, ℕ, List, length, replicate, slice_get, slice_set, Some};
+ghost use Rattle.std.specs.Prelude.{◌≡◌, ◌<◌, ◌≤◌, ◌+◌, ◌*◌, ◌%◌, ◌^◌, ℕ, List, length, replicate, take, drop, slice_get, slice_set, slice_range, Some};
+ghost use Rattle.std.specs.Array.{IsFromFnResult};
+ghost use Rattle.p3_theory.specs.Bases.Coordinates.{CallableBelow};
 ghost use Rattle.p3_theory.specs.Rings.Ring.{Invertible};
 ghost use Rattle.p3_theory.specs.Lanes.Lanes.{KeepsLanes};
 ghost use Rattle.p3_theory.specs.Lanes.Interleaves.{Interleaves};
@@ -61,6 +63,11 @@ pub trait PackedValue: Copy {
     /// The lanes, from lane 0 upward.
     ghost lanes: { Self → List Self.Value };
 
+    /// The value whose lane i is what the closure answers at i, for i from 0 upward.
+    fn from_fn<G: FnMut(usize) -> Self::Value>(f: G) -> Self
+        requires { CallableBelow G.FnMut WIDTH f }
+        ensures { IsFromFnResult G.FnMut f (lanes result) WIDTH };
+
     /// The value in all lanes.
     fn broadcast(value: Self::Value) -> Self
         ensures { lanes result ≡ replicate WIDTH value };
@@ -84,6 +91,30 @@ pub trait PackedValue: Copy {
     fn set_lane(&mut self, lane: usize, value: Self::Value)
         requires { lane < WIDTH }
         ensures { lanes self.new ≡ slice_set (lanes self.old) lane value };
+
+    /// Group i of the slice, whose groups of `WIDTH` values begin with group 0. The group lies whole in
+    /// the slice. This project's own: it stands for upstream's `pack_slice`.
+    #[inline]
+    final fn load_block(slice: &[Self::Value], i: usize) -> Self
+        requires { i * WIDTH + WIDTH ≤ length slice.now }
+        ensures { lanes result ≡ slice_range slice.now (i * WIDTH) (i * WIDTH + WIDTH) }
+    {
+        let start = i * Self::WIDTH;
+        Self::from_slice(&slice[start..start + Self::WIDTH])
+    }
+
+    /// Writes the lanes to group i of the slice, and nothing else of it. The group lies whole in the
+    /// slice. This project's own: it stands for upstream's `pack_slice_mut`.
+    #[inline]
+    final fn store_block(&self, slice: &mut [Self::Value], i: usize)
+        requires { i * WIDTH + WIDTH ≤ length slice.old }
+        ensures block { slice_range slice.new (i * WIDTH) (i * WIDTH + WIDTH) ≡ lanes self.now }
+        ensures before { take (i * WIDTH) slice.new ≡ take (i * WIDTH) slice.old }
+        ensures after { drop (i * WIDTH + WIDTH) slice.new ≡ drop (i * WIDTH + WIDTH) slice.old }
+    {
+        let start = i * Self::WIDTH;
+        self.to_slice(&mut slice[start..start + Self::WIDTH]);
+    }
 }
 
 /// A value is its own only lane.
@@ -97,6 +128,11 @@ impl<T: Packable> PackedValue for T {
     ghost WIDTH = { 1 };
 
     ghost lanes = { λ x. x ∷ [] };
+
+    #[inline]
+    fn from_fn<G: FnMut(usize) -> T>(mut f: G) -> T {
+        f(0)
+    }
 
     #[inline]
     fn broadcast(value: T) -> T {
@@ -135,6 +171,11 @@ impl<T: Packable, const N: usize> PackedValue for [T; N] {
     ghost WIDTH = { N };
 
     ghost lanes = { λ x. x };
+
+    #[inline]
+    fn from_fn<G: FnMut(usize) -> T>(f: G) -> [T; N] {
+        std::array::from_fn(f)
+    }
 
     #[inline]
     fn broadcast(value: T) -> [T; N] {

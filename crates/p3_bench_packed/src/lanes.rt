@@ -18,6 +18,11 @@ impl<F: Packable, const N: usize> PackedValue for Packed<F, N> {
     ghost lanes = { λ x. x.value };
 
     #[inline]
+    fn from_fn<G: FnMut(usize) -> F>(f: G) -> Self {
+        Self::new(std::array::from_fn(f))
+    }
+
+    #[inline]
     fn broadcast(value: F) -> Self {
         Self::new([value; N])
     }
