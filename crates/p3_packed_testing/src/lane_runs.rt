@@ -6,21 +6,25 @@ ghost use Rattle.std.specs.Prelude.{◌<◌, ◌*◌};
 use p3_bench_packed::packed::Packed;
 use p3_bench_prime::binomial_constants::BinomialConstants;
 use p3_bench_prime::fp::Fp;
-use p3_field::extension::{BinomialExtensionField, PackedBinomialExtensionField, Packing};
+use p3_bench_prime::trinomial_constants::TrinomialConstants;
+use p3_field::extension::{
+    Binomial, BinomialExtensionField, CubicTrinomial, CubicTrinomialExtensionField,
+    PackedBinomialExtensionField, PackedCubicTrinomialExtensionField, Packing,
+};
 use p3_field::steps::{Step, run_lane_steps, run_steps, steps_fit};
 use p3_field::{
     ExtensionField, Field, PackedField, PackedFieldExtension, PackedValue, VectorizedExt,
 };
 
-/// Runs over the values of a binomial's extension of degree D, implemented once for all fields: a call
-/// at a field's own name passes the field's constants alone.
-pub trait LaneRuns<const D: usize> {
+/// Runs over the values of an extension of degree D by the shape S, implemented once for all fields: a
+/// call at a field's own name passes the field's constants alone.
+pub trait LaneRuns<const D: usize, S> {
     /// `run_agrees` over vectors of `n` packings of `width` lanes; none but for widths 4 and 8 and up to
     /// three packings.
     fn agrees(width: usize, n: usize, before: &str, steps: &str, after: &str) -> Option<bool>;
 }
 
-impl<W: BinomialConstants<D>, const D: usize> LaneRuns<D> for W {
+impl<W: BinomialConstants<D>, const D: usize> LaneRuns<D, Binomial<Fp<W>>> for W {
     fn agrees(width: usize, n: usize, before: &str, steps: &str, after: &str) -> Option<bool> {
         match (width, n) {
             (4, 1) => over_packings::<W, D, Packed<Fp<W>, 4>, 1>(before, steps, after),
@@ -34,7 +38,21 @@ impl<W: BinomialConstants<D>, const D: usize> LaneRuns<D> for W {
     }
 }
 
-/// `run_agrees` over vectors of N packings P.
+impl<W: TrinomialConstants<3, CubicTrinomial>> LaneRuns<3, CubicTrinomial> for W {
+    fn agrees(width: usize, n: usize, before: &str, steps: &str, after: &str) -> Option<bool> {
+        match (width, n) {
+            (4, 1) => over_cubic_packings::<W, Packed<Fp<W>, 4>, 1>(before, steps, after),
+            (4, 2) => over_cubic_packings::<W, Packed<Fp<W>, 4>, 2>(before, steps, after),
+            (4, 3) => over_cubic_packings::<W, Packed<Fp<W>, 4>, 3>(before, steps, after),
+            (8, 1) => over_cubic_packings::<W, Packed<Fp<W>, 8>, 1>(before, steps, after),
+            (8, 2) => over_cubic_packings::<W, Packed<Fp<W>, 8>, 2>(before, steps, after),
+            (8, 3) => over_cubic_packings::<W, Packed<Fp<W>, 8>, 3>(before, steps, after),
+            _ => None,
+        }
+    }
+}
+
+/// `run_agrees` over vectors of N packings P, modulo `X^D - W`.
 fn over_packings<
     W: BinomialConstants<D>,
     const D: usize,
@@ -45,6 +63,20 @@ fn over_packings<
         Fp<W>,
         BinomialExtensionField<Fp<W>, D>,
         PackedBinomialExtensionField<Fp<W>, P, D>,
+        N,
+    >(before, steps, after)
+}
+
+/// `run_agrees` over vectors of N packings P, modulo `X^3 - X - 1`.
+fn over_cubic_packings<
+    W: TrinomialConstants<3, CubicTrinomial>,
+    P: PackedField<Fp<W>> + Packing,
+    const N: usize,
+>(before: &str, steps: &str, after: &str) -> Option<bool> {
+    run_agrees::<
+        Fp<W>,
+        CubicTrinomialExtensionField<Fp<W>>,
+        PackedCubicTrinomialExtensionField<Fp<W>, P>,
         N,
     >(before, steps, after)
 }
