@@ -14,6 +14,11 @@ pub use p3_base::sqrt::{
 pub use p3_ext::subfield::HasSubfield;
 pub use p3_integers::dup::Dup;
 pub use p3_integers::integers as integers;
+pub use p3_lanes::interleaves::{interleave_u32, interleave_u64, interleave_u128, interleave_u256};
+pub use p3_lanes::mod_arithmetic::{
+    mm256_mod_add, mm256_mod_sub, mm512_mod_add, mm512_mod_sub, packed_mod_add, packed_mod_sub,
+    uint32x4_mod_add, uint32x4_mod_sub,
+};
 pub use p3_ring::accumulate::{product_from, sum_from};
 pub use p3_ring::const_power::exp_const_u64;
 pub use p3_ring::exponentiation as exponentiation;
