@@ -4,8 +4,10 @@ ghost use Rattle.p3_theory.specs.Bases.Coordinates.{CallableBelow};
 ghost use Rattle.p3_theory.specs.Rings.Ring.{Invertible};
 ghost use Rattle.p3_theory.specs.Lanes.Lanes.{KeepsLanes};
 ghost use Rattle.p3_theory.specs.Lanes.Interleaves.{Interleaves};
+ghost use Rattle.p3_base.specs.PackedPowers.{PacksTerms};
 
 use crate::field::Field;
+use p3_ring::powers::Powers;
 use p3_ring::ring::Algebra;
 use std::ops::{Div, DivAssign};
 
@@ -246,6 +248,33 @@ pub trait PackedField<F: Field>: Algebra<F>
     ghost can_divide_assign_scalar: { (x : Self) (f : F) → Invertible F.ops f → ⟦<Self as DivAssign<F>>⟧.can_div_assign x f };
 
     ghost divide_assigns_scalar: { (x : Self) (f : F) (r : Self) → ⟦<Self as DivAssign<F>>⟧.div_assign_gives x f r → Self.ops.mul r (Self.embed f) ≡ x };
+
+    /// The powers of the base from one upward, `WIDTH` of them in each item. Upstream's
+    /// `packed_powers`.
+    #[inline]
+    final fn packed_powers(base: F) -> Powers<Self>
+        ensures { PacksTerms Self.ops F.ops Self.lanes Self.WIDTH result.base result.current base F.ops.one }
+    {
+        Self::packed_shifted_powers(base, F::one())
+    }
+
+    /// The sequence `start`, `start * base`, `start * base^2`, .., `WIDTH` terms in each item.
+    /// Upstream's `packed_shifted_powers`.
+    #[inline]
+    final fn packed_shifted_powers(base: F, start: F) -> Powers<Self>
+        ensures { PacksTerms Self.ops F.ops Self.lanes Self.WIDTH result.base result.current base start }
+    {
+        let mut current = Self::broadcast(start);
+        let mut term = start;
+        for lane in 1..Self::WIDTH {
+            term *= base;
+            current.set_lane(lane, term);
+        }
+        Powers {
+            base: Self::broadcast(base.exp_u64(Self::WIDTH as u64)),
+            current,
+        }
+    }
 }
 
 /// A field is a packing of width 1 of itself.

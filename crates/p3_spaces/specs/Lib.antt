@@ -3,3 +3,4 @@ pub mod StreamLemmas
 pub mod TakenItems
 pub mod ParallelStreams
 pub mod DrawnItems
+pub mod CoefficientSums

@@ -1,8 +1,10 @@
-ghost use Rattle.std.specs.Prelude.{◌≡◌, ◌<◌, List, length, map};
+ghost use Rattle.std.specs.Prelude.{◌≡◌, ◌<◌, ◌≤◌, List, length, map};
 ghost use Rattle.std.specs.Iterator.{IsFinite, Drains};
 ghost use Rattle.p3_theory.specs.Rings.ColumnwiseProducts.{add_scaled_row, add_scaled_rows};
+ghost use Rattle.p3_spaces.specs.CoefficientSums.{add_coefficient_products, coefficient_sums};
 
 use p3_base::field::Field;
+use p3_base::packed_traits::PackedField;
 use p3_ring::ring::{Algebra, PrimeCharacteristicRing};
 use std::convert::AsSlice;
 
@@ -90,4 +92,46 @@ where
     ensures ran { (xs : List (R × S)) × Drains I.next_gives items xs × (acc.new ≡ add_scaled_rows EF.ops EF.embed N acc.old (map (λ x. (R.items x.0, S.entries x.1)) xs)) }
 {
     generic_batched_columnwise_dot_product::<F, EF, R, S, I, N>(acc, items);
+}
+
+/// Adds coefficient i of the slice times the scale to entry i, for each i below d that the slice has.
+#[inline]
+fn add_scaled_coefficients<P: PrimeCharacteristicRing>(
+    acc: [P; 8],
+    d: usize,
+    coeffs: &[P],
+    scale: P,
+) -> [P; 8]
+    requires { d ≤ 8 }
+    ensures { result ≡ add_coefficient_products P.ops d acc coeffs.now scale }
+{
+    let mut sums = acc;
+    for i in 0..d.min(coeffs.len()) {
+        let product = coeffs[i] * scale;
+        let sum = sums[i] + product;
+        sums[i] = sum;
+    }
+    sums
+}
+
+/// Entry i below d is the sum over the pairs, each a slice of coefficients and a packing, of
+/// coefficient i times the packing; a slice has zero past its end, and entries from d on are zero.
+/// Upstream's `coeffwise_dot_product`.
+#[inline]
+pub fn coeffwise_dot_product<F, P, R, I>(d: usize, pairs: I) -> [P; 8]
+where
+    F: Field,
+    P: PackedField<F>,
+    R: AsSlice<P> + Drop,
+    I: Iterator<Item = (R, P)> + Drop,
+    requires few { d ≤ 8 }
+    requires can { I.can_next pairs }
+    requires ends { IsFinite (I.remaining pairs) }
+    ensures ran { (xs : List (R × P)) × Drains I.next_gives pairs xs × (result ≡ coefficient_sums P.ops d (map (λ x. (R.items x.0, x.1)) xs)) }
+{
+    let mut acc = [P::zero(); 8];
+    for (coeffs, scale) in pairs {
+        acc = add_scaled_coefficients(acc, d, coeffs.as_slice(), scale);
+    }
+    acc
 }

@@ -46,6 +46,18 @@ pub trait PackedFieldExtension<F: Field, EF: ExtensionField<F>>: Algebra<EF>
 
     /// An extension value as a packing holds the value in all lanes.
     ghost ext_injects: { (e : EF) → ext_lanes (⟦<Self as Algebra<EF>>⟧.embed e) ≡ replicate Self.Base.WIDTH e };
+
+    /// Writes the lanes to the slice, which has as many values as the packing has lanes. Upstream's
+    /// `to_ext_slice`.
+    #[inline]
+    final fn to_ext_slice(&self, out: &mut [EF])
+        requires { length out.old ≡ Self.Base.WIDTH }
+        ensures { out.new ≡ ext_lanes self.now }
+    {
+        for lane in 0..out.len() {
+            out[lane] = PackedFieldExtension::<F, EF>::extract(self, lane);
+        }
+    }
 }
 
 /// A packing of F packs F as an extension of itself.
