@@ -32,7 +32,8 @@ pub use p3_ring::sponge::SpongePaddingValue;
 pub use p3_ring::sums::sum_array;
 pub use p3_spaces::basis::{AlgebraIdentity, BasedVectorSpace};
 pub use p3_spaces::columnwise::{
-    AsRow, batched_columnwise_dot_product, generic_batched_columnwise_dot_product,
+    AsRow, batched_columnwise_dot_product, coeffwise_dot_product,
+    generic_batched_columnwise_dot_product,
 };
 pub use p3_spaces::extension_field::ExtensionField;
 pub use p3_spaces::field_bounds::{FieldBounds, PrimeFieldBounds};
