@@ -7,6 +7,8 @@ mod kernels;
 #[cfg(test)]
 mod numbers;
 #[cfg(test)]
+mod packing_blocks;
+#[cfg(test)]
 mod tables;
 #[cfg(test)]
 mod vector_blocks;
