@@ -1,0 +1,3 @@
+pub mod EqualDigits
+pub mod Injective
+pub mod Sizes
