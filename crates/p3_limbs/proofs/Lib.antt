@@ -1,3 +1,4 @@
 pub mod EqualDigits
+pub mod Horner
 pub mod Injective
 pub mod Sizes
