@@ -2,3 +2,4 @@ pub mod EqualDigits
 pub mod Horner
 pub mod Injective
 pub mod Sizes
+pub mod SplitDigits

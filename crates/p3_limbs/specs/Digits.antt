@@ -1,11 +1,16 @@
 -- Numbers written in digits, lowest first.
-use Rattle.std.specs.Prelude.{zero, suc, ◌++◌, ℕ, ◌≡◌, ◌<◌, ◌≤◌, ◌+◌, ◌*◌, ◌/◌, ◌%◌, ◌^◌, List, [], ◌∷◌, map}
+use Rattle.std.specs.Prelude.{ℕ, ◌<◌, ◌≤◌, ◌+◌, ◌*◌, ◌/◌, ◌%◌, ◌^◌, List, [], ◌∷◌, map}
 use Rattle.std.proofs.Math.ListN.{replicate}
+use Rattle.p3_theory.specs.Polynomials.Polynomial.{tabulate}
 
 -- the sum of the digits times the powers of the radix b
 abbrev pub num : List ℕ → ℕ → ℕ
 num [] b = 0
 num (d ∷ ds) b = d + b * num ds b
+
+-- the lowest n digits of v in radix b: digit i is v / b^i, modulo b
+abbrev pub digits : ℕ → ℕ → ℕ → List ℕ
+digits v b n = tabulate n (λ i. v / b ^ i % b)
 
 -- k is the greatest count of digits d whose number is below n
 abbrev pub IsLimit : ℕ → ℕ → ℕ → ℕ → Type 0

@@ -3,3 +3,4 @@
 
 pub mod limits;
 pub mod packing;
+pub mod splits;
