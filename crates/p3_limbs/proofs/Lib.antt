@@ -1,3 +1,4 @@
 pub mod EqualDigits
 pub mod Injective
 pub mod Sizes
+pub mod BitLengths
