@@ -1,0 +1,4 @@
+//! Rows of values and packings of their columns: lane l of packing c is entry c of row l.
+#![tactic(auto)]
+
+pub mod columns;
