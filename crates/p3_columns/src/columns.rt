@@ -52,7 +52,10 @@ pub fn pack_columns<P: PackedValue, const N: usize>(rows: &[[P::Value; N]]) -> [
 
 /// The row whose entry c is lane l of packing c.
 #[inline]
-fn unpacked_row<P: PackedValue, const N: usize>(packed: &[P; N], l: usize) -> [P::Value; N]
+pub(crate) fn unpacked_row<P: PackedValue, const N: usize>(
+    packed: &[P; N],
+    l: usize,
+) -> [P::Value; N]
     requires { l < P.WIDTH }
     ensures { (p : P) (d : P.Value) (c : ℕ) → c < N → slice_get (P.lanes (get_or packed.now c p)) l ≡ Some (get_or result c d) }
 {

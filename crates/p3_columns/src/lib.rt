@@ -2,3 +2,4 @@
 #![tactic(auto)]
 
 pub mod columns;
+pub mod unpacked_rows;
