@@ -1,6 +1,7 @@
 //! The rows of packings as an iterator.
-ghost use Rattle.std.specs.Prelude.{◌≡◌, ◌<◌, ◌≤◌, ◌+◌, ◌-◌, ℕ, length, get_or, slice_get, Some, MatchOption};
-ghost use Rattle.std.specs.Iterator.{at_most};
+ghost use Rattle.std.specs.Prelude.{◌≡◌, ◌<◌, ◌≤◌, ◌+◌, ◌-◌, ℕ, length, get_or, slice_get, Some, IfSome, MatchOption};
+ghost use Rattle.std.specs.Iterator.{at_most, UpTo};
+ghost use Rattle.std.specs.Iterator.SizeHint.{IsWithinCount};
 
 use crate::columns::unpacked_row;
 use p3_base::packed_traits::PackedValue;
@@ -33,7 +34,11 @@ impl<P: PackedValue, const N: usize> Iterator for UnpackedRows<P, N> {
     }
 
     #[inline]
-    fn size_hint(&self) -> (usize, Option<usize>) {
+    fn size_hint(&self) -> (usize, Option<usize>)
+        ensures lower { IsWithinCount result.0 (at_most (P.WIDTH - self.now.lane)) }
+        ensures upper { IfSome result.1 (UpTo (at_most (P.WIDTH - self.now.lane))) }
+        ensures exact { result ≡ (P.WIDTH - self.now.lane, Some (P.WIDTH - self.now.lane)) }
+    {
         let left = P::WIDTH.saturating_sub(self.lane);
         (left, Some(left))
     }
