@@ -1,3 +1,4 @@
+pub mod BitLengths
 pub mod EqualDigits
 pub mod Horner
 pub mod Injective

@@ -18,6 +18,7 @@ pub trait Packing: Copy {}
 
 /// Values of the extension of F of degree D by the shape S side by side, as their D coefficients,
 /// each a packing in P, from the constant one upward. Upstream's `PackedExtField`.
+#[derive_where(PartialEq, Eq, PartialOrd, Ord, Hash, Debug; P)]
 pub struct PackedExtField<F, const D: usize, S, P> {
     pub value: ExtField<F, D, S, P>,
 }
