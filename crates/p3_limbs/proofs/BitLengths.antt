@@ -1,5 +1,5 @@
 -- The number of binary digits.
-use Rattle.std.proofs.Common.{◌≡◌, ◌<◌, ◌≤◌, ◌+◌, ◌-◌, ◌^◌, ℕ, zero, suc, arith}
+use Rattle.std.proofs.Common.{◌≡◌, ◌<◌, ◌≤◌, ◌^◌, ℕ, zero, suc, arith}
 use Rattle.std.proofs.Math.Nat.{pow-zero}
 use Rattle.p3_theory.specs.ResidueRings.BitLength.{IsBitLength}
 

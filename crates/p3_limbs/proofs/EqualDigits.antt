@@ -1,7 +1,7 @@
 -- Numbers of equal digits.
-use Rattle.std.proofs.Common.{◌≡◌, ◌<◌, ◌≤◌, ◌+◌, ◌-◌, ◌*◌, ◌^◌, ℕ, zero, suc, List, [], ◌∷◌, ap, arith, ◌∙◌, sym, add-one, inl, inr}
+use Rattle.std.proofs.Common.{◌≡◌, ◌<◌, ◌≤◌, ◌+◌, ◌*◌, ◌^◌, ℕ, zero, suc, ap, arith, ◌∙◌, sym, add-one, inl, inr}
 use Rattle.std.proofs.Math.ListN.{replicate}
-use Rattle.std.proofs.Math.Nat.{pow-zero, pow-suc, pow-succ', le-mul_of_pos_right, mul_comm, mul-add, mul-le-mul_left, pow-le-pow_left, pow-le-pow_right}
+use Rattle.std.proofs.Math.Nat.{pow-zero, pow-suc, pow-succ', le-mul_of_pos_right, mul-add, mul-le-mul_left, pow-le-pow_left, pow-le-pow_right}
 use Rattle.std.proofs.Common.{refl}
 use Rattle.std.proofs.lemmas.Bool.{cases_lt}
 use Rattle.p3_limbs.specs.Digits.{num, IsLimit}

@@ -1,4 +1,4 @@
-use Rattle.std.proofs.Common.{◌≡◌, ◌<◌, ◌≤◌, ◌-◌, ◌^◌, ◌∙◌, ℕ, arith, subst}
+use Rattle.std.proofs.Common.{◌≡◌, ◌-◌, ◌∙◌, ℕ, arith, subst}
 use Rattle.std.specs.Int.Count.{count_leading_zeros}
 use Rattle.p3_theory.specs.ResidueRings.BitLength.{IsBitLength, bit_length_by_zeros}
 use Rattle.p3_limbs.proofs.BitLengths.{some_digit}

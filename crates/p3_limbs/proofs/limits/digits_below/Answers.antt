@@ -1,7 +1,7 @@
-use Rattle.std.proofs.Common.{rules, ◌≡◌, ◌<◌, ◌≤◌, ◌+◌, ◌*◌, ◌^◌, ◌-◌, ◌%◌, ℕ, refl, arith, ap, ◌∙◌}
+use Rattle.std.proofs.Common.{◌*◌, ◌^◌, refl, arith, ap, ◌∙◌}
 use Rattle.std.proofs.lemmas.Nat.{one_shl}
 use Rattle.std.proofs.Math.Nat.{pow-le-pow_right}
-use Rattle.p3_limbs.proofs.EqualDigits.{IsCounted, stops, counts, counts_none, stops_after, never_full}
+use Rattle.p3_limbs.proofs.EqualDigits.{stops, counts, counts_none, stops_after, never_full}
 use Rattle.p3_limbs.proofs.limits.digits_below.Goals as goal
 
 pub loop-k-init : goal.loop-k-init

@@ -1,4 +1,4 @@
-use Rattle.std.proofs.Common.{◌≡◌, ◌<◌, ◌^◌}
+use Rattle.std.proofs.Common.{◌^◌}
 use Rattle.p3_limbs.proofs.EqualDigits.{IsCounted}
 use Rattle.p3_limbs.proofs.limits.digits_below.Given as goal
 

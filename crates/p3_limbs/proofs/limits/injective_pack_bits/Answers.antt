@@ -1,4 +1,4 @@
-use Rattle.std.proofs.Common.{◌≡◌, ◌<◌, ◌-◌, ◌+◌, ℕ, arith, subst, sym}
+use Rattle.std.proofs.Common.{◌≡◌, ◌-◌, ◌+◌, ℕ, arith, subst}
 use Rattle.p3_theory.specs.ResidueRings.BitLength.{IsBitLength}
 use Rattle.p3_limbs.proofs.limits.injective_pack_bits.Goals as goal
 

@@ -1,4 +1,4 @@
-use Rattle.std.proofs.Common.{◌≡◌, ◌<◌, ◌≤◌, ◌-◌, ◌^◌, ℕ, List, length, arith, subst}
+use Rattle.std.proofs.Common.{◌≡◌, ◌≤◌, ◌-◌, ◌^◌, ℕ, List, length, arith, subst}
 use Rattle.p3_limbs.specs.Digits.{IsLimit, pack}
 use Rattle.p3_limbs.proofs.BitLengths.{same_length}
 use Rattle.p3_limbs.proofs.limits.max_absorb_injective_limbs.Goals as goal

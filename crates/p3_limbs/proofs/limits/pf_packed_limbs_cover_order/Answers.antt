@@ -1,4 +1,4 @@
-use Rattle.std.proofs.Common.{◌≡◌, ◌<◌, ◌≤◌, ◌*◌, ◌^◌, refl, arith, ap}
+use Rattle.std.proofs.Common.{◌*◌, refl, arith}
 use Rattle.std.proofs.Math.Nat.{pow-le-pow_right}
 use Rattle.p3_limbs.proofs.limits.pf_packed_limbs_cover_order.Goals as goal
 

@@ -1,4 +1,4 @@
-use Rattle.std.proofs.Common.{◌≡◌, ◌<◌, ◌≤◌, ◌+◌, ◌*◌, ◌^◌, ◌-◌, arith}
+use Rattle.std.proofs.Common.{arith}
 use Rattle.p3_limbs.proofs.Sizes.{greatest_power, power_full}
 use Rattle.p3_limbs.proofs.limits.powers_below.Goals as goal
 
