@@ -11,8 +11,9 @@ use std::alloc::{AllocError, Allocator, Global};
 /// The lowest `num_limbs` digits of the canonical value in radix `2^radix_bits`, the lowest first,
 /// as values of TF, whose order is at least the radix; a digit that the value doesn't have is zero.
 /// Where so many digits hold every value of the source field, they give the value back: it is the
-/// value at `2^radix_bits` of the polynomial over the source field with the digits as coefficients.
-/// `Err` where the memory is refused. Upstream's `split_pf_to_packed_limbs`.
+/// value at `2^radix_bits` of the polynomial whose coefficients are the digits, all of them taken
+/// into the source field as one so many times, which is what `from_int` answers. `Err` where the
+/// memory is refused. Upstream's `split_pf_to_packed_limbs`.
 #[inline]
 pub fn split_pf_to_packed_limbs<SF: PrimeField, TF: PrimeField32>(
     alloc: Global,
