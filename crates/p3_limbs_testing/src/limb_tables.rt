@@ -1,9 +1,12 @@
 //! Worked rows and outside values of the calls on limbs, by the small field and the large one.
 use crate::limb_rows::answers;
-use p3_bench_prime::baby_bear::BabyBear;
-use p3_bench_prime::goldilocks::Goldilocks;
-use p3_bench_prime::koala_bear::KoalaBear;
-use p3_bench_prime::small::{F2, F17, F31, Z15};
+use p3_bench_prime::baby_bear::BabyBearModulus;
+use p3_bench_prime::form::{Form, Plain, ShortForm, Word};
+use p3_bench_prime::fp::Fp;
+use p3_bench_prime::goldilocks::GoldilocksForm;
+use p3_bench_prime::koala_bear::KoalaBearModulus;
+use p3_bench_prime::small::{M2, M15, M17, M31};
+use std::alloc::{AllocError, Global};
 use std::test::Fail;
 
 /// The call, its arguments, its answer.
@@ -608,156 +611,107 @@ const BB_INTO_F17: [Row; 27] = [
     ("split_pf_to_packed_limbs", "11|5|18", "11,0,0,0,0"),
 ];
 
+/// Whether each row is answered so, over the residues of a short form and of any form: a call at markers
+/// passes what they ask for alone.
+fn rows_hold<W: ShortForm, V: Form<T>, T: Word>(
+    alloc: Global,
+    rows: &[Row],
+) -> Result<bool, AllocError> {
+    for (call, arguments, answer) in rows {
+        let holds = answers::<Fp<W>, Fp<V, T>>(alloc, call, arguments, answer)?;
+        if holds != Some(true) {
+            return Ok(false);
+        }
+    }
+    Ok(true)
+}
+
 #[test]
 fn f17_into_bb(rt: HostRuntime) -> Result<(), Fail> {
-    for (call, arguments, answer) in F17_INTO_BB {
-        assert_eq!(rt;
-            answers::<F17, BabyBear>(rt.alloc(), call, arguments, answer)?,
-            Some(true)
-        );
-    }
+    assert!(rt; rows_hold::<Plain<M17>, Plain<BabyBearModulus>, u32>(rt.alloc(), &F17_INTO_BB)?);
     Ok(())
 }
 
 #[test]
 fn f2_into_f17(rt: HostRuntime) -> Result<(), Fail> {
-    for (call, arguments, answer) in F2_INTO_F17 {
-        assert_eq!(rt;
-            answers::<F2, F17>(rt.alloc(), call, arguments, answer)?,
-            Some(true)
-        );
-    }
+    assert!(rt; rows_hold::<Plain<M2>, Plain<M17>, u32>(rt.alloc(), &F2_INTO_F17)?);
     Ok(())
 }
 
 #[test]
 fn kb_into_bb(rt: HostRuntime) -> Result<(), Fail> {
-    for (call, arguments, answer) in KB_INTO_BB {
-        assert_eq!(rt;
-            answers::<KoalaBear, BabyBear>(rt.alloc(), call, arguments, answer)?,
-            Some(true)
-        );
-    }
+    assert!(rt;
+        rows_hold::<Plain<KoalaBearModulus>, Plain<BabyBearModulus>, u32>(rt.alloc(), &KB_INTO_BB)?
+    );
     Ok(())
 }
 
 #[test]
 fn bb_into_gl(rt: HostRuntime) -> Result<(), Fail> {
-    for (call, arguments, answer) in BB_INTO_GL {
-        assert_eq!(rt;
-            answers::<BabyBear, Goldilocks>(rt.alloc(), call, arguments, answer)?,
-            Some(true)
-        );
-    }
+    assert!(rt; rows_hold::<Plain<BabyBearModulus>, GoldilocksForm, u64>(rt.alloc(), &BB_INTO_GL)?);
     Ok(())
 }
 
 #[test]
 fn f17_into_gl(rt: HostRuntime) -> Result<(), Fail> {
-    for (call, arguments, answer) in F17_INTO_GL {
-        assert_eq!(rt;
-            answers::<F17, Goldilocks>(rt.alloc(), call, arguments, answer)?,
-            Some(true)
-        );
-    }
+    assert!(rt; rows_hold::<Plain<M17>, GoldilocksForm, u64>(rt.alloc(), &F17_INTO_GL)?);
     Ok(())
 }
 
 #[test]
 fn f2_into_gl(rt: HostRuntime) -> Result<(), Fail> {
-    for (call, arguments, answer) in F2_INTO_GL {
-        assert_eq!(rt;
-            answers::<F2, Goldilocks>(rt.alloc(), call, arguments, answer)?,
-            Some(true)
-        );
-    }
+    assert!(rt; rows_hold::<Plain<M2>, GoldilocksForm, u64>(rt.alloc(), &F2_INTO_GL)?);
     Ok(())
 }
 
 #[test]
 fn f2_into_f2(rt: HostRuntime) -> Result<(), Fail> {
-    for (call, arguments, answer) in F2_INTO_F2 {
-        assert_eq!(rt;
-            answers::<F2, F2>(rt.alloc(), call, arguments, answer)?,
-            Some(true)
-        );
-    }
+    assert!(rt; rows_hold::<Plain<M2>, Plain<M2>, u32>(rt.alloc(), &F2_INTO_F2)?);
     Ok(())
 }
 
 #[test]
 fn f17_into_f2(rt: HostRuntime) -> Result<(), Fail> {
-    for (call, arguments, answer) in F17_INTO_F2 {
-        assert_eq!(rt;
-            answers::<F17, F2>(rt.alloc(), call, arguments, answer)?,
-            Some(true)
-        );
-    }
+    assert!(rt; rows_hold::<Plain<M17>, Plain<M2>, u32>(rt.alloc(), &F17_INTO_F2)?);
     Ok(())
 }
 
 #[test]
 fn f17_into_f17(rt: HostRuntime) -> Result<(), Fail> {
-    for (call, arguments, answer) in F17_INTO_F17 {
-        assert_eq!(rt;
-            answers::<F17, F17>(rt.alloc(), call, arguments, answer)?,
-            Some(true)
-        );
-    }
+    assert!(rt; rows_hold::<Plain<M17>, Plain<M17>, u32>(rt.alloc(), &F17_INTO_F17)?);
     Ok(())
 }
 
 #[test]
 fn f31_into_kb(rt: HostRuntime) -> Result<(), Fail> {
-    for (call, arguments, answer) in F31_INTO_KB {
-        assert_eq!(rt;
-            answers::<F31, KoalaBear>(rt.alloc(), call, arguments, answer)?,
-            Some(true)
-        );
-    }
+    assert!(rt; rows_hold::<Plain<M31>, Plain<KoalaBearModulus>, u32>(rt.alloc(), &F31_INTO_KB)?);
     Ok(())
 }
 
 #[test]
 fn z15_into_bb(rt: HostRuntime) -> Result<(), Fail> {
-    for (call, arguments, answer) in Z15_INTO_BB {
-        assert_eq!(rt;
-            answers::<Z15, BabyBear>(rt.alloc(), call, arguments, answer)?,
-            Some(true)
-        );
-    }
+    assert!(rt; rows_hold::<Plain<M15>, Plain<BabyBearModulus>, u32>(rt.alloc(), &Z15_INTO_BB)?);
     Ok(())
 }
 
 #[test]
 fn kb_into_gl(rt: HostRuntime) -> Result<(), Fail> {
-    for (call, arguments, answer) in KB_INTO_GL {
-        assert_eq!(rt;
-            answers::<KoalaBear, Goldilocks>(rt.alloc(), call, arguments, answer)?,
-            Some(true)
-        );
-    }
+    assert!(rt;
+        rows_hold::<Plain<KoalaBearModulus>, GoldilocksForm, u64>(rt.alloc(), &KB_INTO_GL)?
+    );
     Ok(())
 }
 
 #[test]
 fn bb_into_kb(rt: HostRuntime) -> Result<(), Fail> {
-    for (call, arguments, answer) in BB_INTO_KB {
-        assert_eq!(rt;
-            answers::<BabyBear, KoalaBear>(rt.alloc(), call, arguments, answer)?,
-            Some(true)
-        );
-    }
+    assert!(rt;
+        rows_hold::<Plain<BabyBearModulus>, Plain<KoalaBearModulus>, u32>(rt.alloc(), &BB_INTO_KB)?
+    );
     Ok(())
 }
 
 #[test]
 fn bb_into_f17(rt: HostRuntime) -> Result<(), Fail> {
-    for (call, arguments, answer) in BB_INTO_F17 {
-        assert_eq!(rt;
-            answers::<BabyBear, F17>(rt.alloc(), call, arguments, answer)?,
-            Some(true)
-        );
-    }
+    assert!(rt; rows_hold::<Plain<BabyBearModulus>, Plain<M17>, u32>(rt.alloc(), &BB_INTO_F17)?);
     Ok(())
 }
