@@ -6,25 +6,21 @@ ghost use Rattle.std.specs.Prelude.{◌<◌, ◌*◌};
 use p3_bench_packed::packed::Packed;
 use p3_bench_prime::binomial_constants::BinomialConstants;
 use p3_bench_prime::fp::Fp;
-use p3_bench_prime::trinomial_constants::TrinomialConstants;
-use p3_field::extension::{
-    Binomial, BinomialExtensionField, CubicTrinomial, CubicTrinomialExtensionField,
-    PackedBinomialExtensionField, PackedCubicTrinomialExtensionField, Packing,
-};
+use p3_field::extension::{BinomialExtensionField, PackedBinomialExtensionField, Packing};
 use p3_field::steps::{Step, run_lane_steps, run_steps, steps_fit};
 use p3_field::{
     ExtensionField, Field, PackedField, PackedFieldExtension, PackedValue, VectorizedExt,
 };
 
-/// Runs over the values of an extension of degree D by the shape S, implemented once for all fields: a
-/// call at a field's own name passes the field's constants alone.
-pub trait LaneRuns<const D: usize, S> {
+/// Runs over the values of a binomial's extension of degree D, implemented once for all fields: a call
+/// at a field's own name passes the field's constants alone.
+pub trait LaneRuns<const D: usize> {
     /// `run_agrees` over vectors of `n` packings of `width` lanes; none but for widths 4 and 8 and up to
     /// three packings.
     fn agrees(width: usize, n: usize, before: &str, steps: &str, after: &str) -> Option<bool>;
 }
 
-impl<W: BinomialConstants<D>, const D: usize> LaneRuns<D, Binomial<Fp<W>>> for W {
+impl<W: BinomialConstants<D>, const D: usize> LaneRuns<D> for W {
     fn agrees(width: usize, n: usize, before: &str, steps: &str, after: &str) -> Option<bool> {
         match (width, n) {
             (4, 1) => over_packings::<W, D, Packed<Fp<W>, 4>, 1>(before, steps, after),
@@ -38,21 +34,7 @@ impl<W: BinomialConstants<D>, const D: usize> LaneRuns<D, Binomial<Fp<W>>> for W
     }
 }
 
-impl<W: TrinomialConstants<3, CubicTrinomial>> LaneRuns<3, CubicTrinomial> for W {
-    fn agrees(width: usize, n: usize, before: &str, steps: &str, after: &str) -> Option<bool> {
-        match (width, n) {
-            (4, 1) => over_cubic_packings::<W, Packed<Fp<W>, 4>, 1>(before, steps, after),
-            (4, 2) => over_cubic_packings::<W, Packed<Fp<W>, 4>, 2>(before, steps, after),
-            (4, 3) => over_cubic_packings::<W, Packed<Fp<W>, 4>, 3>(before, steps, after),
-            (8, 1) => over_cubic_packings::<W, Packed<Fp<W>, 8>, 1>(before, steps, after),
-            (8, 2) => over_cubic_packings::<W, Packed<Fp<W>, 8>, 2>(before, steps, after),
-            (8, 3) => over_cubic_packings::<W, Packed<Fp<W>, 8>, 3>(before, steps, after),
-            _ => None,
-        }
-    }
-}
-
-/// `run_agrees` over vectors of N packings P, modulo `X^D - W`.
+/// `run_agrees` over vectors of N packings P.
 fn over_packings<
     W: BinomialConstants<D>,
     const D: usize,
@@ -66,23 +48,6 @@ fn over_packings<
         N,
     >(before, steps, after)
 }
-
-/// `run_agrees` over vectors of N packings P, modulo `X^3 - X - 1`.
-fn over_cubic_packings<
-    W: TrinomialConstants<3, CubicTrinomial>,
-    P: PackedField<Fp<W>> + Packing,
-    const N: usize,
->(before: &str, steps: &str, after: &str) -> Option<bool> {
-    run_agrees::<
-        Fp<W>,
-        CubicTrinomialExtensionField<Fp<W>>,
-        PackedCubicTrinomialExtensionField<Fp<W>, P>,
-        N,
-    >(before, steps, after)
-}
-
-/// The greatest number of lanes of a packing.
-const MOST_LANES: usize = 16;
 
 /// The greatest number of steps of a run.
 const MOST_STEPS: usize = 24;
@@ -151,11 +116,11 @@ fn register<F: Field, EF: ExtensionField<F>, PE: PackedFieldExtension<F, EF>, co
 ) -> Option<VectorizedExt<F, EF, PE, N>> {
     let width = <PE::Base as PackedValue>::WIDTH;
     let lanes = width.checked_mul(N)?;
-    if width > MOST_LANES || text.split_ascii_whitespace().count() != lanes {
+    if text.split_ascii_whitespace().count() != lanes {
         return None;
     }
     for word in text.split_ascii_whitespace() {
-        value::<F, EF>(word)?;
+        numbers_of(word)?;
     }
     let packings: [PE; N] = std::array::from_fn(|i: usize| -> PE {
         packing_at::<F, EF, PE>(text, i)
@@ -168,44 +133,38 @@ fn packing_at<F: Field, EF: ExtensionField<F>, PE: PackedFieldExtension<F, EF>>(
     text: &str,
     index: usize,
 ) -> PE {
-    let width = <PE::Base as PackedValue>::WIDTH;
-    let lanes: [EF; MOST_LANES] = std::array::from_fn(|lane: usize| -> EF {
-        value_at::<F, EF>(text, index, width, lane).unwrap_or(EF::zero())
-    });
-    let packing = match lanes.get(..width) {
-        Some(lanes) => packing_of::<F, EF, PE>(lanes),
-        None => None,
-    };
-    packing.unwrap_or(PE::zero())
+    PE::from_basis_coefficients_fn(|d: usize| -> PE::Base {
+        coefficient_lanes::<F, PE::Base>(text, index, d)
+    })
 }
 
-/// The value at a lane of a packing of a text.
-fn value_at<F: Field, EF: ExtensionField<F>>(
-    text: &str,
-    index: usize,
-    width: usize,
-    lane: usize,
-) -> Option<EF> {
-    let place = index.checked_mul(width)?.checked_add(lane)?;
-    value::<F, EF>(text.split_ascii_whitespace().nth(place)?)
+/// The coefficients at an index d of the values at the lanes of a packing of a text.
+fn coefficient_lanes<F: Field, P: PackedField<F>>(text: &str, index: usize, d: usize) -> P {
+    let width = <P as PackedValue>::WIDTH;
+    P::from_fn(|lane: usize| -> F { lane_coefficient::<F>(text, index, width, lane, d) })
 }
 
-/// The packing with these lanes; none where there are more or fewer than the packing has.
-fn packing_of<F: Field, EF: ExtensionField<F>, PE: PackedFieldExtension<F, EF>>(
-    lanes: &[EF],
-) -> Option<PE> {
-    if lanes.len() != <PE::Base as PackedValue>::WIDTH {
-        return None;
+/// The coefficient at an index d of the value at a lane of a packing of a text; zero where there is
+/// none.
+fn lane_coefficient<F: Field>(text: &str, index: usize, width: usize, lane: usize, d: usize) -> F {
+    match value_text(text, index, width, lane) {
+        Some(value) => coefficient(value, d),
+        None => F::zero(),
     }
-    Some(PE::from_ext_slice(lanes))
 }
 
-/// The extension value with the coefficients of a text.
-fn value<F: Field, EF: ExtensionField<F>>(text: &str) -> Option<EF> {
+/// The text of the value at a lane of a packing of a text.
+fn value_text(text: &str, index: usize, width: usize, lane: usize) -> Option<&str> {
+    let value = index.checked_mul(width)?.checked_add(lane)?;
+    text.split_ascii_whitespace().nth(value)
+}
+
+/// That the words between commas are numbers; none where one isn't.
+fn numbers_of(text: &str) -> Option<()> {
     for word in text.split(',') {
         word.parse::<u32>().ok()?;
     }
-    Some(EF::from_basis_coefficients_fn(|d: usize| -> F { coefficient(text, d) }))
+    Some(())
 }
 
 /// The coefficient at an index of a text, zero past its end.
