@@ -9,7 +9,8 @@ use p3_bench_prime::fp::Fp;
 use p3_field::extension::{BinomialExtensionField, PackedBinomialExtensionField, Packing};
 use p3_field::steps::{Step, run_lane_steps, run_steps, steps_fit};
 use p3_field::{
-    ExtensionField, Field, PackedField, PackedFieldExtension, PackedValue, VectorizedExt,
+    BasedVectorSpace, ExtensionField, Field, PackedField, PackedFieldExtension, PackedValue,
+    VectorizedExt,
 };
 
 /// Runs over the values of a binomial's extension of degree D, implemented once for all fields: a call
@@ -123,19 +124,17 @@ fn register<F: Field, EF: ExtensionField<F>, PE: PackedFieldExtension<F, EF>, co
         numbers_of(word)?;
     }
     let packings: [PE; N] = std::array::from_fn(|i: usize| -> PE {
-        packing_at::<F, EF, PE>(text, i)
+        packing_at::<F, PE::Base, PE>(text, i)
     });
     Some(VectorizedExt::new(packings))
 }
 
 /// The packing at an index of a text; zero where the text has no such lanes.
-fn packing_at<F: Field, EF: ExtensionField<F>, PE: PackedFieldExtension<F, EF>>(
+fn packing_at<F: Field, P: PackedField<F>, PE: BasedVectorSpace<P>>(
     text: &str,
     index: usize,
 ) -> PE {
-    PE::from_basis_coefficients_fn(|d: usize| -> PE::Base {
-        coefficient_lanes::<F, PE::Base>(text, index, d)
-    })
+    PE::from_basis_coefficients_fn(|d: usize| -> P { coefficient_lanes::<F, P>(text, index, d) })
 }
 
 /// The coefficients at an index d of the values at the lanes of a packing of a text.
