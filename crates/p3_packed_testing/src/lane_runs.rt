@@ -123,10 +123,14 @@ fn register<F: Field, EF: ExtensionField<F>, PE: PackedFieldExtension<F, EF>, co
     for word in text.split_ascii_whitespace() {
         numbers_of(word)?;
     }
-    let packings: [PE; N] = std::array::from_fn(|i: usize| -> PE {
-        packing_at::<F, PE::Base, PE>(text, i)
-    });
-    Some(VectorizedExt::new(packings))
+    Some(VectorizedExt::new(packings_of::<F, PE::Base, PE, N>(text)))
+}
+
+/// The packings of a text.
+fn packings_of<F: Field, P: PackedField<F>, PE: BasedVectorSpace<P>, const N: usize>(
+    text: &str,
+) -> [PE; N] {
+    std::array::from_fn(|i: usize| -> PE { packing_at::<F, P, PE>(text, i) })
 }
 
 /// The packing at an index of a text; zero where the text has no such lanes.
