@@ -7,6 +7,7 @@ use p3_base::packed_traits::{Inhabited, Packable, PackedField, PackedFieldPow2, 
 use p3_bench_prime::form::{Form, Word};
 use p3_bench_prime::fp::Fp;
 use p3_packed::packed_ext_field::Packing;
+use p3_vectorized::vectorized::lanes::LaneCountFits;
 
 impl<F: Packable, const N: usize> PackedValue for Packed<F, N> {
     type Value = F;
@@ -166,4 +167,40 @@ impl<W: Form<T>, T: Word> Lanes<16> for Fp<W, T> {
     ghost some_lane = { lit< tt };
 
     ghost power_of_two = { (4, refl) };
+}
+
+impl<F: Lanes<4>> LaneCountFits<F, 1> for Packed<F, 4> {
+    ghost use Rattle.std.proofs.Common.{lit<};
+
+    ghost fits = { lit< tt };
+}
+
+impl<F: Lanes<4>> LaneCountFits<F, 2> for Packed<F, 4> {
+    ghost use Rattle.std.proofs.Common.{lit<};
+
+    ghost fits = { lit< tt };
+}
+
+impl<F: Lanes<4>> LaneCountFits<F, 3> for Packed<F, 4> {
+    ghost use Rattle.std.proofs.Common.{lit<};
+
+    ghost fits = { lit< tt };
+}
+
+impl<F: Lanes<8>> LaneCountFits<F, 1> for Packed<F, 8> {
+    ghost use Rattle.std.proofs.Common.{lit<};
+
+    ghost fits = { lit< tt };
+}
+
+impl<F: Lanes<8>> LaneCountFits<F, 2> for Packed<F, 8> {
+    ghost use Rattle.std.proofs.Common.{lit<};
+
+    ghost fits = { lit< tt };
+}
+
+impl<F: Lanes<8>> LaneCountFits<F, 3> for Packed<F, 8> {
+    ghost use Rattle.std.proofs.Common.{lit<};
+
+    ghost fits = { lit< tt };
 }

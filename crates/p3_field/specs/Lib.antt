@@ -46,6 +46,8 @@ pub use Rattle.p3_spaces.specs.CoefficientSums
 pub use Rattle.p3_spaces.specs.Streams
 pub use Rattle.p3_tools.specs.BackwardRuns
 pub use Rattle.p3_tools.specs.PairedRuns
+pub use Rattle.p3_limbs.specs.Digits
+pub use Rattle.p3_columns.specs.Columns
 pub use Rattle.p3_products.specs.Entries
 pub use Rattle.p3_ext.specs.Bases
 pub use Rattle.p3_ext.specs.BinomialShape
@@ -65,4 +67,5 @@ pub use Rattle.p3_packed.specs.PackedValues
 pub use Rattle.p3_packed.specs.ValueLanes
 pub use Rattle.p3_vectorized.specs.Inside
 pub use Rattle.p3_vectorized.specs.RowMaps
+pub use Rattle.p3_vectorized.specs.VectorLists
 pub use Rattle.p3_vectorized.specs.Written

@@ -11,6 +11,8 @@ pub use p3_base::sqrt::{
     Turns, tonelli_shanks, tonelli_shanks_counted, tonelli_shanks_two_adic,
     tonelli_shanks_two_adic_counted,
 };
+pub use p3_columns::columns::{pack_columns, pack_columns_fn, unpack_into};
+pub use p3_columns::unpacked_rows::{UnpackedRows, unpack_iter};
 pub use p3_ext::subfield::HasSubfield;
 pub use p3_integers::dup::Dup;
 pub use p3_integers::integers as integers;
@@ -18,6 +20,16 @@ pub use p3_lanes::interleaves::{interleave_u32, interleave_u64, interleave_u128,
 pub use p3_lanes::mod_arithmetic::{
     mm256_mod_add, mm256_mod_sub, mm512_mod_add, mm512_mod_sub, packed_mod_add, packed_mod_sub,
     uint32x4_mod_add, uint32x4_mod_sub,
+};
+pub use p3_limbs::limits::{
+    absorb_radix_bits, injective_pack_bits, max_absorb_injective_limbs, max_packed_injective_limbs,
+    max_shifted_absorb_injective_limbs, max_shifted_packed_injective_limbs,
+    pf_packed_limbs_cover_order, squeeze_field_order_num_limbs,
+};
+pub use p3_limbs::packing::{reduce_32, reduce_packed, reduce_packed_shifted};
+pub use p3_limbs::splits::{
+    split_32, split_32_in, split_pf_to_field_order_limbs, split_pf_to_field_order_limbs_in,
+    split_pf_to_packed_limbs, split_pf_to_packed_limbs_in,
 };
 pub use p3_ring::accumulate::{product_from, sum_from};
 pub use p3_ring::const_power::exp_const_u64;
@@ -54,4 +66,5 @@ pub use p3_tools::helpers::{
     par_scale_slice_in_place, scale_slice_in_place_single_core,
 };
 pub use p3_vectorized::vectorized::Vectorized;
+pub use p3_vectorized::vectorized::lanes::LaneCountFits;
 pub use p3_vectorized::vectorized_ext::VectorizedExt;

@@ -1,5 +1,6 @@
 //! Vectors of packings of field values.
 mod algebra;
+pub mod lanes;
 
 ghost use Rattle.std.specs.Prelude.{◌≡◌, ◌<◌, ℕ, length, get_or, replicate};
 ghost use Rattle.p3_theory.specs.Rings.Ring.{subtract};
