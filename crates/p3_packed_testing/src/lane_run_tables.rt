@@ -304,13 +304,25 @@ const OVER_BBX4: [Run; 29] = [
 #[test]
 fn runs_over_f17x2(rt: HostRuntime) -> Result<(), Fail> {
     for (width, n, before, steps, after) in ASCENDING {
-        let agrees =
-            <Plain<M17> as LaneRuns<2>>::agrees(rt.alloc(), width, n, before, steps, after)?;
+        let agrees = <Plain<M17> as LaneRuns<2>>::agrees(
+            rt.alloc(),
+            width,
+            n,
+            before,
+            steps,
+            after,
+        )?;
         assert_eq!(rt; agrees, Some(true));
     }
     for (width, n, before, steps, after) in OVER_F17X2 {
-        let agrees =
-            <Plain<M17> as LaneRuns<2>>::agrees(rt.alloc(), width, n, before, steps, after)?;
+        let agrees = <Plain<M17> as LaneRuns<2>>::agrees(
+            rt.alloc(),
+            width,
+            n,
+            before,
+            steps,
+            after,
+        )?;
         assert_eq!(rt; agrees, Some(true));
     }
     Ok(())

@@ -56,12 +56,7 @@ fn over_packings<
     const D: usize,
     P: PackedField<Fp<W>> + Packing,
     const N: usize,
->(
-    alloc: Global,
-    before: &str,
-    steps: &str,
-    after: &str,
-) -> Result<Option<bool>, AllocError> {
+>(alloc: Global, before: &str, steps: &str, after: &str) -> Result<Option<bool>, AllocError> {
     run_agrees::<
         Fp<W>,
         BinomialExtensionField<Fp<W>, D>,

@@ -23,15 +23,14 @@ module _ {F B : Type 0} (g : Mut F (ℕ × Unit {0}) B) (n : ℕ) (d : B) where
   fills-each : (whole ys : List B) (s t : F) (i : ℕ) → ((j : ℕ) (e : B) → j < length ys → get_or whole (i + j) e ≡ get_or ys j e) → FillsFrom calls s i ys t → IsFromFnResultFrom g s whole i (length ys)
   fills-each whole [] s t i h y = tt
   fills-each whole (x ∷ ys) s t i h y =
-      let first : (e : B) → get_or whole i e ≡ x = λ e. let some : 0 < length (x ∷ ys) = omega arith in let start : i ≡ i + 0 = omega arith in ap (λ k. get_or whole k e) start ∙ h 0 e some in
-      (
+      let first : (e : B) → get_or whole i e ≡ x = λ e. let some : 0 < length (x ∷ ys) = omega arith in let start : i ≡ i + 0 = omega arith in ap (λ k. get_or whole k e) start ∙ h 0 e some in (
         y.0,
         x,
         (first x, first),
         y.1,
         fills-each whole ys y.0 t (i + 1)
-        (λ j e b. let next : i + 1 + j ≡ i + suc j = omega arith in let more : suc j < length (x ∷ ys) = omega (arith, b) in ap (λ k. get_or whole k e) next ∙ h (suc j) e more)
-        y.2,
+            (λ j e b. let next : i + 1 + j ≡ i + suc j = omega arith in let more : suc j < length (x ∷ ys) = omega (arith, b) in ap (λ k. get_or whole k e) next ∙ h (suc j) e more)
+            y.2,
       )
 
   fills-at : (ys : List B) (s t : F) (i k m : ℕ) (e : B) → FillsFrom calls s i ys t → k < length ys → m ≡ i + k → (p : F) × (q : F) × Called g p (m, tt) (get_or ys k e) q
@@ -64,24 +63,23 @@ module _ {F B : Type 0} (g : Mut F (ℕ × Unit {0}) B) (n : ℕ) (d : B) where
   answered-more f p q xs zs k y h b l call e =
       let more : List B = h.0 ++ y ∷ [] in
       let inside : k < length xs = omega (arith, b, l) in
-      let next : k ≡ 0 + length h.0 = omega (arith, h.2) in
-      (
+      let next : k ≡ 0 + length h.0 = omega (arith, h.2) in (
         more,
         fills-more calls f 0 h.0 p y q k next h.1 call,
         length_push h.0 y ∙ ap (λ m. m + 1) h.2,
         record { at = λ later t v x u a c s. h.3.at (k ∷ later) t v x u (k + 1, (b, refl, refl), a) (q, (y, call), c) s },
         λ j w.
-        ap (λ l. get_or l j d) e
-        ∙ elim (cases_lt j k) [
-          | inl lt ↦
-              let other : j ≢ k = λ s. absurd (omega (arith, lt, s)) in
-              let early : j < length h.0 = omega (arith, lt, h.2) in
-              get_or-set_other xs k j y d other ∙ h.4 j lt ∙ sym (get_or_append_left h.0 (y ∷ []) d j early)
-          | inr ge ↦
-              let same : k ≡ j = omega (arith, ge, w) in
-              let last : length h.0 ≡ j = omega (arith, ge, w, h.2) in
-              ap (λ i. get_or (slice_set xs k y) i d) (sym same) ∙ get_or-set_same xs k y d inside ∙ sym (get_or_push h.0 y d j last)
-        ],
+            ap (λ l. get_or l j d) e
+            ∙ elim (cases_lt j k) [
+              | inl lt ↦
+                  let other : j ≢ k = λ s. absurd (omega (arith, lt, s)) in
+                  let early : j < length h.0 = omega (arith, lt, h.2) in
+                  get_or-set_other xs k j y d other ∙ h.4 j lt ∙ sym (get_or_append_left h.0 (y ∷ []) d j early)
+              | inr ge ↦
+                  let same : k ≡ j = omega (arith, ge, w) in
+                  let last : length h.0 ≡ j = omega (arith, ge, w, h.2) in
+                  ap (λ i. get_or (slice_set xs k y) i d) (sym same) ∙ get_or-set_same xs k y d inside ∙ sym (get_or_push h.0 y d j last)
+            ],
       )
 
   -- all of them

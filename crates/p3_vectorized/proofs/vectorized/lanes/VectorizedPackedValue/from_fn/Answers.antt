@@ -19,11 +19,10 @@ loop-lane-preserved g c =
     let n = g.P.PackedValue.WIDTH * g.row.N in
     let Q = g.F.PrimeCharacteristicRing.ops in
     let whole = vector_lanes g.P.PrimeCharacteristicRing.ops Q g.P.PackedValue.lanes g.P.PackedValue.WIDTH c.loop-lane.vector in
-    let all = ap (λ x. x * g.row.N) c.WIDTH-lane-end.ensures in
-    (
+    let all = ap (λ x. x * g.row.N) c.WIDTH-lane-end.ensures in (
       search of_calls,
       answered-more g.G.FnMut n Q.zero c.args.f c.loop-lane.f c.f-value.new.self whole _ c.loop-lane.lane c.f-value.result c.loop-lane.invariant.1 (omega (arith, all, c.loop-lane-test.true))
-      (length-lanes g.P.PrimeCharacteristicRing.ops Q g.P.PackedValue.lanes g.P.PackedValue.WIDTH c.loop-lane.vector) c.f-value.ensures c.write_lane.ensures,
+          (length-lanes g.P.PrimeCharacteristicRing.ops Q g.P.PackedValue.lanes g.P.PackedValue.WIDTH c.loop-lane.vector) c.f-value.ensures c.write_lane.ensures,
     )
 
 pub returns : goal.returns
