@@ -1,5 +1,5 @@
-//! Tests of the calls on lanes: sums and differences modulo an order, and vectors and packings
-//! interleaved by blocks.
+//! Tests of the calls on lanes: sums and differences modulo an order, vectors and packings interleaved
+//! by blocks, and the calls on packings.
 #![tactic(auto)]
 
 #[cfg(test)]
@@ -8,6 +8,10 @@ mod kernels;
 mod numbers;
 #[cfg(test)]
 mod packing_blocks;
+#[cfg(test)]
+mod packing_calls;
+#[cfg(test)]
+mod packing_tables;
 #[cfg(test)]
 mod tables;
 #[cfg(test)]

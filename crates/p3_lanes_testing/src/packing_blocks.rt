@@ -1,22 +1,25 @@
 //! Packings interleaved by blocks of lanes.
 ghost use Rattle.std.specs.Prelude.{◌≡◌, ◌%◌, ◌<◌};
 
-use crate::tables::{BABY_BEAR_BLOCKS, Blocks, F17_BLOCKS, F31_BLOCKS, Z15_BLOCKS};
+use crate::tables::{
+    BABY_BEAR_BLOCKS, Blocks, F17_BLOCKS, F31_BLOCKS, GOLDILOCKS_BLOCKS, Z15_BLOCKS,
+};
 use p3_base::field::Field;
 use p3_base::packed_traits::{PackedField, PackedFieldPow2, PackedValue};
 use p3_bench_packed::packed::Packed;
 use p3_bench_prime::baby_bear::BabyBearModulus;
-use p3_bench_prime::form::{Form, Plain};
+use p3_bench_prime::form::{Form, Plain, Word};
 use p3_bench_prime::fp::Fp;
+use p3_bench_prime::goldilocks::GoldilocksForm;
 use p3_bench_prime::small::{M15, M17, M31};
 use p3_ring::ring::PrimeCharacteristicRing;
 
-/// `interleaved` over the packings of a prime field in words of 32 bits with 1, 4 or 8 lanes.
-fn over<W: Form<u32>>(row: Blocks) -> Option<bool> {
+/// `interleaved` over the packings of a prime field with 1, 4 or 8 lanes.
+fn over<W: Form<T>, T: Word>(row: Blocks) -> Option<bool> {
     match row.0 {
-        1 => interleaved::<Fp<W>, Packed<Fp<W>, 1>>(row),
-        4 => interleaved::<Fp<W>, Packed<Fp<W>, 4>>(row),
-        8 => interleaved::<Fp<W>, Packed<Fp<W>, 8>>(row),
+        1 => interleaved::<Fp<W, T>, Packed<Fp<W, T>, 1>>(row),
+        4 => interleaved::<Fp<W, T>, Packed<Fp<W, T>, 4>>(row),
+        8 => interleaved::<Fp<W, T>, Packed<Fp<W, T>, 8>>(row),
         _ => None,
     }
 }
@@ -49,12 +52,12 @@ fn interleaved<F: Field, P: PackedFieldPow2<F>>(row: Blocks) -> Option<bool> {
 }
 
 /// The packing with the values of a text, zero past its end.
-fn packing<F: Field, P: PackedField<F>>(text: &str) -> P {
+pub(crate) fn packing<F: Field, P: PackedField<F>>(text: &str) -> P {
     P::from_fn(|lane: usize| -> F { value_at::<F>(text, lane).unwrap_or(F::zero()) })
 }
 
 /// Whether the lanes of a packing hold the values of a text.
-fn holds<F: Field, P: PackedField<F>>(packing: &P, text: &str) -> bool {
+pub(crate) fn holds<F: Field, P: PackedField<F>>(packing: &P, text: &str) -> bool {
     for lane in 0..P::WIDTH {
         match value_at::<F>(text, lane) {
             Some(value) => {
@@ -69,7 +72,7 @@ fn holds<F: Field, P: PackedField<F>>(packing: &P, text: &str) -> bool {
 }
 
 /// The value at an index of a text.
-fn value_at<F: Field>(text: &str, index: usize) -> Option<F> {
+pub(crate) fn value_at<F: Field>(text: &str, index: usize) -> Option<F> {
     let word = text.split_terminator(',').nth(index)?;
     Some(F::from_u64(word.parse::<u64>().ok()?))
 }
@@ -77,15 +80,18 @@ fn value_at<F: Field>(text: &str, index: usize) -> Option<F> {
 #[test]
 fn packings_by_blocks(rt: HostRuntime) {
     for row in F17_BLOCKS {
-        assert_eq!(rt; over::<Plain<M17>>(row), Some(true));
+        assert_eq!(rt; over::<Plain<M17>, u32>(row), Some(true));
     }
     for row in F31_BLOCKS {
-        assert_eq!(rt; over::<Plain<M31>>(row), Some(true));
+        assert_eq!(rt; over::<Plain<M31>, u32>(row), Some(true));
     }
     for row in Z15_BLOCKS {
-        assert_eq!(rt; over::<Plain<M15>>(row), Some(true));
+        assert_eq!(rt; over::<Plain<M15>, u32>(row), Some(true));
     }
     for row in BABY_BEAR_BLOCKS {
-        assert_eq!(rt; over::<Plain<BabyBearModulus>>(row), Some(true));
+        assert_eq!(rt; over::<Plain<BabyBearModulus>, u32>(row), Some(true));
+    }
+    for row in GOLDILOCKS_BLOCKS {
+        assert_eq!(rt; over::<GoldilocksForm, u64>(row), Some(true));
     }
 }

@@ -1,0 +1,210 @@
+//! Calls on packings told by three texts: the call, its arguments and its answer. Arguments stand
+//! between bars, packings between spaces, and the values of their lanes between commas.
+ghost use Rattle.std.specs.Prelude.{◌≤◌, ◌+◌, ◌*◌, IfSome};
+
+use crate::packing_blocks::{holds, packing, value_at};
+use crate::packing_tables::{
+    BABY_BEAR_CALLS, Call, F2_CALLS, F17_CALLS, F31_CALLS, GOLDILOCKS_CALLS, KOALA_BEAR_CALLS,
+    Z15_CALLS,
+};
+use p3_base::field::Field;
+use p3_base::packed_traits::{PackedField, PackedValue};
+use p3_bench_packed::packed::Packed;
+use p3_bench_prime::baby_bear::BabyBearModulus;
+use p3_bench_prime::form::{Form, Plain, Word};
+use p3_bench_prime::fp::Fp;
+use p3_bench_prime::goldilocks::GoldilocksForm;
+use p3_bench_prime::koala_bear::KoalaBearModulus;
+use p3_bench_prime::small::{M2, M15, M17, M31};
+use p3_ring::ring::{Algebra, PrimeCharacteristicRing};
+use std::alloc::{AllocError, Global};
+use std::process::Abort;
+use std::test::Fail;
+
+/// Whether the call has this answer; `Ok(None)` where a text can't be read, or names no call.
+fn agrees<F: Field, P: PackedField<F>>(
+    alloc: Global,
+    call: &str,
+    arguments: &str,
+    answer: &str,
+) -> Result<Option<bool>, AllocError> {
+    let mut sides = arguments.split('|');
+    let first = sides.next().unwrap_or("");
+    let second = sides.next().unwrap_or("");
+    let third = sides.next().unwrap_or("");
+    if call == "store_block" {
+        return stored::<F, P>(alloc, first, second, third, answer);
+    }
+    let given = match call {
+        "dot_product" => Some(product::<F, P>(alloc, first, second)?),
+        "mixed_dot_product" => Some(mixed_product::<F, P>(alloc, first, second)?),
+        "load_block" => loaded::<F, P>(alloc, first, second)?,
+        "set_lane" => with_lane::<F, P>(first, second, third),
+        _ => operation::<F, P>(call, first, second),
+    };
+    match given {
+        Some(x) => Ok(Some(holds::<F, P>(&x, answer))),
+        None => Ok(None),
+    }
+}
+
+/// What an operation gives.
+fn operation<F: Field, P: PackedField<F>>(call: &str, left: &str, right: &str) -> Option<P> {
+    let x = packing::<F, P>(left);
+    let y = packing::<F, P>(right);
+    let before = value_at::<F>(left, 0)?;
+    let after = value_at::<F>(right, 0).unwrap_or(F::zero());
+    match call {
+        "add" => Some(x + y),
+        "sub" => Some(x - y),
+        "mul" => Some(x * y),
+        "add scalar" => Some(x + after),
+        "sub scalar" => Some(x - after),
+        "mul scalar" => Some(x * after),
+        "div scalar" => {
+            after.try_inverse()?;
+            Some(x / after)
+        }
+        "scalar add" => Some(P::from(before) + y),
+        "scalar sub" => Some(P::from(before) - y),
+        "scalar mul" => Some(P::from(before) * y),
+        "neg" => Some(-x),
+        "double" => Some(x.double()),
+        "square" => Some(x.square()),
+        "cube" => Some(x.cube()),
+        "exp_u64" => Some(x.exp_u64(right.parse::<u64>().ok()?)),
+        _ => None,
+    }
+}
+
+/// The sum of the products of two lists of packings, as far as the shorter one reaches.
+fn product<F: Field, P: PackedField<F>>(
+    alloc: Global,
+    left: &str,
+    right: &str,
+) -> Result<P, AllocError> {
+    let xs = packings::<F, P>(alloc, left)?;
+    let ys = packings::<F, P>(alloc, right)?;
+    let count = xs.len().min(ys.len());
+    Ok(P::dot_product(&xs[..count], &ys[..count]))
+}
+
+/// The sum of the products of packings and scalars, as far as the shorter list reaches.
+fn mixed_product<F: Field, P: PackedField<F>>(
+    alloc: Global,
+    left: &str,
+    right: &str,
+) -> Result<P, AllocError> {
+    let xs = packings::<F, P>(alloc, left)?;
+    let scalars: Vec<F> = values(alloc, right)?;
+    let count = xs.len().min(scalars.len());
+    Ok(P::mixed_dot_product(&xs[..count], &scalars[..count]))
+}
+
+/// The group of a slice at an index.
+fn loaded<F: Field, P: PackedField<F>>(
+    alloc: Global,
+    slice: &str,
+    index: &str,
+) -> Result<Option<P>, AllocError> {
+    let slice: Vec<F> = values(alloc, slice)?;
+    match group_within::<F, P>(slice.len(), index) {
+        Some(i) => Ok(Some(P::load_block(&slice, i))),
+        None => Ok(None),
+    }
+}
+
+/// Whether the slice is what a text says once the packing is written to the group at an index.
+fn stored<F: Field, P: PackedField<F>>(
+    alloc: Global,
+    lanes: &str,
+    slice: &str,
+    index: &str,
+    answer: &str,
+) -> Result<Option<bool>, AllocError> {
+    let mut slice: Vec<F> = values(alloc, slice)?;
+    match group_within::<F, P>(slice.len(), index) {
+        Some(i) => packing::<F, P>(lanes).store_block(&mut slice, i),
+        None => return Ok(None),
+    }
+    let expected: Vec<F> = values(alloc, answer)?;
+    Ok(Some(slice.as_slice() == expected.as_slice()))
+}
+
+/// The packing with a value written to a lane.
+fn with_lane<F: Field, P: PackedField<F>>(lanes: &str, lane: &str, value: &str) -> Option<P> {
+    let mut x = packing::<F, P>(lanes);
+    let lane = lane.parse::<usize>().ok()?;
+    if lane >= P::WIDTH {
+        return None;
+    }
+    x.set_lane(lane, value_at::<F>(value, 0)?);
+    Some(x)
+}
+
+/// The number of a group that lies whole in so many values.
+fn group_within<F: Field, P: PackedField<F>>(length: usize, index: &str) -> Option<usize>
+    ensures { IfSome result (λ i. i * P.WIDTH + P.WIDTH ≤ length) }
+{
+    let index = index.parse::<usize>().ok()?;
+    let start = index.checked_mul(P::WIDTH)?;
+    if start.checked_add(P::WIDTH)? <= length {
+        Some(index)
+    } else {
+        None
+    }
+}
+
+/// The packings of a text.
+fn packings<F: Field, P: PackedField<F>>(alloc: Global, text: &str) -> Result<Vec<P>, AllocError> {
+    let mut packings = Vec::new(alloc);
+    for word in text.split_ascii_whitespace() {
+        packings.push(packing::<F, P>(word))?;
+    }
+    Ok(packings)
+}
+
+/// The values of a text.
+fn values<F: Field>(alloc: Global, text: &str) -> Result<Vec<F>, AllocError> {
+    let mut values = Vec::new(alloc);
+    for word in text.split(|c: char| c == ',' || c == ' ') {
+        if let Ok(number) = word.parse::<u64>() {
+            values.push(F::from_u64(number))?;
+        }
+    }
+    Ok(values)
+}
+
+/// `agrees` over the packings of a prime field with 1, 4 or 8 lanes.
+fn over<W: Form<T>, T: Word>(alloc: Global, row: Call) -> Result<Option<bool>, AllocError> {
+    let (width, call, arguments, answer) = row;
+    match width {
+        1 => agrees::<Fp<W, T>, Packed<Fp<W, T>, 1>>(alloc, call, arguments, answer),
+        4 => agrees::<Fp<W, T>, Packed<Fp<W, T>, 4>>(alloc, call, arguments, answer),
+        8 => agrees::<Fp<W, T>, Packed<Fp<W, T>, 8>>(alloc, call, arguments, answer),
+        _ => Ok(None),
+    }
+}
+
+/// Asserts that each call has its answer.
+fn assert_calls<W: Form<T>, T: Word>(
+    rt: &(impl Abort + AllocGlobal),
+    rows: &[Call],
+) -> Result<(), Fail> {
+    for row in rows {
+        let answer = over::<W, T>(rt.alloc(), *row)?;
+        assert_eq!(rt; answer, Some(true));
+    }
+    Ok(())
+}
+
+#[test]
+fn calls_on_packings(rt: HostRuntime) -> Result<(), Fail> {
+    assert_calls::<Plain<M2>, u32>(&rt, &F2_CALLS)?;
+    assert_calls::<Plain<M17>, u32>(&rt, &F17_CALLS)?;
+    assert_calls::<Plain<M31>, u32>(&rt, &F31_CALLS)?;
+    assert_calls::<Plain<M15>, u32>(&rt, &Z15_CALLS)?;
+    assert_calls::<Plain<BabyBearModulus>, u32>(&rt, &BABY_BEAR_CALLS)?;
+    assert_calls::<Plain<KoalaBearModulus>, u32>(&rt, &KOALA_BEAR_CALLS)?;
+    assert_calls::<GoldilocksForm, u64>(&rt, &GOLDILOCKS_CALLS)
+}
