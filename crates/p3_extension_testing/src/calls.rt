@@ -1,10 +1,9 @@
-//! The calls of extensions against rows of coefficients. A check pays for what an extension's type
-//! asks for at each call that names the type, so a test names it in few calls.
+//! The calls of extensions against rows of coefficients, over every type that has them.
 ghost use Rattle.std.specs.Prelude.{◌<◌, IsSome};
 
 use crate::extension_tables::Table;
 use crate::square_root_tables::Root;
-use crate::values::{Canonical, Tabled, TwoAdicTabled};
+use crate::values::{Canonical, OfRow, Tabled, TwoAdicTabled};
 use p3_field::RawDataSerializable;
 use p3_field::extension::BinomiallyExtendable;
 use std::process::Abort;
@@ -64,13 +63,13 @@ fn assert_maps<T: Tabled>(
 }
 
 /// Asserts that each row has values and the words of their bytes.
-fn assert_streams<T: RawDataSerializable + Tabled>(
+pub fn assert_streams<T: RawDataSerializable + OfRow>(
     rt: &(impl Abort + AllocGlobal),
-    rows: &[(&[T::Row], &[u64])],
+    rows: &[(&[T::Entries], &[u64])],
 ) -> Result<(), Fail> {
     for entry in rows {
         let (items, words) = *entry;
-        let values = items.iter().map(|x| T::of(*x));
+        let values = items.iter().map(|x| T::of_row(*x));
         let stream: Vec<u64> = T::into_u64_stream(values).collect(rt.alloc())?;
         assert!(rt; stream.as_slice() == words);
     }
@@ -88,7 +87,7 @@ fn in_row<T: Tabled>(answer: (Option<T>, u32)) -> (Option<T::Row>, u32) {
 
 /// Asserts of an extension what a table says, and that each row of roots has a value, the root
 /// that is answered, if one is, and the turns.
-pub fn assert_extension<T: Tabled + RawDataSerializable>(
+pub fn assert_extension<T: Tabled>(
     rt: &(impl Abort + AllocGlobal),
     table: &Table<T::Row>,
     roots: &[Root<T::Row>],
@@ -100,7 +99,6 @@ pub fn assert_extension<T: Tabled + RawDataSerializable>(
         assert_eq!(rt; in_row(T::of(x).counted()), (root, turns), "{x:?}");
     }
     assert_arithmetic::<T>(rt, table);
-    assert_streams::<T>(rt, table.streams)?;
     assert_maps::<T>(rt, table)
 }
 

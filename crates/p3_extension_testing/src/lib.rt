@@ -17,6 +17,8 @@ mod extension_values;
 #[cfg(test)]
 mod extensions;
 #[cfg(test)]
+mod markers;
+#[cfg(test)]
 mod powers;
 #[cfg(test)]
 mod slices;

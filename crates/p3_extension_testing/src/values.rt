@@ -1,10 +1,11 @@
 //! Extension values by their canonical coefficients, from X^0 upward, and the calls of the tables.
 ghost use Rattle.std.specs.Prelude.{ℕ, Option, IsSome};
 
-use p3_bench_prime::form::{Form, Word};
+use p3_bench_prime::form::{Form, ShortForm, Word};
 use p3_bench_prime::fp::Fp;
 use p3_field::extension::{
-    ExtField, ExtensionShape, FrobeniusExtendable, HasFrobenius, TwoAdicExtendable,
+    BinomialExtensionField, BinomiallyExtendable, ExtField, ExtensionShape, FrobeniusExtendable,
+    HasFrobenius, TwoAdicExtendable,
 };
 use p3_field::{
     ExtensionField, Field, PrimeCharacteristicRing, PrimeField64, TwoAdicField,
@@ -22,6 +23,41 @@ pub trait Canonical: Copy {
 impl<W: Form<T>, T: Word> Canonical for Fp<W, T> {
     fn canonical(self) -> u64 {
         self.as_canonical_u64()
+    }
+}
+
+/// The images of some numbers.
+pub fn images<F: PrimeCharacteristicRing, const N: usize>(numbers: [u32; N]) -> [F; N] {
+    let mut images = [F::zero(); N];
+    for i in 0..N {
+        images[i] = F::from_u32(numbers[i]);
+    }
+    images
+}
+
+/// The value of degree 4 with the images of these numbers as coefficients.
+pub fn value<F: BinomiallyExtendable<4>>(numbers: [u32; 4]) -> BinomialExtensionField<F, 4> {
+    BinomialExtensionField::new(images(numbers))
+}
+
+/// A type of values that are made of rows of canonical coefficients. It asks for less of the base than
+/// `Tabled`, whose bounds a call for bytes would pass.
+pub trait OfRow: Copy {
+    type Entries: Copy;
+
+    /// The value with these canonical coefficients.
+    fn of_row(row: Self::Entries) -> Self;
+}
+
+impl<W: ShortForm, const D: usize, S: Copy> OfRow for ExtField<Fp<W>, D, S, Fp<W>> {
+    type Entries = [u64; D];
+
+    fn of_row(row: [u64; D]) -> Self {
+        let mut coefficients = [Fp::<W>::new(0); D];
+        for i in 0..D {
+            coefficients[i] = Fp::<W>::new(row[i] as u32);
+        }
+        ExtField::<Fp<W>, D, S, Fp<W>>::new(coefficients)
     }
 }
 

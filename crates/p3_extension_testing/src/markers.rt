@@ -1,0 +1,153 @@
+//! The calls of the tables at the markers of fields, implemented once for all fields: a call at a
+//! marker's own name passes the field's constants alone, one at an extension's name all its bounds.
+
+use crate::calls;
+use crate::extension_tables::Table;
+use crate::square_root_tables::Root;
+use p3_bench_prime::binomial_constants::BinomialConstants;
+use p3_bench_prime::fp::Fp;
+use p3_bench_prime::two_adic_constants::{TwoAdicBinomialConstants, TwoAdicTrinomialConstants};
+use p3_field::extension::{
+    BinomialExtensionField, CubicTrinomial, CubicTrinomialExtensionField, QuinticTrinomial,
+    QuinticTrinomialExtensionField,
+};
+use std::process::Abort;
+use std::test::Fail;
+
+/// The calls at the extension of degree D by a binomial.
+pub trait BinomialCalls<const D: usize> {
+    /// W, the root, and the generator candidate's coefficients at 1 and X.
+    fn constants() -> [u64; 4];
+
+    /// Asserts inverses, or zeros where there is none.
+    fn assert_inverses_or_zero(rt: &impl Abort, rows: &[([u64; D], [u64; D])]);
+
+    /// Asserts what a table says, and the rows of roots.
+    fn assert_extension(
+        rt: &(impl Abort + AllocGlobal),
+        table: &Table<[u64; D]>,
+        roots: &[Root<[u64; D]>],
+    ) -> Result<(), Fail>;
+}
+
+impl<W: BinomialConstants<D>, const D: usize> BinomialCalls<D> for W {
+    fn constants() -> [u64; 4] {
+        calls::constants::<Fp<W>, D>()
+    }
+
+    fn assert_inverses_or_zero(rt: &impl Abort, rows: &[([u64; D], [u64; D])]) {
+        calls::assert_inverses_or_zero::<BinomialExtensionField<Fp<W>, D>>(rt, rows)
+    }
+
+    fn assert_extension(
+        rt: &(impl Abort + AllocGlobal),
+        table: &Table<[u64; D]>,
+        roots: &[Root<[u64; D]>],
+    ) -> Result<(), Fail> {
+        calls::assert_extension::<BinomialExtensionField<Fp<W>, D>>(rt, table, roots)
+    }
+}
+
+/// The calls at the extension of degree D by a binomial that has two-adic generators.
+pub trait TwoAdicBinomialCalls<const D: usize> {
+    /// Asserts the two-adicity, two-adic generators and roots by the greatest of them.
+    fn assert_two_adic(
+        rt: &impl Abort,
+        two_adicity: usize,
+        generators: &[(usize, [u64; D])],
+        roots: &[Root<[u64; D]>],
+    );
+}
+
+impl<W: TwoAdicBinomialConstants<D>, const D: usize> TwoAdicBinomialCalls<D> for W {
+    fn assert_two_adic(
+        rt: &impl Abort,
+        two_adicity: usize,
+        generators: &[(usize, [u64; D])],
+        roots: &[Root<[u64; D]>],
+    ) {
+        calls::assert_two_adic::<BinomialExtensionField<Fp<W>, D>>(
+            rt,
+            two_adicity,
+            generators,
+            roots,
+        )
+    }
+}
+
+/// The calls at the extension of degree D by a trinomial S that has two-adic generators.
+pub trait TrinomialCalls<const D: usize, S> {
+    /// Asserts inverses, or zeros where there is none.
+    fn assert_inverses_or_zero(rt: &impl Abort, rows: &[([u64; D], [u64; D])]);
+
+    /// Asserts the two-adicity, two-adic generators and roots by the greatest of them.
+    fn assert_two_adic(
+        rt: &impl Abort,
+        two_adicity: usize,
+        generators: &[(usize, [u64; D])],
+        roots: &[Root<[u64; D]>],
+    );
+
+    /// Asserts what a table says, and the rows of roots.
+    fn assert_extension(
+        rt: &(impl Abort + AllocGlobal),
+        table: &Table<[u64; D]>,
+        roots: &[Root<[u64; D]>],
+    ) -> Result<(), Fail>;
+}
+
+impl<W: TwoAdicTrinomialConstants<3, CubicTrinomial>> TrinomialCalls<3, CubicTrinomial> for W {
+    fn assert_inverses_or_zero(rt: &impl Abort, rows: &[([u64; 3], [u64; 3])]) {
+        calls::assert_inverses_or_zero::<CubicTrinomialExtensionField<Fp<W>>>(rt, rows)
+    }
+
+    fn assert_two_adic(
+        rt: &impl Abort,
+        two_adicity: usize,
+        generators: &[(usize, [u64; 3])],
+        roots: &[Root<[u64; 3]>],
+    ) {
+        calls::assert_two_adic::<CubicTrinomialExtensionField<Fp<W>>>(
+            rt,
+            two_adicity,
+            generators,
+            roots,
+        )
+    }
+
+    fn assert_extension(
+        rt: &(impl Abort + AllocGlobal),
+        table: &Table<[u64; 3]>,
+        roots: &[Root<[u64; 3]>],
+    ) -> Result<(), Fail> {
+        calls::assert_extension::<CubicTrinomialExtensionField<Fp<W>>>(rt, table, roots)
+    }
+}
+
+impl<W: TwoAdicTrinomialConstants<5, QuinticTrinomial>> TrinomialCalls<5, QuinticTrinomial> for W {
+    fn assert_inverses_or_zero(rt: &impl Abort, rows: &[([u64; 5], [u64; 5])]) {
+        calls::assert_inverses_or_zero::<QuinticTrinomialExtensionField<Fp<W>>>(rt, rows)
+    }
+
+    fn assert_two_adic(
+        rt: &impl Abort,
+        two_adicity: usize,
+        generators: &[(usize, [u64; 5])],
+        roots: &[Root<[u64; 5]>],
+    ) {
+        calls::assert_two_adic::<QuinticTrinomialExtensionField<Fp<W>>>(
+            rt,
+            two_adicity,
+            generators,
+            roots,
+        )
+    }
+
+    fn assert_extension(
+        rt: &(impl Abort + AllocGlobal),
+        table: &Table<[u64; 5]>,
+        roots: &[Root<[u64; 5]>],
+    ) -> Result<(), Fail> {
+        calls::assert_extension::<QuinticTrinomialExtensionField<Fp<W>>>(rt, table, roots)
+    }
+}
