@@ -62,7 +62,9 @@ fn ordered_values<F: BinomiallyExtendable<4> + PrimeFieldBounds>(
     Ok(())
 }
 
-fn listed_values<F: BinomiallyExtendable<4> + InMemory>(rt: &(impl Abort + AllocGlobal)) -> Result<(), Fail> {
+fn listed_values<F: BinomiallyExtendable<4> + InMemory>(
+    rt: &(impl Abort + AllocGlobal),
+) -> Result<(), Fail> {
     let x = value::<F>([1, 2, 3, 4]);
     let y = value::<F>([5, 6, 7, 8]);
     let pair = BinomialExtensionField::<F, 4>::new_array([

@@ -1,10 +1,14 @@
 //! The calls of the tables at the markers of fields, implemented once for all fields: a call at a
-//! marker's own name passes the field's constants alone, one at an extension's name all its bounds.
+//! marker's own name passes the field's constants alone, one at an extension's name all its bounds. Roots
+//! are counted where the number of values is given.
+ghost use Rattle.std.specs.Prelude.{IsSome, Some};
+ghost use Rattle.p3_ext.specs.Orders.{extension_size};
 
 use crate::calls;
 use crate::extension_tables::Table;
 use crate::square_root_tables::Root;
 use p3_bench_prime::binomial_constants::BinomialConstants;
+use p3_bench_prime::form::Form;
 use p3_bench_prime::fp::Fp;
 use p3_bench_prime::two_adic_constants::{TwoAdicBinomialConstants, TwoAdicTrinomialConstants};
 use p3_field::extension::{
@@ -15,7 +19,7 @@ use std::process::Abort;
 use std::test::Fail;
 
 /// The calls at the extension of degree D by a binomial.
-pub trait BinomialCalls<const D: usize> {
+pub trait BinomialCalls<const D: usize>: Form<u32> {
     /// W, the root, and the generator candidate's coefficients at 1 and X.
     fn constants() -> [u64; 4];
 
@@ -27,7 +31,8 @@ pub trait BinomialCalls<const D: usize> {
         rt: &(impl Abort + AllocGlobal),
         table: &Table<[u64; D]>,
         roots: &[Root<[u64; D]>],
-    ) -> Result<(), Fail>;
+    ) -> Result<(), Fail>
+        requires { IsSome (extension_size (Some Self.ORDER) D) };
 }
 
 impl<W: BinomialConstants<D>, const D: usize> BinomialCalls<D> for W {
@@ -49,14 +54,15 @@ impl<W: BinomialConstants<D>, const D: usize> BinomialCalls<D> for W {
 }
 
 /// The calls at the extension of degree D by a binomial that has two-adic generators.
-pub trait TwoAdicBinomialCalls<const D: usize> {
+pub trait TwoAdicBinomialCalls<const D: usize>: Form<u32> {
     /// Asserts the two-adicity, two-adic generators and roots by the greatest of them.
     fn assert_two_adic(
         rt: &impl Abort,
         two_adicity: usize,
         generators: &[(usize, [u64; D])],
         roots: &[Root<[u64; D]>],
-    );
+    )
+        requires { IsSome (extension_size (Some Self.ORDER) D) };
 }
 
 impl<W: TwoAdicBinomialConstants<D>, const D: usize> TwoAdicBinomialCalls<D> for W {
@@ -76,7 +82,7 @@ impl<W: TwoAdicBinomialConstants<D>, const D: usize> TwoAdicBinomialCalls<D> for
 }
 
 /// The calls at the extension of degree D by a trinomial S that has two-adic generators.
-pub trait TrinomialCalls<const D: usize, S> {
+pub trait TrinomialCalls<const D: usize, S>: Form<u32> {
     /// Asserts inverses, or zeros where there is none.
     fn assert_inverses_or_zero(rt: &impl Abort, rows: &[([u64; D], [u64; D])]);
 
@@ -86,14 +92,16 @@ pub trait TrinomialCalls<const D: usize, S> {
         two_adicity: usize,
         generators: &[(usize, [u64; D])],
         roots: &[Root<[u64; D]>],
-    );
+    )
+        requires { IsSome (extension_size (Some Self.ORDER) D) };
 
     /// Asserts what a table says, and the rows of roots.
     fn assert_extension(
         rt: &(impl Abort + AllocGlobal),
         table: &Table<[u64; D]>,
         roots: &[Root<[u64; D]>],
-    ) -> Result<(), Fail>;
+    ) -> Result<(), Fail>
+        requires { IsSome (extension_size (Some Self.ORDER) D) };
 }
 
 impl<W: TwoAdicTrinomialConstants<3, CubicTrinomial>> TrinomialCalls<3, CubicTrinomial> for W {

@@ -53,9 +53,9 @@ impl<W: ShortForm, const D: usize, S: Copy> OfRow for ExtField<Fp<W>, D, S, Fp<W
     type Entries = [u64; D];
 
     fn of_row(row: [u64; D]) -> Self {
-        let mut coefficients = [Fp::<W>::new(0); D];
+        let mut coefficients = [Fp::<W>::zero(); D];
         for i in 0..D {
-            coefficients[i] = Fp::<W>::new(row[i] as u32);
+            coefficients[i] = Fp::<W>::from_u64(row[i]);
         }
         ExtField::<Fp<W>, D, S, Fp<W>>::new(coefficients)
     }

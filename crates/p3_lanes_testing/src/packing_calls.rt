@@ -11,7 +11,7 @@ use p3_base::field::Field;
 use p3_base::packed_traits::{PackedField, PackedValue};
 use p3_bench_packed::packed::Packed;
 use p3_bench_prime::baby_bear::BabyBearModulus;
-use p3_bench_prime::form::{Form, Plain, Word};
+use p3_bench_prime::form::{Form, Plain};
 use p3_bench_prime::fp::Fp;
 use p3_bench_prime::goldilocks::GoldilocksForm;
 use p3_bench_prime::koala_bear::KoalaBearModulus;
@@ -175,24 +175,32 @@ fn values<F: Field>(alloc: Global, text: &str) -> Result<Vec<F>, AllocError> {
     Ok(values)
 }
 
-/// `agrees` over the packings of a prime field with 1, 4 or 8 lanes.
-fn over<W: Form<T>, T: Word>(alloc: Global, row: Call) -> Result<Option<bool>, AllocError> {
+/// `agrees` over the packings of a prime field in words of 32 bits with 1, 4 or 8 lanes.
+fn over<W: Form<u32>>(alloc: Global, row: Call) -> Result<Option<bool>, AllocError> {
     let (width, call, arguments, answer) = row;
     match width {
-        1 => agrees::<Fp<W, T>, Packed<Fp<W, T>, 1>>(alloc, call, arguments, answer),
-        4 => agrees::<Fp<W, T>, Packed<Fp<W, T>, 4>>(alloc, call, arguments, answer),
-        8 => agrees::<Fp<W, T>, Packed<Fp<W, T>, 8>>(alloc, call, arguments, answer),
+        1 => agrees::<Fp<W>, Packed<Fp<W>, 1>>(alloc, call, arguments, answer),
+        4 => agrees::<Fp<W>, Packed<Fp<W>, 4>>(alloc, call, arguments, answer),
+        8 => agrees::<Fp<W>, Packed<Fp<W>, 8>>(alloc, call, arguments, answer),
+        _ => Ok(None),
+    }
+}
+
+/// The same in words of 64 bits.
+fn over_long<W: Form<u64>>(alloc: Global, row: Call) -> Result<Option<bool>, AllocError> {
+    let (width, call, arguments, answer) = row;
+    match width {
+        1 => agrees::<Fp<W, u64>, Packed<Fp<W, u64>, 1>>(alloc, call, arguments, answer),
+        4 => agrees::<Fp<W, u64>, Packed<Fp<W, u64>, 4>>(alloc, call, arguments, answer),
+        8 => agrees::<Fp<W, u64>, Packed<Fp<W, u64>, 8>>(alloc, call, arguments, answer),
         _ => Ok(None),
     }
 }
 
 /// Asserts that each call has its answer.
-fn assert_calls<W: Form<T>, T: Word>(
-    rt: &(impl Abort + AllocGlobal),
-    rows: &[Call],
-) -> Result<(), Fail> {
+fn assert_calls<W: Form<u32>>(rt: &(impl Abort + AllocGlobal), rows: &[Call]) -> Result<(), Fail> {
     for row in rows {
-        let answer = over::<W, T>(rt.alloc(), *row)?;
+        let answer = over::<W>(rt.alloc(), *row)?;
         assert_eq!(rt; answer, Some(true));
     }
     Ok(())
@@ -200,11 +208,14 @@ fn assert_calls<W: Form<T>, T: Word>(
 
 #[test]
 fn calls_on_packings(rt: HostRuntime) -> Result<(), Fail> {
-    assert_calls::<Plain<M2>, u32>(&rt, &F2_CALLS)?;
-    assert_calls::<Plain<M17>, u32>(&rt, &F17_CALLS)?;
-    assert_calls::<Plain<M31>, u32>(&rt, &F31_CALLS)?;
-    assert_calls::<Plain<M15>, u32>(&rt, &Z15_CALLS)?;
-    assert_calls::<Plain<BabyBearModulus>, u32>(&rt, &BABY_BEAR_CALLS)?;
-    assert_calls::<Plain<KoalaBearModulus>, u32>(&rt, &KOALA_BEAR_CALLS)?;
-    assert_calls::<GoldilocksForm, u64>(&rt, &GOLDILOCKS_CALLS)
+    assert_calls::<Plain<M2>>(&rt, &F2_CALLS)?;
+    assert_calls::<Plain<M17>>(&rt, &F17_CALLS)?;
+    assert_calls::<Plain<M31>>(&rt, &F31_CALLS)?;
+    assert_calls::<Plain<M15>>(&rt, &Z15_CALLS)?;
+    assert_calls::<Plain<BabyBearModulus>>(&rt, &BABY_BEAR_CALLS)?;
+    assert_calls::<Plain<KoalaBearModulus>>(&rt, &KOALA_BEAR_CALLS)?;
+    for row in GOLDILOCKS_CALLS {
+        assert_eq!(rt; over_long::<GoldilocksForm>(rt.alloc(), row)?, Some(true));
+    }
+    Ok(())
 }

@@ -5,8 +5,13 @@ ghost use Rattle.std.specs.Prelude.{◌<◌, ◌*◌};
 
 use p3_bench_packed::packed::Packed;
 use p3_bench_prime::binomial_constants::BinomialConstants;
+use p3_bench_prime::form::Form;
 use p3_bench_prime::fp::Fp;
-use p3_field::extension::{BinomialExtensionField, PackedBinomialExtensionField, Packing};
+use p3_bench_prime::trinomial_constants::TrinomialConstants;
+use p3_field::extension::{
+    BinomialExtensionField, CubicTrinomial, CubicTrinomialExtensionField,
+    PackedBinomialExtensionField, PackedCubicTrinomialExtensionField,
+};
 use p3_field::steps::{Step, run_lane_steps, run_steps, steps_fit};
 use p3_field::{
     BasedVectorSpace, ExtensionField, Field, PackedField, PackedFieldExtension, PackedValue,
@@ -14,55 +19,96 @@ use p3_field::{
 };
 use std::alloc::{AllocError, Global};
 
-/// Runs over the values of a binomial's extension of degree D, implemented once for all fields: a call
-/// at a field's own name passes the field's constants alone.
-pub trait LaneRuns<const D: usize> {
-    /// `run_agrees` over vectors of `n` packings of `width` lanes; none but for widths 4 and 8 and up to
-    /// three packings.
+/// A register of runs: N packings of L values of the extension of degree D by a binomial, over the field
+/// of the marker W.
+pub type Register<W, const D: usize, const L: usize, const N: usize> = VectorizedExt<
+    Fp<W>,
+    BinomialExtensionField<Fp<W>, D>,
+    PackedBinomialExtensionField<Fp<W>, Packed<Fp<W>, L>, D>,
+    N,
+>;
+
+/// Runs over registers of N packings of L values of degree D, implemented once for all fields: a call at
+/// a marker's own name passes the field's constants alone.
+pub trait LaneRuns<const D: usize, const L: usize, const N: usize>: Form<u32> {
+    /// `run_agrees` over these registers. Some are given, which may be none, since it is a type that
+    /// is named in a signature of which room is known.
     fn agrees(
         alloc: Global,
-        width: usize,
-        n: usize,
+        given: &[Register<Self, D, L, N>],
         before: &str,
         steps: &str,
         after: &str,
     ) -> Result<Option<bool>, AllocError>;
 }
 
-impl<W: BinomialConstants<D>, const D: usize> LaneRuns<D> for W {
+impl<W: BinomialConstants<D>, const D: usize, const N: usize> LaneRuns<D, 4, N> for W {
     fn agrees(
         alloc: Global,
-        width: usize,
-        n: usize,
+        given: &[Register<W, D, 4, N>],
         before: &str,
         steps: &str,
         after: &str,
     ) -> Result<Option<bool>, AllocError> {
-        match (width, n) {
-            (4, 1) => over_packings::<W, D, Packed<Fp<W>, 4>, 1>(alloc, before, steps, after),
-            (4, 2) => over_packings::<W, D, Packed<Fp<W>, 4>, 2>(alloc, before, steps, after),
-            (4, 3) => over_packings::<W, D, Packed<Fp<W>, 4>, 3>(alloc, before, steps, after),
-            (8, 1) => over_packings::<W, D, Packed<Fp<W>, 8>, 1>(alloc, before, steps, after),
-            (8, 2) => over_packings::<W, D, Packed<Fp<W>, 8>, 2>(alloc, before, steps, after),
-            (8, 3) => over_packings::<W, D, Packed<Fp<W>, 8>, 3>(alloc, before, steps, after),
-            _ => Ok(None),
-        }
+        run_agrees(alloc, given, before, steps, after)
     }
 }
 
-/// `run_agrees` over vectors of N packings P.
-fn over_packings<
-    W: BinomialConstants<D>,
-    const D: usize,
-    P: PackedField<Fp<W>> + Packing,
-    const N: usize,
->(alloc: Global, before: &str, steps: &str, after: &str) -> Result<Option<bool>, AllocError> {
-    run_agrees::<
-        Fp<W>,
-        BinomialExtensionField<Fp<W>, D>,
-        PackedBinomialExtensionField<Fp<W>, P, D>,
-        N,
-    >(alloc, before, steps, after)
+impl<W: BinomialConstants<D>, const D: usize, const N: usize> LaneRuns<D, 8, N> for W {
+    fn agrees(
+        alloc: Global,
+        given: &[Register<W, D, 8, N>],
+        before: &str,
+        steps: &str,
+        after: &str,
+    ) -> Result<Option<bool>, AllocError> {
+        run_agrees(alloc, given, before, steps, after)
+    }
+}
+
+/// A register of runs: N packings of L values of the extension by `X^3 - X - 1`, over the field of the
+/// marker W.
+pub type CubicRegister<W, const L: usize, const N: usize> = VectorizedExt<
+    Fp<W>,
+    CubicTrinomialExtensionField<Fp<W>>,
+    PackedCubicTrinomialExtensionField<Fp<W>, Packed<Fp<W>, L>>,
+    N,
+>;
+
+/// The same over the extension by `X^3 - X - 1`.
+pub trait CubicLaneRuns<const D: usize, const L: usize, const N: usize>: Form<u32> {
+    /// `run_agrees` over these registers.
+    fn agrees(
+        alloc: Global,
+        given: &[CubicRegister<Self, L, N>],
+        before: &str,
+        steps: &str,
+        after: &str,
+    ) -> Result<Option<bool>, AllocError>;
+}
+
+impl<W: TrinomialConstants<3, CubicTrinomial>, const N: usize> CubicLaneRuns<3, 4, N> for W {
+    fn agrees(
+        alloc: Global,
+        given: &[CubicRegister<W, 4, N>],
+        before: &str,
+        steps: &str,
+        after: &str,
+    ) -> Result<Option<bool>, AllocError> {
+        run_agrees(alloc, given, before, steps, after)
+    }
+}
+
+impl<W: TrinomialConstants<3, CubicTrinomial>, const N: usize> CubicLaneRuns<3, 8, N> for W {
+    fn agrees(
+        alloc: Global,
+        given: &[CubicRegister<W, 8, N>],
+        before: &str,
+        steps: &str,
+        after: &str,
+    ) -> Result<Option<bool>, AllocError> {
+        run_agrees(alloc, given, before, steps, after)
+    }
 }
 
 /// The number of registers of a run.
@@ -77,6 +123,7 @@ const MOST_STEPS: usize = 24;
 /// commas.
 fn run_agrees<F: Field, EF: ExtensionField<F>, PE: PackedFieldExtension<F, EF>, const N: usize>(
     alloc: Global,
+    _given: &[VectorizedExt<F, EF, PE, N>],
     before: &str,
     steps: &str,
     after: &str,
