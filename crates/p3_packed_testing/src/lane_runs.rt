@@ -7,11 +7,7 @@ use p3_bench_packed::packed::Packed;
 use p3_bench_prime::binomial_constants::BinomialConstants;
 use p3_bench_prime::form::Form;
 use p3_bench_prime::fp::Fp;
-use p3_bench_prime::trinomial_constants::TrinomialConstants;
-use p3_field::extension::{
-    BinomialExtensionField, CubicTrinomial, CubicTrinomialExtensionField,
-    PackedBinomialExtensionField, PackedCubicTrinomialExtensionField,
-};
+use p3_field::extension::{BinomialExtensionField, PackedBinomialExtensionField, Packing};
 use p3_field::steps::{Step, run_lane_steps, run_steps, steps_fit};
 use p3_field::{
     BasedVectorSpace, ExtensionField, Field, PackedField, PackedFieldExtension, PackedValue,
@@ -31,8 +27,8 @@ pub type Register<W, const D: usize, const L: usize, const N: usize> = Vectorize
 /// Runs over registers of N packings of L values of degree D, implemented once for all fields: a call at
 /// a marker's own name passes the field's constants alone.
 pub trait LaneRuns<const D: usize, const L: usize, const N: usize>: Form<u32> {
-    /// `run_agrees` over these registers. Some are given, which may be none, since it is a type that
-    /// is named in a signature of which room is known.
+    /// `run_agrees` over these registers. `given` isn't read: of a type that a signature names it is
+    /// known that its values have room.
     fn agrees(
         alloc: Global,
         given: &[Register<Self, D, L, N>],
@@ -50,7 +46,7 @@ impl<W: BinomialConstants<D>, const D: usize, const N: usize> LaneRuns<D, 4, N> 
         steps: &str,
         after: &str,
     ) -> Result<Option<bool>, AllocError> {
-        run_agrees(alloc, given, before, steps, after)
+        over_packings::<W, D, Packed<Fp<W>, 4>, N>(alloc, given, before, steps, after)
     }
 }
 
@@ -62,53 +58,29 @@ impl<W: BinomialConstants<D>, const D: usize, const N: usize> LaneRuns<D, 8, N> 
         steps: &str,
         after: &str,
     ) -> Result<Option<bool>, AllocError> {
-        run_agrees(alloc, given, before, steps, after)
+        over_packings::<W, D, Packed<Fp<W>, 8>, N>(alloc, given, before, steps, after)
     }
 }
 
-/// A register of runs: N packings of L values of the extension by `X^3 - X - 1`, over the field of the
-/// marker W.
-pub type CubicRegister<W, const L: usize, const N: usize> = VectorizedExt<
-    Fp<W>,
-    CubicTrinomialExtensionField<Fp<W>>,
-    PackedCubicTrinomialExtensionField<Fp<W>, Packed<Fp<W>, L>>,
-    N,
->;
-
-/// The same over the extension by `X^3 - X - 1`.
-pub trait CubicLaneRuns<const D: usize, const L: usize, const N: usize>: Form<u32> {
-    /// `run_agrees` over these registers.
-    fn agrees(
-        alloc: Global,
-        given: &[CubicRegister<Self, L, N>],
-        before: &str,
-        steps: &str,
-        after: &str,
-    ) -> Result<Option<bool>, AllocError>;
-}
-
-impl<W: TrinomialConstants<3, CubicTrinomial>, const N: usize> CubicLaneRuns<3, 4, N> for W {
-    fn agrees(
-        alloc: Global,
-        given: &[CubicRegister<W, 4, N>],
-        before: &str,
-        steps: &str,
-        after: &str,
-    ) -> Result<Option<bool>, AllocError> {
-        run_agrees(alloc, given, before, steps, after)
-    }
-}
-
-impl<W: TrinomialConstants<3, CubicTrinomial>, const N: usize> CubicLaneRuns<3, 8, N> for W {
-    fn agrees(
-        alloc: Global,
-        given: &[CubicRegister<W, 8, N>],
-        before: &str,
-        steps: &str,
-        after: &str,
-    ) -> Result<Option<bool>, AllocError> {
-        run_agrees(alloc, given, before, steps, after)
-    }
+/// `run_agrees` over registers of N packings P.
+fn over_packings<
+    W: BinomialConstants<D>,
+    const D: usize,
+    P: PackedField<Fp<W>> + Packing,
+    const N: usize,
+>(
+    alloc: Global,
+    given: &[VectorizedExt<
+        Fp<W>,
+        BinomialExtensionField<Fp<W>, D>,
+        PackedBinomialExtensionField<Fp<W>, P, D>,
+        N,
+    >],
+    before: &str,
+    steps: &str,
+    after: &str,
+) -> Result<Option<bool>, AllocError> {
+    run_agrees(alloc, given, before, steps, after)
 }
 
 /// The number of registers of a run.
@@ -118,7 +90,7 @@ const REGISTERS: usize = 4;
 const MOST_STEPS: usize = 24;
 
 /// Whether the steps make the registers `after` of the registers `before`, over vectors of packings and
-/// over the values of each lane alone; none where a text can't be read. Registers stand between
+/// over the values of each lane alone; `Ok(None)` where a text can't be read. Registers stand between
 /// semicolons, the values of their lanes between spaces, and the coefficients of a value between
 /// commas.
 fn run_agrees<F: Field, EF: ExtensionField<F>, PE: PackedFieldExtension<F, EF>, const N: usize>(
