@@ -7,7 +7,7 @@ use p3_bench_packed::packed::Packed;
 use p3_bench_prime::binomial_constants::BinomialConstants;
 use p3_bench_prime::form::Form;
 use p3_bench_prime::fp::Fp;
-use p3_field::extension::{BinomialExtensionField, PackedBinomialExtensionField, Packing};
+use p3_field::extension::{BinomialExtensionField, PackedBinomialExtensionField};
 use p3_field::steps::{Step, run_lane_steps, run_steps, steps_fit};
 use p3_field::{
     BasedVectorSpace, ExtensionField, Field, PackedField, PackedFieldExtension, PackedValue,
@@ -46,7 +46,7 @@ impl<W: BinomialConstants<D>, const D: usize, const N: usize> LaneRuns<D, 4, N> 
         steps: &str,
         after: &str,
     ) -> Result<Option<bool>, AllocError> {
-        over_packings::<W, D, Packed<Fp<W>, 4>, N>(alloc, given, before, steps, after)
+        run_agrees(alloc, given, before, steps, after)
     }
 }
 
@@ -58,29 +58,8 @@ impl<W: BinomialConstants<D>, const D: usize, const N: usize> LaneRuns<D, 8, N> 
         steps: &str,
         after: &str,
     ) -> Result<Option<bool>, AllocError> {
-        over_packings::<W, D, Packed<Fp<W>, 8>, N>(alloc, given, before, steps, after)
+        run_agrees(alloc, given, before, steps, after)
     }
-}
-
-/// `run_agrees` over registers of N packings P.
-fn over_packings<
-    W: BinomialConstants<D>,
-    const D: usize,
-    P: PackedField<Fp<W>> + Packing,
-    const N: usize,
->(
-    alloc: Global,
-    given: &[VectorizedExt<
-        Fp<W>,
-        BinomialExtensionField<Fp<W>, D>,
-        PackedBinomialExtensionField<Fp<W>, P, D>,
-        N,
-    >],
-    before: &str,
-    steps: &str,
-    after: &str,
-) -> Result<Option<bool>, AllocError> {
-    run_agrees(alloc, given, before, steps, after)
 }
 
 /// The number of registers of a run.
