@@ -1,0 +1,4 @@
+//! Inverses of many values by one inversion.
+#![tactic(auto)]
+
+pub mod batch_inverse;
