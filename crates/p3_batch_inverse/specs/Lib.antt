@@ -1,1 +1,2 @@
 pub mod BatchProducts
+pub mod Chains

@@ -2,3 +2,4 @@
 #![tactic(auto)]
 
 pub mod batch_inverse;
+mod chains;
