@@ -1,95 +1,57 @@
-//! Worked values of the calls on extensions that no table has, over the extension of degree 4 of the
-//! residues modulo 17.
+//! Worked values of the calls on extensions that no table has.
 
-use crate::values::{images, value};
-use p3_bench_prime::binomial_constants::BinomialConstants;
-use p3_bench_prime::form::Plain;
-use p3_bench_prime::fp::Fp;
-use p3_bench_prime::small::M17;
-use p3_field::extension::{BinomialExtensionField, BinomiallyExtendable};
+use p3_bench_prime::extensions::F17x4;
+use p3_bench_prime::small::F17;
 use p3_field::{
     Algebra, AlgebraIdentity, BasedVectorSpace, ExtensionField, PrimeCharacteristicRing,
 };
-use std::process::Abort;
 use std::test::Fail;
 
-/// The rows at the marker of a field, implemented once for all fields.
-trait QuarticRows {
-    fn basis_calls(rt: &impl Abort);
-
-    fn mixed_operators(rt: &impl Abort);
-
-    fn names_and_zeros(rt: &(impl Abort + AllocGlobal)) -> Result<(), Fail>;
-}
-
-impl<W: BinomialConstants<4>> QuarticRows for W {
-    fn basis_calls(rt: &impl Abort) {
-        basis_calls_over::<Fp<W>>(rt)
+/// The residues modulo 17 of some numbers.
+fn mod_17<const N: usize>(numbers: [u32; N]) -> [F17; N] {
+    let mut residues = [F17::zero(); N];
+    for i in 0..N {
+        residues[i] = F17::new(numbers[i]);
     }
-
-    fn mixed_operators(rt: &impl Abort) {
-        mixed_operators_over::<Fp<W>>(rt)
-    }
-
-    fn names_and_zeros(rt: &(impl Abort + AllocGlobal)) -> Result<(), Fail> {
-        names_and_zeros_over::<Fp<W>>(rt)
-    }
-}
-
-fn basis_calls_over<F: BinomiallyExtendable<4>>(rt: &impl Abort) {
-    let three: [F; 3] = images([1, 2, 3]);
-    assert!(rt; BinomialExtensionField::<F, 4>::from_basis_coefficients_slice(&three).is_none());
-    let element: Option<BinomialExtensionField<F, 4>> = BasedVectorSpace::<F>::ith_basis_element(4);
-    assert!(rt; element.is_none());
-    let x = value::<F>([0, 1, 0, 0]);
-    let element: Option<BinomialExtensionField<F, 4>> = BasedVectorSpace::<F>::ith_basis_element(1);
-    assert!(rt; element == Some(x));
-    assert!(rt; ExtensionField::<F>::as_base(&x) == None);
-    let five = value::<F>([5, 0, 0, 0]);
-    assert!(rt; ExtensionField::<F>::as_base(&five) == Some(F::from_u32(5)));
-}
-
-fn mixed_operators_over<F: BinomiallyExtendable<4>>(rt: &impl Abort) {
-    let x = value::<F>([1, 2, 3, 4]);
-    let two = F::from_u32(2);
-    assert!(rt; x + two == value([3, 2, 3, 4]));
-    assert!(rt; x - two == value([16, 2, 3, 4]));
-    assert!(rt; x * two == value([2, 4, 6, 8]));
-    assert!(rt; BinomialExtensionField::<F, 4>::from(two) == value([2, 0, 0, 0]));
-    assert!(rt; BinomialExtensionField::<F, 4>::from(images([1, 2, 3, 4])) == x);
-    let ones: [F; 2] = images([1, 1]);
-    assert!(rt; Algebra::<F>::mixed_dot_product(&[x, x], &ones) == x + x);
-}
-
-fn names_and_zeros_over<F: BinomiallyExtendable<4>>(
-    rt: &(impl Abort + AllocGlobal),
-) -> Result<(), Fail> {
-    let name: Vec<u8> = <F as AlgebraIdentity<F>>::algebra_id(rt.alloc())?;
-    assert!(rt; name.as_slice() == b"p3-scalar-basis-v1".as_slice());
-    let name: Vec<u8> = <BinomialExtensionField<F, 4> as AlgebraIdentity<F>>::algebra_id(
-        rt.alloc(),
-    )?;
-    assert!(rt; name.as_slice() == b"bench:f17x4".as_slice());
-    let zeros: Vec<BinomialExtensionField<F, 4>> = BinomialExtensionField::<F, 4>::zero_vec(
-        rt.alloc(),
-        2,
-    )?;
-    let zero = BinomialExtensionField::<F, 4>::zero();
-    assert!(rt; zeros.as_slice() == [zero, zero].as_slice());
-    Ok(())
+    residues
 }
 
 #[test]
 fn basis_calls(rt: HostRuntime) {
-    <Plain<M17> as QuarticRows>::basis_calls(&rt)
+    let three = mod_17([1, 2, 3]);
+    assert!(rt; F17x4::from_basis_coefficients_slice(&three).is_none());
+    let element: Option<F17x4> = BasedVectorSpace::<F17>::ith_basis_element(4);
+    assert!(rt; element.is_none());
+    let x = F17x4::new(mod_17([0, 1, 0, 0]));
+    let element: Option<F17x4> = BasedVectorSpace::<F17>::ith_basis_element(1);
+    assert_eq!(rt; element, Some(x));
+    assert_eq!(rt; ExtensionField::<F17>::as_base(&x), None);
+    assert_eq!(rt;
+        ExtensionField::<F17>::as_base(&F17x4::new(mod_17([5, 0, 0, 0]))),
+        Some(F17::new(5))
+    );
 }
 
 #[test]
 fn mixed_operators(rt: HostRuntime) {
-    <Plain<M17> as QuarticRows>::mixed_operators(&rt)
+    let x = F17x4::new(mod_17([1, 2, 3, 4]));
+    let two = F17::new(2);
+    assert_eq!(rt; x + two, F17x4::new(mod_17([3, 2, 3, 4])));
+    assert_eq!(rt; x - two, F17x4::new(mod_17([16, 2, 3, 4])));
+    assert_eq!(rt; x * two, F17x4::new(mod_17([2, 4, 6, 8])));
+    assert_eq!(rt; F17x4::from(two), F17x4::new(mod_17([2, 0, 0, 0])));
+    assert_eq!(rt; F17x4::from(mod_17([1, 2, 3, 4])), x);
+    let ones = mod_17([1, 1]);
+    assert_eq!(rt; Algebra::<F17>::mixed_dot_product(&[x, x], &ones), x + x);
 }
 
 #[test]
 fn names_and_zeros(rt: HostRuntime) -> Result<(), Fail> {
-    <Plain<M17> as QuarticRows>::names_and_zeros(&rt)
+    let name: Vec<u8> = <F17 as AlgebraIdentity<F17>>::algebra_id(rt.alloc())?;
+    assert_eq!(rt; name.as_slice(), b"p3-scalar-basis-v1".as_slice());
+    let name: Vec<u8> = <F17x4 as AlgebraIdentity<F17>>::algebra_id(rt.alloc())?;
+    assert_eq!(rt; name.as_slice(), b"bench:f17x4".as_slice());
+    let zeros: Vec<F17x4> = F17x4::zero_vec(rt.alloc(), 2)?;
+    assert_eq!(rt; zeros.as_slice(), [F17x4::zero(), F17x4::zero()].as_slice());
+    Ok(())
 }

@@ -1,40 +1,20 @@
-//! Order, hash, default and text of extension values, and calls on lists of them, over extensions of
-//! the residues modulo 17.
+//! Order, hash and default of extension values, and calls on lists of them, at one type.
 
-use crate::values::{images, value};
-use p3_bench_prime::binomial_constants::BinomialConstants;
-use p3_bench_prime::form::{Plain, ShortForm};
-use p3_bench_prime::fp::Fp;
-use p3_bench_prime::small::M17;
-use p3_field::extension::{BinomialExtensionField, BinomiallyExtendable};
-use p3_field::{BasedVectorSpace, InMemory, Packable, PrimeFieldBounds};
+use p3_bench_prime::extensions::{F17x2, F17x4};
+use p3_bench_prime::small::F17;
+use p3_field::{BasedVectorSpace, Packable, PrimeField64};
 use std::alloc::{AllocError, Global};
 use std::collections::hash_map::DefaultHasher;
 use std::hash::{Hash, Hasher};
-use std::process::Abort;
 use std::test::Fail;
 
-/// The values of degree 4 at the marker of a field, implemented once for all fields.
-trait QuarticValues {
-    fn values_of_one_type(rt: &(impl Abort + AllocGlobal)) -> Result<(), Fail>;
-}
-
-impl<W: BinomialConstants<4> + ShortForm> QuarticValues for W {
-    fn values_of_one_type(rt: &(impl Abort + AllocGlobal)) -> Result<(), Fail> {
-        ordered_values::<Fp<W>>(rt)?;
-        listed_values::<Fp<W>>(rt)
+/// The residues modulo 17 of some numbers.
+fn residues<const N: usize>(numbers: [u32; N]) -> [F17; N] {
+    let mut residues = [F17::default(); N];
+    for i in 0..N {
+        residues[i] = F17::new(numbers[i]);
     }
-}
-
-/// The texts of degree 2 at the marker of a field, implemented once for all fields.
-trait QuadraticTexts {
-    fn texts_of_every_value(rt: &(impl Abort + AllocGlobal)) -> Result<(), Fail>;
-}
-
-impl<W: BinomialConstants<2>> QuadraticTexts for W {
-    fn texts_of_every_value(rt: &(impl Abort + AllocGlobal)) -> Result<(), Fail> {
-        texts_over::<Fp<W>>(rt)
-    }
+    residues
 }
 
 fn hash_of<T: Hash>(x: &T) -> u64 {
@@ -48,38 +28,22 @@ fn default_lane<T: Packable>() -> T {
     T::default()
 }
 
-fn ordered_values<F: BinomiallyExtendable<4> + PrimeFieldBounds>(
-    rt: &(impl Abort + AllocGlobal),
-) -> Result<(), Fail> {
-    let x = value::<F>([1, 2, 3, 4]);
-    let y = BinomialExtensionField::<F, 4>::from(images([5, 6, 7, 8]));
+#[test]
+fn values_of_one_type(rt: HostRuntime) -> Result<(), Fail> {
+    let x = F17x4::new(residues([1, 2, 3, 4]));
+    let y = F17x4::from(residues([5, 6, 7, 8]));
     assert!(rt; x < y);
     assert!(rt; x.cmp(&y).is_lt());
-    assert!(rt; hash_of(&x) == hash_of(&value::<F>([18, 19, 20, 21])));
-    assert!(rt; default_lane::<BinomialExtensionField<F, 4>>() == value([0, 0, 0, 0]));
+    assert!(rt; hash_of(&x) == hash_of(&F17x4::new(residues([18, 19, 20, 21]))));
+    assert!(rt; default_lane::<F17x4>().value == residues([0, 0, 0, 0]));
     let text = format!(in rt.alloc(); "{x:?}")?;
     assert!(rt; !text.is_empty());
-    Ok(())
-}
-
-fn listed_values<F: BinomiallyExtendable<4> + InMemory>(
-    rt: &(impl Abort + AllocGlobal),
-) -> Result<(), Fail> {
-    let x = value::<F>([1, 2, 3, 4]);
-    let y = value::<F>([5, 6, 7, 8]);
-    let pair = BinomialExtensionField::<F, 4>::new_array([
-        images([1, 2, 3, 4]),
-        images([5, 6, 7, 8]),
-    ]);
+    let pair = F17x4::new_array([residues([1, 2, 3, 4]), residues([5, 6, 7, 8])]);
     assert!(rt; pair[1] == y);
     let values = Vec::from_slice(rt.alloc(), &[x, y])?;
-    let flat: Vec<F> = BinomialExtensionField::<F, 4>::flatten_to_base(rt.alloc(), values)?;
-    let numbers: [F; 8] = images([1, 2, 3, 4, 5, 6, 7, 8]);
-    assert!(rt; flat.as_slice() == numbers.as_slice());
-    let back: Vec<BinomialExtensionField<F, 4>> = BinomialExtensionField::<
-        F,
-        4,
-    >::reconstitute_from_base(rt.alloc(), flat)?;
+    let flat: Vec<F17> = F17x4::flatten_to_base(rt.alloc(), values)?;
+    assert!(rt; flat.as_slice() == residues([1, 2, 3, 4, 5, 6, 7, 8]).as_slice());
+    let back: Vec<F17x4> = F17x4::reconstitute_from_base(rt.alloc(), flat)?;
     assert!(rt; back.as_slice() == [x, y].as_slice());
     Ok(())
 }
@@ -95,12 +59,12 @@ fn line_text(alloc: Global, a: u32, b: u32) -> Result<String, AllocError> {
     }
 }
 
-/// The text of every value over the residues modulo 17, whatever the formatter is told of its form and
-/// width.
-fn texts_over<F: BinomiallyExtendable<2>>(rt: &(impl Abort + AllocGlobal)) -> Result<(), Fail> {
+/// The text of every value of one extension, whatever the formatter is told of its form and width.
+#[test]
+fn texts_of_every_value(rt: HostRuntime) -> Result<(), Fail> {
     for a in 0..17u32 {
         for b in 0..17u32 {
-            let x = BinomialExtensionField::<F, 2>::new(images([a, b]));
+            let x = F17x2::new(residues([a, b]));
             let text = line_text(rt.alloc(), a, b)?;
             assert!(rt; format!(in rt.alloc(); "{x}")?.as_str() == text.as_str());
             assert!(rt; format!(in rt.alloc(); "{x:#}")?.as_str() == text.as_str());
@@ -108,14 +72,4 @@ fn texts_over<F: BinomiallyExtendable<2>>(rt: &(impl Abort + AllocGlobal)) -> Re
         }
     }
     Ok(())
-}
-
-#[test]
-fn values_of_one_type(rt: HostRuntime) -> Result<(), Fail> {
-    <Plain<M17> as QuarticValues>::values_of_one_type(&rt)
-}
-
-#[test]
-fn texts_of_every_value(rt: HostRuntime) -> Result<(), Fail> {
-    <Plain<M17> as QuadraticTexts>::texts_of_every_value(&rt)
 }

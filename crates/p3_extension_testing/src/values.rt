@@ -4,8 +4,7 @@ ghost use Rattle.std.specs.Prelude.{ℕ, Option, IsSome};
 use p3_bench_prime::form::{Form, ShortForm, Word};
 use p3_bench_prime::fp::Fp;
 use p3_field::extension::{
-    BinomialExtensionField, BinomiallyExtendable, ExtField, ExtensionShape, FrobeniusExtendable,
-    HasFrobenius, TwoAdicExtendable,
+    ExtField, ExtensionShape, FrobeniusExtendable, HasFrobenius, TwoAdicExtendable,
 };
 use p3_field::{
     ExtensionField, Field, PrimeCharacteristicRing, PrimeField64, TwoAdicField,
@@ -24,20 +23,6 @@ impl<W: Form<T>, T: Word> Canonical for Fp<W, T> {
     fn canonical(self) -> u64 {
         self.as_canonical_u64()
     }
-}
-
-/// The images of some numbers.
-pub fn images<F: PrimeCharacteristicRing, const N: usize>(numbers: [u32; N]) -> [F; N] {
-    let mut images = [F::zero(); N];
-    for i in 0..N {
-        images[i] = F::from_u32(numbers[i]);
-    }
-    images
-}
-
-/// The value of degree 4 with the images of these numbers as coefficients.
-pub fn value<F: BinomiallyExtendable<4>>(numbers: [u32; 4]) -> BinomialExtensionField<F, 4> {
-    BinomialExtensionField::new(images(numbers))
 }
 
 /// A type of values that are made of rows of canonical coefficients. It asks for less of the base than

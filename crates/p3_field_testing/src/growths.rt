@@ -1,12 +1,9 @@
 //! Calls that answer a vector: with ample memory, and with the growth that they ask for refused.
 
 use crate::refusing::Refusing;
-use p3_bench_prime::binomial_constants::BinomialConstants;
 use p3_bench_prime::extensions::F17x2;
-use p3_bench_prime::form::{Form, Plain};
-use p3_bench_prime::fp::Fp;
-use p3_bench_prime::small::{F17, M17};
-use p3_field::extension::{BinomialExtensionField, BinomiallyExtendable, HasFrobenius};
+use p3_bench_prime::small::F17;
+use p3_field::extension::HasFrobenius;
 use p3_field::{AlgebraIdentity, BasedVectorSpace, PrimeCharacteristicRing};
 use std::alloc::{AllocError, Allocator};
 use std::test::Fail;
@@ -193,36 +190,10 @@ fn ample_memory(rt: HostRuntime) -> Result<(), Fail> {
     Ok(())
 }
 
-/// The calls at the extension of degree 2 of a field, by the field's marker, implemented once for all:
-/// a call at a marker's own name passes the field's constants alone.
-trait QuadraticCalls: Form<u32> {
-    /// The images of 1 + 2 X under the Frobenius map.
-    fn orbit<A: Allocator + Copy>(
-        alloc: A,
-    ) -> Result<Vec<BinomialExtensionField<Fp<Self>, 2>, A>, AllocError>;
-
-    /// The name of the extension as an algebra.
-    fn name<A: Allocator + Copy>(alloc: A) -> Result<Vec<u8, A>, AllocError>;
-}
-
-impl<W: BinomialConstants<2>> QuadraticCalls for W {
-    fn orbit<A: Allocator + Copy>(
-        alloc: A,
-    ) -> Result<Vec<BinomialExtensionField<Fp<W>, 2>, A>, AllocError> {
-        orbit_over::<Fp<W>, A>(alloc)
-    }
-
-    fn name<A: Allocator + Copy>(alloc: A) -> Result<Vec<u8, A>, AllocError> {
-        <BinomialExtensionField<Fp<W>, 2> as AlgebraIdentity<Fp<W>>>::algebra_id_in(alloc)
-    }
-}
-
-/// The images of 1 + 2 X under the Frobenius map.
-fn orbit_over<F: BinomiallyExtendable<2>, A: Allocator + Copy>(
-    alloc: A,
-) -> Result<Vec<BinomialExtensionField<F, 2>, A>, AllocError> {
-    let value = BinomialExtensionField::<F, 2>::new([F::one(), F::two()]);
-    HasFrobenius::<F>::galois_orbit_in(value, alloc)
+/// The images of 1 + 2 X under the Frobenius map of the extension by X^2 = 3.
+fn orbit<A: Allocator + Copy>(alloc: A) -> Result<Vec<F17x2, A>, AllocError> {
+    let value = F17x2::new([F17::new(1), F17::new(2)]);
+    HasFrobenius::<F17>::galois_orbit_in(value, alloc)
 }
 
 #[test]
@@ -231,17 +202,11 @@ fn calls_of_an_extension(rt: HostRuntime) {
         F17x2::new([F17::new(1), F17::new(2)]),
         F17x2::new([F17::new(1), F17::new(15)]),
     ];
+    assert_growths!(rt, heap, orbit(&heap), images, 1u64);
     assert_growths!(
         rt,
         heap,
-        <Plain<M17> as QuadraticCalls>::orbit(&heap),
-        images,
-        1u64
-    );
-    assert_growths!(
-        rt,
-        heap,
-        <Plain<M17> as QuadraticCalls>::name(&heap),
+        <F17x2 as AlgebraIdentity<F17>>::algebra_id_in(&heap),
         b"bench:f17x2",
         1u64
     );

@@ -1,9 +1,6 @@
 //! Runs of steps over registers: worked values, and where a run is refused.
-use p3_bench_prime::binomial_constants::BinomialConstants;
-use p3_bench_prime::form::{Form, Plain};
-use p3_bench_prime::fp::Fp;
-use p3_bench_prime::small::{F17, M17};
-use p3_field::extension::{BinomialExtensionField, BinomiallyExtendable};
+use p3_bench_prime::extensions::F17x2;
+use p3_bench_prime::small::F17;
 use p3_field::steps::{
     FieldStep, Step, StepFault, StepRefused, run_field_steps, run_steps, steps_fit,
 };
@@ -26,41 +23,26 @@ fn a_run_over_a_ring(rt: HostRuntime) {
     assert_eq!(rt; regs, [F17::new(6), F17::new(14), F17::new(5)]);
 }
 
-/// The run at the extension of degree 2 of a field, by the field's marker, implemented once for all.
-trait QuadraticRun: Form<u32> {
-    /// The coefficients of two registers that both hold 5 + X, after steps.
-    fn after(steps: &[Step]) -> Option<[[Fp<Self>; 2]; 2]>;
-}
-
-impl<W: BinomialConstants<2>> QuadraticRun for W {
-    fn after(steps: &[Step]) -> Option<[[Fp<W>; 2]; 2]> {
-        registers_after::<Fp<W>>(steps)
-    }
-}
-
-/// The coefficients of two registers that both hold 5 + X, after steps; none where they don't fit.
-fn registers_after<F: BinomiallyExtendable<2>>(steps: &[Step]) -> Option<[[F; 2]; 2]> {
-    let x = BinomialExtensionField::<F, 2>::new([F::from_u32(5), F::one()]);
-    let mut regs = [x, x];
-    if !steps_fit(steps, 2) {
-        return None;
-    }
-    run_steps(&mut regs, steps);
-    Some([regs[0].value, regs[1].value])
-}
-
 #[test]
 fn a_run_over_an_extension(rt: HostRuntime) {
+    let x = F17x2::new([F17::new(5), F17::new(1)]);
+    let mut regs = [x, x];
     let steps = [
         Step::Square { d: 1, a: 0 },
         Step::Exp { d: 0, a: 0, e: 2 },
         Step::Mul2Exp { d: 0, a: 0, e: 3 },
         Step::Double { d: 1, a: 1 },
     ];
-    let regs = <Plain<M17> as QuadraticRun>::after(&steps);
-    let first = [F17::new(3), F17::new(12)];
-    let second = [F17::new(5), F17::new(3)];
-    assert_eq!(rt; regs, Some([first, second]));
+    if steps_fit(&steps, 2) {
+        run_steps(&mut regs, &steps);
+    }
+    assert_eq!(rt;
+        regs,
+        [
+            F17x2::new([F17::new(3), F17::new(12)]),
+            F17x2::new([F17::new(5), F17::new(3)]),
+        ]
+    );
 }
 
 #[test]
