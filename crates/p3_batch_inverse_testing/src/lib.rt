@@ -5,3 +5,5 @@
 mod batch_rows;
 #[cfg(test)]
 mod batch_tables;
+#[cfg(test)]
+mod growths;
