@@ -43,9 +43,24 @@ pub fn split_pf_to_packed_limbs_in<SF: PrimeField, TF: PrimeField32, A: Allocato
     ensures whole { SF.order ≤ 2 ^ (num_limbs * radix_bits) → IfOk result (λ limbs. eval SF.ops SF.ops (λ x. x) (of_nat SF.ops (2 ^ radix_bits)) (map (λ limb. of_nat SF.ops (TF.canon limb)) limbs.items) ≡ val) }
     ensures empty { num_limbs ≡ 0 → IsOk result }
 {
+    radix_digits_in(alloc, val.as_canonical_biguint(), num_limbs, radix_bits)
+}
+
+/// The lowest `num_limbs` digits of a number in radix `2^radix_bits`, the lowest first.
+#[inline]
+fn radix_digits_in<TF: PrimeField32, A: Allocator + Copy>(
+    alloc: A,
+    value: u128,
+    num_limbs: usize,
+    radix_bits: u32,
+) -> Result<Vec<TF, A>, AllocError>
+    requires injective { 2 ^ radix_bits ≤ TF.order }
+    ensures digits { IfOk result (λ limbs. map TF.canon limbs.items ≡ digits value (2 ^ radix_bits) num_limbs) }
+    ensures empty { num_limbs ≡ 0 → IsOk result }
+{
     prove!(radix_bits <= TF::ORDER_U32.ilog2());
     let mask = (1u128 << radix_bits) - 1;
-    let mut rem = val.as_canonical_biguint();
+    let mut rem = value;
     let mut limbs = Vec::with_capacity(alloc, num_limbs)?;
     for _ in 0..num_limbs {
         let limb = (rem & mask) as u32;
@@ -81,9 +96,22 @@ pub fn split_pf_to_field_order_limbs_in<SF: PrimeField, TF: PrimeField32, A: All
     ensures digits { IfOk result (λ limbs. map TF.canon limbs.items ≡ digits (SF.canon val) TF.order num_limbs) }
     ensures empty { num_limbs ≡ 0 → IsOk result }
 {
+    order_digits_in(alloc, val.as_canonical_biguint(), num_limbs)
+}
+
+/// The lowest `num_limbs` digits of a number in the order of TF as the radix, the lowest first.
+#[inline]
+fn order_digits_in<TF: PrimeField32, A: Allocator + Copy>(
+    alloc: A,
+    value: u128,
+    num_limbs: usize,
+) -> Result<Vec<TF, A>, AllocError>
+    ensures digits { IfOk result (λ limbs. map TF.canon limbs.items ≡ digits value TF.order num_limbs) }
+    ensures empty { num_limbs ≡ 0 → IsOk result }
+{
     let p_u32 = TF::ORDER_U32;
     let p = p_u32 as u128;
-    let mut rem = val.as_canonical_biguint();
+    let mut rem = value;
     let mut limbs = Vec::with_capacity(alloc, num_limbs)?;
     for _ in 0..num_limbs {
         let limb = (rem % p) as u32;
@@ -119,8 +147,21 @@ pub fn split_32_in<SF: PrimeField, TF: PrimeField32, A: Allocator + Copy>(
     ensures digits { IfOk result (λ limbs. map TF.canon limbs.items ≡ map (λ digit. digit % TF.order) (digits (SF.canon val) (2 ^ 64) n)) }
     ensures empty { n ≡ 0 → IsOk result }
 {
+    word_digits_in(alloc, val.as_canonical_biguint(), n)
+}
+
+/// The lowest `n` digits of a number in radix `2^64`, the lowest first, each modulo the order of TF.
+#[inline]
+fn word_digits_in<TF: PrimeField32, A: Allocator + Copy>(
+    alloc: A,
+    value: u128,
+    n: usize,
+) -> Result<Vec<TF, A>, AllocError>
+    ensures digits { IfOk result (λ limbs. map TF.canon limbs.items ≡ map (λ digit. digit % TF.order) (digits value (2 ^ 64) n)) }
+    ensures empty { n ≡ 0 → IsOk result }
+{
     let mask = u64::MAX as u128;
-    let mut rem = val.as_canonical_biguint();
+    let mut rem = value;
     let mut limbs = Vec::with_capacity(alloc, n)?;
     for _ in 0..n {
         let digit = (rem & mask) as u64;

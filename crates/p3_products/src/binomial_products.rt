@@ -1,6 +1,7 @@
 ghost use Rattle.std.specs.Prelude.{◌≡◌, ◌≤◌, ◌<◌, ◌+◌, ◌-◌, length, get_or};
 ghost use Rattle.p3_theory.specs.Polynomials.Polynomial.{quotient_mul, binomial};
 ghost use Rattle.p3_theory.specs.Polynomials.ConvolutionSums.{first_sum};
+ghost use Rattle.p3_theory.specs.Rings.DotProduct.{dot};
 ghost use Rattle.p3_theory.specs.Products.ProductPlaces.{product_place};
 
 use p3_ring::ring::{Algebra, PrimeCharacteristicRing};
@@ -160,6 +161,18 @@ pub fn cubic_square<F: PrimeCharacteristicRing, A: Algebra<F>>(a: &[A], res: &mu
     res.copy_from_slice(&[c0, c1, c2]);
 }
 
+/// The sum of the products of two lists of N coefficients, index by index: `dot_product`, with the
+/// lists by value.
+#[inline]
+pub(crate) fn array_dot_product<A: PrimeCharacteristicRing, const N: usize>(
+    left: [A; N],
+    right: [A; N],
+) -> A
+    ensures { result ≡ dot A.ops left right }
+{
+    A::dot_product(&left, &right)
+}
+
 /// The product of two lists of four coefficients modulo `X^4 - W`.
 #[inline]
 pub fn quartic_product<F: PrimeCharacteristicRing, A: Algebra<F>>(
@@ -179,10 +192,10 @@ pub fn quartic_product<F: PrimeCharacteristicRing, A: Algebra<F>>(
     let b2_w = b2 * w;
     let b3_w = b3 * w;
     let left = [a0, a1, a2, a3];
-    let c0 = A::dot_product(&left, &[b0, b3_w, b2_w, b1_w]);
-    let c1 = A::dot_product(&left, &[b1, b0, b3_w, b2_w]);
-    let c2 = A::dot_product(&left, &[b2, b1, b0, b3_w]);
-    let c3 = A::dot_product(&left, &[b3, b2, b1, b0]);
+    let c0 = array_dot_product(left, [b0, b3_w, b2_w, b1_w]);
+    let c1 = array_dot_product(left, [b1, b0, b3_w, b2_w]);
+    let c2 = array_dot_product(left, [b2, b1, b0, b3_w]);
+    let c3 = array_dot_product(left, [b3, b2, b1, b0]);
     res.copy_from_slice(&[c0, c1, c2, c3]);
 }
 
@@ -202,10 +215,10 @@ pub fn quartic_square<F: PrimeCharacteristicRing, A: Algebra<F>>(a: &[A], res: &
     let two_a2 = a2.double();
     let a2_w = a2 * w;
     let a3_w = a3 * w;
-    let c0 = A::dot_product(&[a0, a2_w, two_a1], &[a0, a2, a3_w]);
-    let c1 = A::dot_product(&[two_a0, two_a2], &[a1, a3_w]);
-    let c2 = A::dot_product(&[a1, a3_w, two_a0], &[a1, a3, a2]);
-    let c3 = A::dot_product(&[two_a0, two_a2], &[a3, a1]);
+    let c0 = array_dot_product([a0, a2_w, two_a1], [a0, a2, a3_w]);
+    let c1 = array_dot_product([two_a0, two_a2], [a1, a3_w]);
+    let c2 = array_dot_product([a1, a3_w, two_a0], [a1, a3, a2]);
+    let c3 = array_dot_product([two_a0, two_a2], [a3, a1]);
     res.copy_from_slice(&[c0, c1, c2, c3]);
 }
 
@@ -229,11 +242,11 @@ pub fn quintic_product<F: PrimeCharacteristicRing, A: Algebra<F>>(
     let b3_w = b3 * w;
     let b4_w = b4 * w;
     let left = [a0, a1, a2, a3, a4];
-    let c0 = A::dot_product(&left, &[b0, b4_w, b3_w, b2_w, b1_w]);
-    let c1 = A::dot_product(&left, &[b1, b0, b4_w, b3_w, b2_w]);
-    let c2 = A::dot_product(&left, &[b2, b1, b0, b4_w, b3_w]);
-    let c3 = A::dot_product(&left, &[b3, b2, b1, b0, b4_w]);
-    let c4 = A::dot_product(&left, &[b4, b3, b2, b1, b0]);
+    let c0 = array_dot_product(left, [b0, b4_w, b3_w, b2_w, b1_w]);
+    let c1 = array_dot_product(left, [b1, b0, b4_w, b3_w, b2_w]);
+    let c2 = array_dot_product(left, [b2, b1, b0, b4_w, b3_w]);
+    let c3 = array_dot_product(left, [b3, b2, b1, b0, b4_w]);
+    let c4 = array_dot_product(left, [b4, b3, b2, b1, b0]);
     res.copy_from_slice(&[c0, c1, c2, c3, c4]);
 }
 
@@ -255,11 +268,11 @@ pub fn quintic_square<F: PrimeCharacteristicRing, A: Algebra<F>>(a: &[A], res: &
     let two_a3 = a3.double();
     let w_a3 = a3 * w;
     let w_a4 = a4 * w;
-    let c0 = A::dot_product(&[a0, w_a4, w_a3], &[a0, two_a1, two_a2]);
-    let c1 = A::dot_product(&[w_a3, two_a0, w_a4], &[a3, a1, two_a2]);
-    let c2 = A::dot_product(&[a1, two_a0, w_a4], &[a1, a2, two_a3]);
-    let c3 = A::dot_product(&[w_a4, two_a0, two_a1], &[a4, a3, a2]);
-    let c4 = A::dot_product(&[a2, two_a0, two_a1], &[a2, a4, a3]);
+    let c0 = array_dot_product([a0, w_a4, w_a3], [a0, two_a1, two_a2]);
+    let c1 = array_dot_product([w_a3, two_a0, w_a4], [a3, a1, two_a2]);
+    let c2 = array_dot_product([a1, two_a0, w_a4], [a1, a2, two_a3]);
+    let c3 = array_dot_product([w_a4, two_a0, two_a1], [a4, a3, a2]);
+    let c4 = array_dot_product([a2, two_a0, two_a1], [a2, a4, a3]);
     res.copy_from_slice(&[c0, c1, c2, c3, c4]);
 }
 
@@ -276,8 +289,7 @@ pub fn octic_product<F: PrimeCharacteristicRing, A: Algebra<F>>(
     requires room { length res.old ≡ 8 }
     ensures { res.new ≡ quotient_mul A.ops 8 (binomial A.ops 8 (A.embed w)) a.now b.now }
 {
-    let (a0, a1, a2, a3) = (a[0], a[1], a[2], a[3]);
-    let (a4, a5, a6, a7) = (a[4], a[5], a[6], a[7]);
+    let left = <[A; 8]>::try_from(a).unwrap();
     let (b0, b1, b2, b3) = (b[0], b[1], b[2], b[3]);
     let (b4, b5, b6, b7) = (b[4], b[5], b[6], b[7]);
     let b1_w = b1 * w;
@@ -287,15 +299,14 @@ pub fn octic_product<F: PrimeCharacteristicRing, A: Algebra<F>>(
     let b5_w = b5 * w;
     let b6_w = b6 * w;
     let b7_w = b7 * w;
-    let left = [a0, a1, a2, a3, a4, a5, a6, a7];
-    let c0 = A::dot_product(&left, &[b0, b7_w, b6_w, b5_w, b4_w, b3_w, b2_w, b1_w]);
-    let c1 = A::dot_product(&left, &[b1, b0, b7_w, b6_w, b5_w, b4_w, b3_w, b2_w]);
-    let c2 = A::dot_product(&left, &[b2, b1, b0, b7_w, b6_w, b5_w, b4_w, b3_w]);
-    let c3 = A::dot_product(&left, &[b3, b2, b1, b0, b7_w, b6_w, b5_w, b4_w]);
-    let c4 = A::dot_product(&left, &[b4, b3, b2, b1, b0, b7_w, b6_w, b5_w]);
-    let c5 = A::dot_product(&left, &[b5, b4, b3, b2, b1, b0, b7_w, b6_w]);
-    let c6 = A::dot_product(&left, &[b6, b5, b4, b3, b2, b1, b0, b7_w]);
-    let c7 = A::dot_product(&left, &[b7, b6, b5, b4, b3, b2, b1, b0]);
+    let c0 = array_dot_product(left, [b0, b7_w, b6_w, b5_w, b4_w, b3_w, b2_w, b1_w]);
+    let c1 = array_dot_product(left, [b1, b0, b7_w, b6_w, b5_w, b4_w, b3_w, b2_w]);
+    let c2 = array_dot_product(left, [b2, b1, b0, b7_w, b6_w, b5_w, b4_w, b3_w]);
+    let c3 = array_dot_product(left, [b3, b2, b1, b0, b7_w, b6_w, b5_w, b4_w]);
+    let c4 = array_dot_product(left, [b4, b3, b2, b1, b0, b7_w, b6_w, b5_w]);
+    let c5 = array_dot_product(left, [b5, b4, b3, b2, b1, b0, b7_w, b6_w]);
+    let c6 = array_dot_product(left, [b6, b5, b4, b3, b2, b1, b0, b7_w]);
+    let c7 = array_dot_product(left, [b7, b6, b5, b4, b3, b2, b1, b0]);
     res.copy_from_slice(&[c0, c1, c2, c3, c4, c5, c6, c7]);
 }
 
@@ -319,13 +330,13 @@ pub fn octic_square<F: PrimeCharacteristicRing, A: Algebra<F>>(a: &[A], res: &mu
     let w_a5_2 = w_a5.double();
     let w_a6_2 = w_a6.double();
     let w_a7_2 = w_a7.double();
-    let c0 = A::dot_product(&[a0, a1, a2, a3, a4], &[a0, w_a7_2, w_a6_2, w_a5_2, w_a4]);
-    let c1 = A::dot_product(&[a0_2, a2, a3, a4], &[a1, w_a7_2, w_a6_2, w_a5_2]);
-    let c2 = A::dot_product(&[a0_2, a1, a3, a4, a5], &[a2, a1, w_a7_2, w_a6_2, w_a5]);
-    let c3 = A::dot_product(&[a0_2, a1_2, a4, a5], &[a3, a2, w_a7_2, w_a6_2]);
-    let c4 = A::dot_product(&[a0_2, a1_2, a2, a5, a6], &[a4, a3, a2, w_a7_2, w_a6]);
-    let c5 = A::dot_product(&[a0_2, a1_2, a2_2, a6], &[a5, a4, a3, w_a7_2]);
-    let c6 = A::dot_product(&[a0_2, a1_2, a2_2, a3, a7], &[a6, a5, a4, a3, w_a7]);
-    let c7 = A::dot_product(&[a0_2, a1_2, a2_2, a3_2], &[a7, a6, a5, a4]);
+    let c0 = array_dot_product([a0, a1, a2, a3, a4], [a0, w_a7_2, w_a6_2, w_a5_2, w_a4]);
+    let c1 = array_dot_product([a0_2, a2, a3, a4], [a1, w_a7_2, w_a6_2, w_a5_2]);
+    let c2 = array_dot_product([a0_2, a1, a3, a4, a5], [a2, a1, w_a7_2, w_a6_2, w_a5]);
+    let c3 = array_dot_product([a0_2, a1_2, a4, a5], [a3, a2, w_a7_2, w_a6_2]);
+    let c4 = array_dot_product([a0_2, a1_2, a2, a5, a6], [a4, a3, a2, w_a7_2, w_a6]);
+    let c5 = array_dot_product([a0_2, a1_2, a2_2, a6], [a5, a4, a3, w_a7_2]);
+    let c6 = array_dot_product([a0_2, a1_2, a2_2, a3, a7], [a6, a5, a4, a3, w_a7]);
+    let c7 = array_dot_product([a0_2, a1_2, a2_2, a3_2], [a7, a6, a5, a4]);
     res.copy_from_slice(&[c0, c1, c2, c3, c4, c5, c6, c7]);
 }

@@ -2,6 +2,7 @@ ghost use Rattle.std.specs.Prelude.{◌≡◌, length};
 ghost use Rattle.p3_theory.specs.Polynomials.Polynomial.{quotient_mul};
 ghost use Rattle.p3_theory.specs.Products.Trinomials.{quintic_trinomial};
 
+use crate::binomial_products::array_dot_product;
 use p3_ring::ring::PrimeCharacteristicRing;
 
 /// The product of two lists of five coefficients modulo `X^5 + X^2 - 1`. Upstream's
@@ -16,13 +17,13 @@ pub fn trinomial_quintic_mul<R: PrimeCharacteristicRing>(a: &[R], b: &[R], res: 
     let (a0, a1, a2, a3, a4) = (a[0], a[1], a[2], a[3], a[4]);
     let (b0, b1, b2, b3, b4) = (b[0], b[1], b[2], b[3], b[4]);
     let c0 = a0 * b0;
-    let c1 = R::dot_product(&[a0, a1], &[b1, b0]);
-    let c2 = R::dot_product(&[a0, a1, a2], &[b2, b1, b0]);
-    let c3 = R::dot_product(&[a0, a1, a2, a3], &[b3, b2, b1, b0]);
-    let c4 = R::dot_product(&[a0, a1, a2, a3, a4], &[b4, b3, b2, b1, b0]);
-    let c5 = R::dot_product(&[a1, a2, a3, a4], &[b4, b3, b2, b1]);
-    let c6 = R::dot_product(&[a2, a3, a4], &[b4, b3, b2]);
-    let c7 = R::dot_product(&[a3, a4], &[b4, b3]);
+    let c1 = array_dot_product([a0, a1], [b1, b0]);
+    let c2 = array_dot_product([a0, a1, a2], [b2, b1, b0]);
+    let c3 = array_dot_product([a0, a1, a2, a3], [b3, b2, b1, b0]);
+    let c4 = array_dot_product([a0, a1, a2, a3, a4], [b4, b3, b2, b1, b0]);
+    let c5 = array_dot_product([a1, a2, a3, a4], [b4, b3, b2, b1]);
+    let c6 = array_dot_product([a2, a3, a4], [b4, b3, b2]);
+    let c7 = array_dot_product([a3, a4], [b4, b3]);
     let c8 = a4 * b4;
     let c5_minus_c8 = c5 - c8;
     let r0 = c0 + c5_minus_c8;
@@ -53,11 +54,11 @@ pub fn quintic_square<R: PrimeCharacteristicRing>(a: &[R], res: &mut [R])
     let a3_2 = a3.double();
     let c0 = a0.square();
     let c1 = a0_2 * a1;
-    let c2 = R::dot_product(&[a0_2, a1], &[a2, a1]);
-    let c3 = R::dot_product(&[a0_2, a1_2], &[a3, a2]);
-    let c4 = R::dot_product(&[a0_2, a1_2, a2], &[a4, a3, a2]);
-    let c5 = R::dot_product(&[a1_2, a2_2], &[a4, a3]);
-    let c6 = R::dot_product(&[a2_2, a3], &[a4, a3]);
+    let c2 = array_dot_product([a0_2, a1], [a2, a1]);
+    let c3 = array_dot_product([a0_2, a1_2], [a3, a2]);
+    let c4 = array_dot_product([a0_2, a1_2, a2], [a4, a3, a2]);
+    let c5 = array_dot_product([a1_2, a2_2], [a4, a3]);
+    let c6 = array_dot_product([a2_2, a3], [a4, a3]);
     let c7 = a3_2 * a4;
     let c8 = a4.square();
     let c5_minus_c8 = c5 - c8;

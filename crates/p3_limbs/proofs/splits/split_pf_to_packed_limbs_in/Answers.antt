@@ -1,28 +1,13 @@
-use Rattle.std.proofs.Common.{suc, ◌≡◌, ◌-◌, ◌%◌, ◌^◌, ap, ◌∙◌, arith, bit_and}
-use Rattle.std.proofs.lemmas.Nat.{one_shl, pow_pos, and_mask}
-use Rattle.std.proofs.Math.Nat.{pow-suc}
-use Rattle.p3_limbs.proofs.Sizes.{exponent_below}
-use Rattle.p3_limbs.proofs.SplitDigits.{rest_more, digits_more, value-of-digits}
+use Rattle.std.proofs.Common.{◌^◌, ap, ◌∙◌}
+use Rattle.std.proofs.lemmas.Result.{IfOk-weaker}
+use Rattle.p3_limbs.specs.Digits.{digits}
+use Rattle.p3_limbs.proofs.SplitDigits.{value-of-digits}
 use Rattle.p3_limbs.proofs.splits.split_pf_to_packed_limbs_in.Goals as goal
 
-pub prove-unreachable-requires : goal.prove-unreachable-requires
-prove-unreachable-requires g c =
-    let order = c.ORDER_U32.ensures ∙ g.met.TF.PrimeField32.order_u32 in
-    let l = exponent_below 2 c.args.radix_bits (suc c.ilog2.result) (omega arith) (omega (arith, c.requires.injective, c.ilog2.ensures.next_power_gt, pow-suc 2 c.ilog2.result, order)) in
-    omega (arith, l, c.if-prove.true)
-
-pub loop-preserved : goal.loop-preserved
-loop-preserved g c =
-    let v = g.SF.Quotient.canon c.args.val in
-    let r = c.args.radix_bits in
-    let p = g.TF.Quotient.order in
-    let masked = ap (λ n. bit_and c.loop.rem (n - 1) % p) (one_shl r 128 (omega arith)) ∙ ap (λ n. n % p) (and_mask c.loop.rem r) in (
-      rest_more c.loop.rem v (2 ^ r) c.loop.counter c.loop.invariant.0,
-      digits_more g.TF.Quotient.canon c.loop.limbs.items c.push.new.self.items c.from_int.result c.loop.rem v (2 ^ r) c.loop.counter p
-          (pow_pos r) c.requires.injective c.loop.invariant.0 c.loop.invariant.1 c.in_ok-push.ensures.items (c.from_int.ensures ∙ masked),
-    )
-
 pub returns-clause-whole : goal.returns-clause-whole
-returns-clause-whole g c = λ o.
-    let e : c.loop.counter ≡ c.args.num_limbs = omega (arith, c.loop-test.false, c.loop.auto.counter-end) in
-    value-of-digits g.TF.Quotient.canon g.met.SF.PrimeCharacteristicRing.ring g.met.SF.PrimeField.residues c.loop.limbs.items c.args.val c.args.num_limbs c.args.radix_bits o (rw e at c.loop.invariant.1)
+returns-clause-whole g c = λ fits.
+    let n = c.args.num_limbs in
+    let r = c.args.radix_bits in
+    IfOk-weaker c.radix_digits_in.result _ _
+    (λ limbs h. value-of-digits g.TF.Quotient.canon g.met.SF.PrimeCharacteristicRing.ring g.met.SF.PrimeField.residues limbs.items c.args.val n r fits (h ∙ ap (λ v. digits v (2 ^ r) n) c.as_canonical_biguint.ensures))
+    c.radix_digits_in.ensures.digits

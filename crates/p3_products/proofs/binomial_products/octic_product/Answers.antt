@@ -1,21 +1,18 @@
-use Rattle.std.proofs.Common.{◌++◌, ◌∙◌, [], ◌∷◌, ap₂, sym}
+use Rattle.std.proofs.Common.{◌≡◌, ◌∙◌, [], ◌∷◌, length, ap, ap₂, sym, rules}
 use Rattle.p3_theory.specs.Polynomials.Polynomial.{quotient_mul, binomial}
 use Rattle.p3_theory.specs.Lists.ListItems.{items_are}
-use Rattle.p3_theory.specs.RingSolver.Solver.{V, free}
-use Rattle.p3_theory.specs.RingSolver.Reify.{yes}
-use Rattle.p3_theory.specs.RingSolver.StraightLine.{reads_list, scaled_read, answer_read, formula, variables}
+use Rattle.p3_products.proofs.Formulas.{octic_formula}
 use Rattle.p3_products.proofs.binomial_products.octic_product.Goals as goal
 
 pub returns : goal.returns
 returns g c =
     let o = g.A.PrimeCharacteristicRing.ops in
-    let m = g.met.A.PrimeCharacteristicRing in
-    let x = g.met.A.Algebra in
+    let k = g.met.A.Algebra.mixed_muls in
     let w = g.A.Algebra.embed c.args.w in
-    let a = c.index-a-0.result ∷ c.index-a-1.result ∷ c.index-a-2.result ∷ c.index-a-3.result ∷ c.index-a-4.result ∷ c.index-a-5.result ∷ c.index-a-6.result ∷ c.index-a-7.result ∷ [] in
     let b = c.index-b-0.result ∷ c.index-b-1.result ∷ c.index-b-2.result ∷ c.index-b-3.result ∷ c.index-b-4.result ∷ c.index-b-5.result ∷ c.index-b-6.result ∷ c.index-b-7.result ∷ [] in
+    let left : c.unwrap-left.result ≡ c.args.a.now = search rules in
     c.copy_from_slice.ensures.after
-    ∙ formula o (a ++ b ++ w ∷ []) (c.dot_product-c0.result ∷ c.dot_product-c1.result ∷ c.dot_product-c2.result ∷ c.dot_product-c3.result ∷ c.dot_product-c4.result ∷ c.dot_product-c5.result ∷ c.dot_product-c6.result ∷ c.dot_product-c7.result ∷ []) m.ring
-    (λ P a0 a1 a2 a3 a4 a5 a6 a7 b0 b1 b2 b3 b4 b5 b6 b7 w_read. search (reads_list, scaled_read o P x.mixed_muls, c.mul-b1_w.ensures, c.mul-b2_w.ensures, c.mul-b3_w.ensures, c.mul-b4_w.ensures, c.mul-b5_w.ensures, c.mul-b6_w.ensures, c.mul-b7_w.ensures, answer_read o P c.dot_product-c0.ensures, answer_read o P c.dot_product-c1.ensures, answer_read o P c.dot_product-c2.ensures, answer_read o P c.dot_product-c3.ensures, answer_read o P c.dot_product-c4.ensures, answer_read o P c.dot_product-c5.ensures, answer_read o P c.dot_product-c6.ensures, answer_read o P c.dot_product-c7.ensures) depth 99 fits 99999)
-    (quotient_mul free 8 (binomial free 8 (V 16)) (variables 0 8) (variables 8 8)) yes
-    ∙ ap₂ (quotient_mul o 8 (binomial o 8 w)) (sym (items_are c.args.a.now a c.requires.left search)) (sym (items_are c.args.b.now b c.requires.right search))
+    ∙ octic_formula o g.met.A.PrimeCharacteristicRing.ring c.unwrap-left.result c.index-b-0.result w (ap length left ∙ c.requires.left)
+    (k.answer _ _ _ c.mul-b1_w.ensures) (k.answer _ _ _ c.mul-b2_w.ensures) (k.answer _ _ _ c.mul-b3_w.ensures) (k.answer _ _ _ c.mul-b4_w.ensures) (k.answer _ _ _ c.mul-b5_w.ensures) (k.answer _ _ _ c.mul-b6_w.ensures) (k.answer _ _ _ c.mul-b7_w.ensures)
+    c.array_dot_product-c0.ensures c.array_dot_product-c1.ensures c.array_dot_product-c2.ensures c.array_dot_product-c3.ensures c.array_dot_product-c4.ensures c.array_dot_product-c5.ensures c.array_dot_product-c6.ensures c.array_dot_product-c7.ensures
+    ∙ ap₂ (quotient_mul o 8 (binomial o 8 w)) left (sym (items_are c.args.b.now b c.requires.right search))

@@ -1,20 +1,16 @@
-use Rattle.std.proofs.Common.{◌++◌, ◌∙◌, [], ◌∷◌, ap, sym}
+use Rattle.std.proofs.Common.{◌∙◌, [], ◌∷◌, ap, sym}
 use Rattle.p3_theory.specs.Polynomials.Polynomial.{quotient_mul, binomial}
 use Rattle.p3_theory.specs.Lists.ListItems.{items_are}
-use Rattle.p3_theory.specs.RingSolver.Solver.{V, free}
-use Rattle.p3_theory.specs.RingSolver.Reify.{yes}
-use Rattle.p3_theory.specs.RingSolver.StraightLine.{reads_list, scaled_read, answer_read, formula, variables}
+use Rattle.p3_products.proofs.Formulas.{octic_square_formula}
 use Rattle.p3_products.proofs.binomial_products.octic_square.Goals as goal
 
 pub returns : goal.returns
 returns g c =
     let o = g.A.PrimeCharacteristicRing.ops in
-    let m = g.met.A.PrimeCharacteristicRing in
-    let x = g.met.A.Algebra in
+    let k = g.met.A.Algebra.mixed_muls in
     let w = g.A.Algebra.embed c.args.w in
     let a = c.index-a-0.result ∷ c.index-a-1.result ∷ c.index-a-2.result ∷ c.index-a-3.result ∷ c.index-a-4.result ∷ c.index-a-5.result ∷ c.index-a-6.result ∷ c.index-a-7.result ∷ [] in
     c.copy_from_slice.ensures.after
-    ∙ formula o (a ++ w ∷ []) (c.dot_product-c0.result ∷ c.dot_product-c1.result ∷ c.dot_product-c2.result ∷ c.dot_product-c3.result ∷ c.dot_product-c4.result ∷ c.dot_product-c5.result ∷ c.dot_product-c6.result ∷ c.dot_product-c7.result ∷ []) m.ring
-    (λ P a0 a1 a2 a3 a4 a5 a6 a7 w_read. search (reads_list, scaled_read o P x.mixed_muls, c.mul-w_a4.ensures, c.mul-w_a5.ensures, c.mul-w_a6.ensures, c.mul-w_a7.ensures, answer_read o P c.dot_product-c0.ensures, answer_read o P c.dot_product-c1.ensures, answer_read o P c.dot_product-c2.ensures, answer_read o P c.dot_product-c3.ensures, answer_read o P c.dot_product-c4.ensures, answer_read o P c.dot_product-c5.ensures, answer_read o P c.dot_product-c6.ensures, answer_read o P c.dot_product-c7.ensures, answer_read o P c.double-a0_2.ensures, answer_read o P c.double-a1_2.ensures, answer_read o P c.double-a2_2.ensures, answer_read o P c.double-a3_2.ensures, answer_read o P c.double-w_a5_2.ensures, answer_read o P c.double-w_a6_2.ensures, answer_read o P c.double-w_a7_2.ensures) depth 99 fits 99999)
-    (quotient_mul free 8 (binomial free 8 (V 8)) (variables 0 8) (variables 0 8)) yes
+    ∙ octic_square_formula o g.met.A.PrimeCharacteristicRing.ring
+    c.double-a0_2.ensures c.double-a1_2.ensures c.double-a2_2.ensures c.double-a3_2.ensures (k.answer _ _ _ c.mul-w_a4.ensures) (k.answer _ _ _ c.mul-w_a5.ensures) (k.answer _ _ _ c.mul-w_a6.ensures) (k.answer _ _ _ c.mul-w_a7.ensures) c.double-w_a5_2.ensures c.double-w_a6_2.ensures c.double-w_a7_2.ensures c.array_dot_product-c0.ensures c.array_dot_product-c1.ensures c.array_dot_product-c2.ensures c.array_dot_product-c3.ensures c.array_dot_product-c4.ensures c.array_dot_product-c5.ensures c.array_dot_product-c6.ensures c.array_dot_product-c7.ensures
     ∙ ap (λ l. quotient_mul o 8 (binomial o 8 w) l l) (sym (items_are c.args.a.now a c.requires.input search))

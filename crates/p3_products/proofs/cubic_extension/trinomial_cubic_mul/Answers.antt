@@ -14,9 +14,9 @@ returns g c =
     let m = g.met.R.PrimeCharacteristicRing in
     let a = c.index-a-0.result ∷ c.index-a-1.result ∷ c.index-a-2.result ∷ [] in
     let b = c.index-b-0.result ∷ c.index-b-1.result ∷ c.index-b-2.result ∷ [] in
-    let places = c.dot_product-c0.result ∷ c.dot_product-c1.result ∷ c.dot_product-c2.result ∷ [] in
+    let places = c.array_dot_product-c0.result ∷ c.array_dot_product-c1.result ∷ c.array_dot_product-c2.result ∷ [] in
     all_written c.args.res.now places c.requires.room
     ∙ formula o (a ++ b) places m.ring
-    (λ P a0 a1 a2 b0 b1 b2. search (reads_list, sum_read o P m.adds, c.add-b0_plus_b2.ensures, c.add-b1_plus_b2.ensures, answer_read o P c.dot_product-c0.ensures, answer_read o P c.dot_product-c1.ensures, answer_read o P c.dot_product-c2.ensures) depth 99 fits 99999)
+    (λ P a0 a1 a2 b0 b1 b2. search (reads_list, sum_read o P m.adds, c.add-b0_plus_b2.ensures, c.add-b1_plus_b2.ensures, answer_read o P c.array_dot_product-c0.ensures, answer_read o P c.array_dot_product-c1.ensures, answer_read o P c.array_dot_product-c2.ensures) depth 99 fits 99999)
     (quotient_mul free 3 (cubic_trinomial free) (variables 0 3) (variables 3 3)) yes
     ∙ ap₂ (quotient_mul o 3 (cubic_trinomial o)) (sym (items_are c.args.a.now a c.requires.left search)) (sym (items_are c.args.b.now b c.requires.right search))

@@ -1,10 +1,10 @@
 use Rattle.std.proofs.Common.{◌/◌, ◌%◌, ap, ◌∙◌, arith}
 use Rattle.p3_limbs.proofs.SplitDigits.{rest_more, digits_more}
-use Rattle.p3_limbs.proofs.splits.split_pf_to_field_order_limbs_in.Goals as goal
+use Rattle.p3_limbs.proofs.splits.order_digits_in.Goals as goal
 
 pub loop-preserved : goal.loop-preserved
 loop-preserved g c =
-    let v = g.SF.Quotient.canon c.args.val in
+    let v = c.args.value in
     let p = g.TF.Quotient.order in
     let order = c.ORDER_U32-p_u32.ensures ∙ g.met.TF.PrimeField32.order_u32 in (
       ap (λ n. c.loop.rem / n) order ∙ rest_more c.loop.rem v p c.loop.counter c.loop.invariant.0,

@@ -1,11 +1,11 @@
 use Rattle.std.proofs.Common.{◌%◌, ◌^◌, ap, ◌∙◌}
 use Rattle.std.proofs.lemmas.Nat.{and_mask}
 use Rattle.p3_limbs.proofs.SplitDigits.{rest_more, reduced_more}
-use Rattle.p3_limbs.proofs.splits.split_32_in.Goals as goal
+use Rattle.p3_limbs.proofs.splits.word_digits_in.Goals as goal
 
 pub loop-preserved : goal.loop-preserved
 loop-preserved g c =
-    let v = g.SF.Quotient.canon c.args.val in
+    let v = c.args.value in
     let p = g.TF.Quotient.order in (
       rest_more c.loop.rem v (2 ^ 64) c.loop.counter c.loop.invariant.0,
       reduced_more g.TF.Quotient.canon c.loop.limbs.items c.push.new.self.items c.from_int.result c.loop.rem v (2 ^ 64) c.loop.counter p

@@ -1,0 +1,118 @@
+-- Formulas of products, over any values that satisfy the equations of their steps.
+use Rattle.std.proofs.Common.{◌≡◌, List, [], ◌∷◌, length, get_or, refl, sym, ap, ap₂, ◌∙◌}
+use Rattle.p3_theory.specs.Rings.Ring.{Ops, RingLaws, subtract}
+use Rattle.p3_theory.specs.Rings.DotProduct.{dot}
+use Rattle.p3_theory.specs.Polynomials.Polynomial.{tabulate, quotient_mul, binomial}
+use Rattle.p3_theory.specs.Lists.Places.{to-tabulate}
+use Rattle.p3_theory.specs.Products.Trinomials.{quintic_trinomial}
+use Rattle.p3_theory.specs.RingSolver.Solver.{V, free}
+use Rattle.p3_theory.specs.RingSolver.Reify.{yes}
+use Rattle.p3_theory.specs.RingSolver.StraightLine.{reads_list, answer_read, formula, variables}
+
+module _ {A : Type 0} (o : Ops A) (l : RingLaws o) where
+  -- the product, from one sum of products a coefficient
+  octic_items : {a0 a1 a2 a3 a4 a5 a6 a7 b0 b1 b2 b3 b4 b5 b6 b7 w k1 k2 k3 k4 k5 k6 k7 c0 c1 c2 c3 c4 c5 c6 c7 : A}
+      → k1 ≡ o.mul b1 w
+      → k2 ≡ o.mul b2 w
+      → k3 ≡ o.mul b3 w
+      → k4 ≡ o.mul b4 w
+      → k5 ≡ o.mul b5 w
+      → k6 ≡ o.mul b6 w
+      → k7 ≡ o.mul b7 w
+      → c0 ≡ dot o (a0 ∷ a1 ∷ a2 ∷ a3 ∷ a4 ∷ a5 ∷ a6 ∷ a7 ∷ []) (b0 ∷ k7 ∷ k6 ∷ k5 ∷ k4 ∷ k3 ∷ k2 ∷ k1 ∷ [])
+      → c1 ≡ dot o (a0 ∷ a1 ∷ a2 ∷ a3 ∷ a4 ∷ a5 ∷ a6 ∷ a7 ∷ []) (b1 ∷ b0 ∷ k7 ∷ k6 ∷ k5 ∷ k4 ∷ k3 ∷ k2 ∷ [])
+      → c2 ≡ dot o (a0 ∷ a1 ∷ a2 ∷ a3 ∷ a4 ∷ a5 ∷ a6 ∷ a7 ∷ []) (b2 ∷ b1 ∷ b0 ∷ k7 ∷ k6 ∷ k5 ∷ k4 ∷ k3 ∷ [])
+      → c3 ≡ dot o (a0 ∷ a1 ∷ a2 ∷ a3 ∷ a4 ∷ a5 ∷ a6 ∷ a7 ∷ []) (b3 ∷ b2 ∷ b1 ∷ b0 ∷ k7 ∷ k6 ∷ k5 ∷ k4 ∷ [])
+      → c4 ≡ dot o (a0 ∷ a1 ∷ a2 ∷ a3 ∷ a4 ∷ a5 ∷ a6 ∷ a7 ∷ []) (b4 ∷ b3 ∷ b2 ∷ b1 ∷ b0 ∷ k7 ∷ k6 ∷ k5 ∷ [])
+      → c5 ≡ dot o (a0 ∷ a1 ∷ a2 ∷ a3 ∷ a4 ∷ a5 ∷ a6 ∷ a7 ∷ []) (b5 ∷ b4 ∷ b3 ∷ b2 ∷ b1 ∷ b0 ∷ k7 ∷ k6 ∷ [])
+      → c6 ≡ dot o (a0 ∷ a1 ∷ a2 ∷ a3 ∷ a4 ∷ a5 ∷ a6 ∷ a7 ∷ []) (b6 ∷ b5 ∷ b4 ∷ b3 ∷ b2 ∷ b1 ∷ b0 ∷ k7 ∷ [])
+      → c7 ≡ dot o (a0 ∷ a1 ∷ a2 ∷ a3 ∷ a4 ∷ a5 ∷ a6 ∷ a7 ∷ []) (b7 ∷ b6 ∷ b5 ∷ b4 ∷ b3 ∷ b2 ∷ b1 ∷ b0 ∷ [])
+      → c0 ∷ c1 ∷ c2 ∷ c3 ∷ c4 ∷ c5 ∷ c6 ∷ c7 ∷ [] ≡ quotient_mul o 8 (binomial o 8 w) (a0 ∷ a1 ∷ a2 ∷ a3 ∷ a4 ∷ a5 ∷ a6 ∷ a7 ∷ []) (b0 ∷ b1 ∷ b2 ∷ b3 ∷ b4 ∷ b5 ∷ b6 ∷ b7 ∷ [])
+  octic_items {a0} {a1} {a2} {a3} {a4} {a5} {a6} {a7} {b0} {b1} {b2} {b3} {b4} {b5} {b6} {b7} {w} {k1} {k2} {k3} {k4} {k5} {k6} {k7} {c0} {c1} {c2} {c3} {c4} {c5} {c6} {c7} f1 f2 f3 f4 f5 f6 f7 g0 g1 g2 g3 g4 g5 g6 g7 =
+      formula o (a0 ∷ a1 ∷ a2 ∷ a3 ∷ a4 ∷ a5 ∷ a6 ∷ a7 ∷ b0 ∷ b1 ∷ b2 ∷ b3 ∷ b4 ∷ b5 ∷ b6 ∷ b7 ∷ w ∷ []) (c0 ∷ c1 ∷ c2 ∷ c3 ∷ c4 ∷ c5 ∷ c6 ∷ c7 ∷ []) l
+      (λ P xa0 xa1 xa2 xa3 xa4 xa5 xa6 xa7 xb0 xb1 xb2 xb3 xb4 xb5 xb6 xb7 xw. search (reads_list, answer_read o P f1, answer_read o P f2, answer_read o P f3, answer_read o P f4, answer_read o P f5, answer_read o P f6, answer_read o P f7, answer_read o P g0, answer_read o P g1, answer_read o P g2, answer_read o P g3, answer_read o P g4, answer_read o P g5, answer_read o P g6, answer_read o P g7) depth 99 fits 99999)
+      (quotient_mul free 8 (binomial free 8 (V 16)) (variables 0 8) (variables 8 8)) yes
+
+  pub octic_formula : (a : List A) (b0 w : A) {b1 b2 b3 b4 b5 b6 b7 k1 k2 k3 k4 k5 k6 k7 c0 c1 c2 c3 c4 c5 c6 c7 : A} → length a ≡ 8
+      → k1 ≡ o.mul b1 w
+      → k2 ≡ o.mul b2 w
+      → k3 ≡ o.mul b3 w
+      → k4 ≡ o.mul b4 w
+      → k5 ≡ o.mul b5 w
+      → k6 ≡ o.mul b6 w
+      → k7 ≡ o.mul b7 w
+      → c0 ≡ dot o a (b0 ∷ k7 ∷ k6 ∷ k5 ∷ k4 ∷ k3 ∷ k2 ∷ k1 ∷ [])
+      → c1 ≡ dot o a (b1 ∷ b0 ∷ k7 ∷ k6 ∷ k5 ∷ k4 ∷ k3 ∷ k2 ∷ [])
+      → c2 ≡ dot o a (b2 ∷ b1 ∷ b0 ∷ k7 ∷ k6 ∷ k5 ∷ k4 ∷ k3 ∷ [])
+      → c3 ≡ dot o a (b3 ∷ b2 ∷ b1 ∷ b0 ∷ k7 ∷ k6 ∷ k5 ∷ k4 ∷ [])
+      → c4 ≡ dot o a (b4 ∷ b3 ∷ b2 ∷ b1 ∷ b0 ∷ k7 ∷ k6 ∷ k5 ∷ [])
+      → c5 ≡ dot o a (b5 ∷ b4 ∷ b3 ∷ b2 ∷ b1 ∷ b0 ∷ k7 ∷ k6 ∷ [])
+      → c6 ≡ dot o a (b6 ∷ b5 ∷ b4 ∷ b3 ∷ b2 ∷ b1 ∷ b0 ∷ k7 ∷ [])
+      → c7 ≡ dot o a (b7 ∷ b6 ∷ b5 ∷ b4 ∷ b3 ∷ b2 ∷ b1 ∷ b0 ∷ [])
+      → c0 ∷ c1 ∷ c2 ∷ c3 ∷ c4 ∷ c5 ∷ c6 ∷ c7 ∷ [] ≡ quotient_mul o 8 (binomial o 8 w) a (b0 ∷ b1 ∷ b2 ∷ b3 ∷ b4 ∷ b5 ∷ b6 ∷ b7 ∷ [])
+  octic_formula a b0 w {b1} {b2} {b3} {b4} {b5} {b6} {b7} {k1} {k2} {k3} {k4} {k5} {k6} {k7} h f1 f2 f3 f4 f5 f6 f7 g0 g1 g2 g3 g4 g5 g6 g7 =
+      let items : a ≡ tabulate 8 (λ k. get_or a k o.zero) = to-tabulate o.zero 8 (λ k. get_or a k o.zero) a h (λ k lt. refl) in
+      let at : (row : List A) → dot o a row ≡ dot o (tabulate 8 (λ k. get_or a k o.zero)) row = λ row. ap (λ u. dot o u row) items in
+      octic_items {a0 = get_or a 0 o.zero} {a1 = get_or a 1 o.zero} {a2 = get_or a 2 o.zero} {a3 = get_or a 3 o.zero} {a4 = get_or a 4 o.zero} {a5 = get_or a 5 o.zero} {a6 = get_or a 6 o.zero} {a7 = get_or a 7 o.zero} {b0 = b0} f1 f2 f3 f4 f5 f6 f7
+      (g0 ∙ at (b0 ∷ k7 ∷ k6 ∷ k5 ∷ k4 ∷ k3 ∷ k2 ∷ k1 ∷ []))
+      (g1 ∙ at (b1 ∷ b0 ∷ k7 ∷ k6 ∷ k5 ∷ k4 ∷ k3 ∷ k2 ∷ []))
+      (g2 ∙ at (b2 ∷ b1 ∷ b0 ∷ k7 ∷ k6 ∷ k5 ∷ k4 ∷ k3 ∷ []))
+      (g3 ∙ at (b3 ∷ b2 ∷ b1 ∷ b0 ∷ k7 ∷ k6 ∷ k5 ∷ k4 ∷ []))
+      (g4 ∙ at (b4 ∷ b3 ∷ b2 ∷ b1 ∷ b0 ∷ k7 ∷ k6 ∷ k5 ∷ []))
+      (g5 ∙ at (b5 ∷ b4 ∷ b3 ∷ b2 ∷ b1 ∷ b0 ∷ k7 ∷ k6 ∷ []))
+      (g6 ∙ at (b6 ∷ b5 ∷ b4 ∷ b3 ∷ b2 ∷ b1 ∷ b0 ∷ k7 ∷ []))
+      (g7 ∙ at (b7 ∷ b6 ∷ b5 ∷ b4 ∷ b3 ∷ b2 ∷ b1 ∷ b0 ∷ []))
+      ∙ ap (λ u. quotient_mul o 8 (binomial o 8 w) u (b0 ∷ b1 ∷ b2 ∷ b3 ∷ b4 ∷ b5 ∷ b6 ∷ b7 ∷ [])) (sym items)
+
+  -- the square, each product of two coefficients once
+  pub octic_square_formula : {a0 a1 a2 a3 a4 a5 a6 a7 w d0 d1 d2 d3 k4 k5 k6 k7 e5 e6 e7 c0 c1 c2 c3 c4 c5 c6 c7 : A}
+      → d0 ≡ o.add a0 a0
+      → d1 ≡ o.add a1 a1
+      → d2 ≡ o.add a2 a2
+      → d3 ≡ o.add a3 a3
+      → k4 ≡ o.mul a4 w
+      → k5 ≡ o.mul a5 w
+      → k6 ≡ o.mul a6 w
+      → k7 ≡ o.mul a7 w
+      → e5 ≡ o.add k5 k5
+      → e6 ≡ o.add k6 k6
+      → e7 ≡ o.add k7 k7
+      → c0 ≡ dot o (a0 ∷ a1 ∷ a2 ∷ a3 ∷ a4 ∷ []) (a0 ∷ e7 ∷ e6 ∷ e5 ∷ k4 ∷ [])
+      → c1 ≡ dot o (d0 ∷ a2 ∷ a3 ∷ a4 ∷ []) (a1 ∷ e7 ∷ e6 ∷ e5 ∷ [])
+      → c2 ≡ dot o (d0 ∷ a1 ∷ a3 ∷ a4 ∷ a5 ∷ []) (a2 ∷ a1 ∷ e7 ∷ e6 ∷ k5 ∷ [])
+      → c3 ≡ dot o (d0 ∷ d1 ∷ a4 ∷ a5 ∷ []) (a3 ∷ a2 ∷ e7 ∷ e6 ∷ [])
+      → c4 ≡ dot o (d0 ∷ d1 ∷ a2 ∷ a5 ∷ a6 ∷ []) (a4 ∷ a3 ∷ a2 ∷ e7 ∷ k6 ∷ [])
+      → c5 ≡ dot o (d0 ∷ d1 ∷ d2 ∷ a6 ∷ []) (a5 ∷ a4 ∷ a3 ∷ e7 ∷ [])
+      → c6 ≡ dot o (d0 ∷ d1 ∷ d2 ∷ a3 ∷ a7 ∷ []) (a6 ∷ a5 ∷ a4 ∷ a3 ∷ k7 ∷ [])
+      → c7 ≡ dot o (d0 ∷ d1 ∷ d2 ∷ d3 ∷ []) (a7 ∷ a6 ∷ a5 ∷ a4 ∷ [])
+      → c0 ∷ c1 ∷ c2 ∷ c3 ∷ c4 ∷ c5 ∷ c6 ∷ c7 ∷ [] ≡ quotient_mul o 8 (binomial o 8 w) (a0 ∷ a1 ∷ a2 ∷ a3 ∷ a4 ∷ a5 ∷ a6 ∷ a7 ∷ []) (a0 ∷ a1 ∷ a2 ∷ a3 ∷ a4 ∷ a5 ∷ a6 ∷ a7 ∷ [])
+  octic_square_formula {a0} {a1} {a2} {a3} {a4} {a5} {a6} {a7} {w} {d0} {d1} {d2} {d3} {k4} {k5} {k6} {k7} {e5} {e6} {e7} {c0} {c1} {c2} {c3} {c4} {c5} {c6} {c7} p0 p1 p2 p3 f4 f5 f6 f7 q5 q6 q7 g0 g1 g2 g3 g4 g5 g6 g7 =
+      formula o (a0 ∷ a1 ∷ a2 ∷ a3 ∷ a4 ∷ a5 ∷ a6 ∷ a7 ∷ w ∷ []) (c0 ∷ c1 ∷ c2 ∷ c3 ∷ c4 ∷ c5 ∷ c6 ∷ c7 ∷ []) l
+      (λ P xa0 xa1 xa2 xa3 xa4 xa5 xa6 xa7 xw. search (reads_list, answer_read o P p0, answer_read o P p1, answer_read o P p2, answer_read o P p3, answer_read o P f4, answer_read o P f5, answer_read o P f6, answer_read o P f7, answer_read o P q5, answer_read o P q6, answer_read o P q7, answer_read o P g0, answer_read o P g1, answer_read o P g2, answer_read o P g3, answer_read o P g4, answer_read o P g5, answer_read o P g6, answer_read o P g7) depth 99 fits 99999)
+      (quotient_mul free 8 (binomial free 8 (V 8)) (variables 0 8) (variables 0 8)) yes
+
+module _ {A : Type 0} (o : Ops A) (l : RingLaws o) where
+  -- the product modulo X^5 + X^2 - 1 from the coefficients of the whole product
+  pub quintic_trinomial_formula : {a0 a1 a2 a3 a4 b0 b1 b2 b3 b4 c0 c1 c2 c3 c4 c5 c6 c7 c8 m s2 s3 r0 r1 r2 r3 r4 : A}
+      → c0 ≡ o.mul a0 b0
+      → c1 ≡ dot o (a0 ∷ a1 ∷ []) (b1 ∷ b0 ∷ [])
+      → c2 ≡ dot o (a0 ∷ a1 ∷ a2 ∷ []) (b2 ∷ b1 ∷ b0 ∷ [])
+      → c3 ≡ dot o (a0 ∷ a1 ∷ a2 ∷ a3 ∷ []) (b3 ∷ b2 ∷ b1 ∷ b0 ∷ [])
+      → c4 ≡ dot o (a0 ∷ a1 ∷ a2 ∷ a3 ∷ a4 ∷ []) (b4 ∷ b3 ∷ b2 ∷ b1 ∷ b0 ∷ [])
+      → c5 ≡ dot o (a1 ∷ a2 ∷ a3 ∷ a4 ∷ []) (b4 ∷ b3 ∷ b2 ∷ b1 ∷ [])
+      → c6 ≡ dot o (a2 ∷ a3 ∷ a4 ∷ []) (b4 ∷ b3 ∷ b2 ∷ [])
+      → c7 ≡ dot o (a3 ∷ a4 ∷ []) (b4 ∷ b3 ∷ [])
+      → c8 ≡ o.mul a4 b4
+      → m ≡ subtract o c5 c8
+      → r0 ≡ o.add c0 m
+      → r1 ≡ o.add c1 c6
+      → s2 ≡ subtract o c2 m
+      → r2 ≡ o.add s2 c7
+      → s3 ≡ subtract o c3 c6
+      → r3 ≡ o.add s3 c8
+      → r4 ≡ subtract o c4 c7
+      → r0 ∷ r1 ∷ r2 ∷ r3 ∷ r4 ∷ [] ≡ quotient_mul o 5 (quintic_trinomial o) (a0 ∷ a1 ∷ a2 ∷ a3 ∷ a4 ∷ []) (b0 ∷ b1 ∷ b2 ∷ b3 ∷ b4 ∷ [])
+  quintic_trinomial_formula {a0} {a1} {a2} {a3} {a4} {b0} {b1} {b2} {b3} {b4} {c0} {c1} {c2} {c3} {c4} {c5} {c6} {c7} {c8} {m} {s2} {s3} {r0} {r1} {r2} {r3} {r4} g0 g1 g2 g3 g4 g5 g6 g7 g8 h h0 h1 t2 h2 t3 h3 h4 =
+      formula o (a0 ∷ a1 ∷ a2 ∷ a3 ∷ a4 ∷ b0 ∷ b1 ∷ b2 ∷ b3 ∷ b4 ∷ []) (r0 ∷ r1 ∷ r2 ∷ r3 ∷ r4 ∷ []) l
+      (λ P xa0 xa1 xa2 xa3 xa4 xb0 xb1 xb2 xb3 xb4. search (reads_list, answer_read o P g0, answer_read o P g1, answer_read o P g2, answer_read o P g3, answer_read o P g4, answer_read o P g5, answer_read o P g6, answer_read o P g7, answer_read o P g8, answer_read o P h, answer_read o P h0, answer_read o P h1, answer_read o P t2, answer_read o P h2, answer_read o P t3, answer_read o P h3, answer_read o P h4) depth 99 fits 99999)
+      (quotient_mul free 5 (quintic_trinomial free) (variables 0 5) (variables 5 5)) yes
