@@ -1,2 +1,3 @@
 pub mod BatchProducts
 pub mod Chains
+pub mod Inverses

@@ -46,6 +46,9 @@ pub use Rattle.p3_spaces.specs.CoefficientSums
 pub use Rattle.p3_spaces.specs.Streams
 pub use Rattle.p3_tools.specs.BackwardRuns
 pub use Rattle.p3_tools.specs.PairedRuns
+pub use Rattle.p3_batch_inverse.specs.BatchProducts
+pub use Rattle.p3_batch_inverse.specs.Chains
+pub use Rattle.p3_batch_inverse.specs.Inverses
 pub use Rattle.p3_limbs.specs.Digits
 pub use Rattle.p3_columns.specs.Columns
 pub use Rattle.p3_products.specs.Entries
