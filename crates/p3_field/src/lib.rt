@@ -83,6 +83,7 @@ pub use p3_spaces::columnwise::batched_columnwise_dot_product;
 pub use p3_spaces::columnwise::coeffwise_dot_product;
 pub use p3_spaces::columnwise::generic_batched_columnwise_dot_product;
 pub use p3_spaces::extension_field::ExtensionField;
+pub use p3_spaces::extension_lanes::ExtensionLanes;
 pub use p3_spaces::field_bounds::FieldBounds;
 pub use p3_spaces::field_bounds::PrimeFieldBounds;
 pub use p3_spaces::field_bytes::PrimeField32Bytes;

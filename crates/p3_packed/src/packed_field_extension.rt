@@ -5,6 +5,7 @@ use p3_base::field::Field;
 use p3_base::packed_traits::{Packable, PackedField, PackedValue};
 use p3_ext::extension::{ExtField, ExtensionOverAlgebra, ExtensionShape, FrobeniusExtendable};
 use p3_ring::ring::{Algebra, PrimeCharacteristicRing};
+use p3_spaces::extension_lanes::ExtensionLanes;
 use p3_spaces::packed_field_extension::PackedFieldExtension;
 
 /// The packing of coefficient i of the values.
@@ -48,13 +49,13 @@ impl<
     const D: usize,
     S: ExtensionShape,
     P: PackedField<F> + Packing,
-> PackedFieldExtension<F, ExtField<F, D, S, F>> for PackedExtField<F, D, S, P> {
-    ghost use Rattle.std.specs.Prelude.{refl};
-    ghost use Rattle.std.proofs.Common.{ap};
+> ExtensionLanes<F, ExtField<F, D, S, F>> for PackedExtField<F, D, S, P> {
     ghost use Rattle.p3_theory.specs.Polynomials.Coefficients.{length-tabulate};
-    ghost use Rattle.p3_packed.specs.ValueLanes.{value_lanes, lanes_keep, lanes_apart, lane_of_spread, lanes_of_spread, at_lane, coefficients_of};
+    ghost use Rattle.p3_packed.specs.ValueLanes.{value_lanes, lanes_keep, lanes_apart, lane_of_spread};
 
-    type Base = P;
+    const LANES: usize = <P as PackedValue>::WIDTH;
+
+    ghost LANES = { P.WIDTH };
 
     ghost ext_lanes = { value_lanes P.ops F.ops P.lanes P.WIDTH };
 
@@ -80,6 +81,22 @@ impl<
     ghost ext_same = { lanes_apart P.ops F.ops P.lanes P.WIDTH P.PackedField.same P.PackedField.lengths };
 
     ghost ext_keeps = { lanes_keep P.ops F.ops P.lanes P.WIDTH P.keeps (map ⟦<P as Algebra<F>>⟧.embed F.modulus) F.modulus (λ k h. lane_of_spread F.ops P.lanes P.WIDTH ⟦<P as Algebra<F>>⟧.embed P.injects k h F.modulus) };
+}
+
+/// The coefficients at a lane are that lane of each coefficient.
+impl<
+    F: FrobeniusExtendable<D, S> + ExtensionOverAlgebra<P, D, S> + Packable,
+    const D: usize,
+    S: ExtensionShape,
+    P: PackedField<F> + Packing,
+> PackedFieldExtension<F, ExtField<F, D, S, F>> for PackedExtField<F, D, S, P> {
+    ghost use Rattle.std.specs.Prelude.{refl};
+    ghost use Rattle.std.proofs.Common.{ap};
+    ghost use Rattle.p3_packed.specs.ValueLanes.{lanes_of_spread, at_lane, coefficients_of};
+
+    type Base = P;
+
+    ghost width = { refl };
 
     ghost dimension = { refl };
 

@@ -7,7 +7,7 @@ ghost use Rattle.p3_runs.specs.Runs.{Fit, run};
 
 use p3_ext::extension::{ExtField, ExtensionShape, FrobeniusExtendable};
 use p3_runs::steps::Step;
-use p3_spaces::packed_field_extension::PackedFieldExtension;
+use p3_spaces::extension_lanes::ExtensionLanes;
 use p3_vectorized::steps::run_lane_steps;
 use p3_vectorized::vectorized_ext::VectorizedExt;
 
@@ -17,15 +17,15 @@ use p3_vectorized::vectorized_ext::VectorizedExt;
 #[inline]
 pub fn run_lane_steps_by_coefficients<
     F: FrobeniusExtendable<D, S>,
-    PE: PackedFieldExtension<F, ExtField<F, D, S, F>>,
+    PE: ExtensionLanes<F, ExtField<F, D, S, F>>,
     const D: usize,
     S: ExtensionShape,
     const N: usize,
 >(regs: &mut [VectorizedExt<F, ExtField<F, D, S, F>, PE, N>], steps: &[Step])
     requires { Fit (length regs.old) steps.now }
-    ensures { (i : ℕ) → i < PE.Base.WIDTH * N →
-        map (λ v. (vector_lane PE.ops (ext_ops F.ops F.modulus) PE.ext_lanes PE.Base.WIDTH i v).value) regs.new
-        ≡ run (quotient_ops F.ops D F.modulus) steps.now (map (λ v. (vector_lane PE.ops (ext_ops F.ops F.modulus) PE.ext_lanes PE.Base.WIDTH i v).value) regs.old) }
+    ensures { (i : ℕ) → i < PE.LANES * N →
+        map (λ v. (vector_lane PE.ops (ext_ops F.ops F.modulus) PE.ext_lanes PE.LANES i v).value) regs.new
+        ≡ run (quotient_ops F.ops D F.modulus) steps.now (map (λ v. (vector_lane PE.ops (ext_ops F.ops F.modulus) PE.ext_lanes PE.LANES i v).value) regs.old) }
 {
     run_lane_steps::<F, ExtField<F, D, S, F>, PE, N>(regs, steps)
 }

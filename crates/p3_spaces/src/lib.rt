@@ -6,6 +6,7 @@ pub mod array_chunks;
 pub mod basis;
 pub mod columnwise;
 pub mod extension_field;
+pub mod extension_lanes;
 pub mod field_bounds;
 pub mod field_bytes;
 mod hints;

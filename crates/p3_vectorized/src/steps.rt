@@ -4,24 +4,23 @@ ghost use Rattle.p3_runs.specs.Runs.{Fit, run};
 ghost use Rattle.p3_theory.specs.Lanes.VectorLanes.{vector_lane};
 
 use crate::vectorized_ext::VectorizedExt;
-use p3_base::field::Field;
+use p3_ring::ring::PrimeCharacteristicRing;
 use p3_runs::steps::{Step, run_steps};
-use p3_spaces::extension_field::ExtensionField;
-use p3_spaces::packed_field_extension::PackedFieldExtension;
+use p3_spaces::extension_lanes::ExtensionLanes;
 
 /// Carries out the steps, one after the other, over registers that are vectors of packings: at each
 /// lane the registers become what the steps make of the registers of that lane. This project's own.
 #[inline]
 pub fn run_lane_steps<
-    F: Field,
-    EF: ExtensionField<F>,
-    PE: PackedFieldExtension<F, EF>,
+    F: Copy,
+    EF: PrimeCharacteristicRing,
+    PE: ExtensionLanes<F, EF>,
     const N: usize,
 >(regs: &mut [VectorizedExt<F, EF, PE, N>], steps: &[Step])
     requires { Fit (length regs.old) steps.now }
-    ensures { (i : ℕ) → i < PE.Base.WIDTH * N →
-        map (vector_lane PE.ops EF.ops PE.ext_lanes PE.Base.WIDTH i) regs.new
-        ≡ run EF.ops steps.now (map (vector_lane PE.ops EF.ops PE.ext_lanes PE.Base.WIDTH i) regs.old) }
+    ensures { (i : ℕ) → i < PE.LANES * N →
+        map (vector_lane PE.ops EF.ops PE.ext_lanes PE.LANES i) regs.new
+        ≡ run EF.ops steps.now (map (vector_lane PE.ops EF.ops PE.ext_lanes PE.LANES i) regs.old) }
 {
     run_steps(regs, steps)
 }

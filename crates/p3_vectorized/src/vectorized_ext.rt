@@ -7,13 +7,11 @@ ghost use Rattle.p3_theory.specs.Rings.Ring.{subtract};
 ghost use Rattle.p3_theory.specs.Lanes.VectorLanes.{vector_lane};
 
 use crate::vectorized::Vectorized;
-use p3_base::field::Field;
-use p3_base::packed_traits::{Inhabited, PackedValue};
+use p3_base::packed_traits::Inhabited;
 use p3_ring::accumulate::{product_from, sum_from};
 use p3_ring::ring::{PrimeCharacteristicRing, RingSums};
 use p3_spaces::basis::BasedVectorSpace;
-use p3_spaces::extension_field::ExtensionField;
-use p3_spaces::packed_field_extension::PackedFieldExtension;
+use p3_spaces::extension_lanes::ExtensionLanes;
 use std::alloc::AllocError;
 use std::fmt;
 use std::iter::{Product, Sum};
@@ -329,36 +327,47 @@ impl<F: Copy, EF: Copy, PE: PrimeCharacteristicRing + Inhabited, const N: usize>
     ghost products = { record { called = λ _. tt; answer = λ _ _ h. h; whole = λ _. tt } };
 }
 
-impl<
-    F: Field,
-    EF: ExtensionField<F>,
-    PE: PackedFieldExtension<F, EF>,
-    const N: usize,
-> VectorizedExt<F, EF, PE, N> {
+impl<F: Copy, EF: Copy, PE: PrimeCharacteristicRing + Inhabited, const N: usize> VectorizedExt<
+    F,
+    EF,
+    PE,
+    N,
+> {
     /// The vector whose packings have these packings of field values as their coefficients, index by
     /// index. There are as many as the dimension. Upstream's `from_vectorized_basis_coefficients`.
     #[inline]
-    pub fn from_vectorized_basis_coefficients(coefficients: &[Vectorized<F, PE::Base, N>]) -> Self
-        requires { length coefficients.now ≡ EF.DIMENSION }
-        ensures { (d : PE) (k : ℕ) → k < N → ⟦<PE as BasedVectorSpace<PE::Base>>⟧.coefficients (get_or result.items k d) ≡ map (λ v. get_or v.items k PE.Base.ops.zero) coefficients.now }
+    pub fn from_vectorized_basis_coefficients<P: PrimeCharacteristicRing + Inhabited>(
+        coefficients: &[Vectorized<F, P, N>],
+    ) -> Self
+    where
+        PE: BasedVectorSpace<P>,
+        requires { length coefficients.now ≡ ⟦<PE as BasedVectorSpace<P>>⟧.DIMENSION }
+        ensures { (d : PE) (k : ℕ) → k < N → ⟦<PE as BasedVectorSpace<P>>⟧.coefficients (get_or result.items k d) ≡ map (λ v. get_or v.items k P.ops.zero) coefficients.now }
     {
         let mut items = [PE::zero(); N];
         for i in 0..N {
-            items[i] = packing_of_coefficients::<F, PE::Base, PE, N>(coefficients, i);
+            items[i] = packing_of_coefficients::<F, P, PE, N>(coefficients, i);
         }
         Self::new(items)
     }
+}
 
-    /// The value at a lane: lane `lane % WIDTH` of packing `lane / WIDTH`, where `WIDTH` is the
-    /// number of lanes of a packing. The lane is below `WIDTH * N`. Upstream's `extract`.
+impl<F: Copy, EF: PrimeCharacteristicRing, PE: ExtensionLanes<F, EF>, const N: usize> VectorizedExt<
+    F,
+    EF,
+    PE,
+    N,
+> {
+    /// The value at a lane: lane `lane % LANES` of packing `lane / LANES`, where `LANES` is the number
+    /// of lanes of a packing. The lane is below `LANES * N`. Upstream's `extract`.
     #[inline]
     pub fn extract(&self, lane: usize) -> EF
-        requires { lane < PE.Base.WIDTH * N }
-        ensures { result ≡ vector_lane PE.ops EF.ops PE.ext_lanes PE.Base.WIDTH lane self.now }
+        requires { lane < PE.LANES * N }
+        ensures { result ≡ vector_lane PE.ops EF.ops PE.ext_lanes PE.LANES lane self.now }
     {
-        let width = <PE::Base as PackedValue>::WIDTH;
+        let width = PE::LANES;
         let part = self.part(lane / width);
-        PackedFieldExtension::extract(&part, lane % width)
+        ExtensionLanes::extract(&part, lane % width)
     }
 }
 

@@ -7,5 +7,5 @@ pub returns : goal.returns
 returns g c i h =
     let o = g.F.PrimeCharacteristicRing.ops in
     let f = g.F.ExtensionAlgebra.modulus in
-    read_through (list_keeps o f) (vector_lane g.PE.PrimeCharacteristicRing.ops (ext_ops o f) g.PE.PackedFieldExtension.ext_lanes g.PE.Base.PackedValue.WIDTH i)
+    read_through (list_keeps o f) (vector_lane g.PE.PrimeCharacteristicRing.ops (ext_ops o f) g.PE.ExtensionLanes.ext_lanes g.PE.ExtensionLanes.LANES i)
     c.args.steps.now c.run_lane_steps.new.regs c.args.regs.now (c.run_lane_steps.ensures i h)

@@ -1,6 +1,6 @@
 use Rattle.std.proofs.Common.{◌∙◌, ap, sym, arith, get_or}
 use Rattle.p3_packed.specs.ValueLanes.{extracted}
-use Rattle.p3_packed.proofs.packed_field_extension.PackedExtFieldPackedFieldExtensionExtField.extract.Goals as goal
+use Rattle.p3_packed.proofs.packed_field_extension.PackedExtFieldExtensionLanesExtField.extract.Goals as goal
 
 pub returns : goal.returns
 returns g c =

@@ -1,5 +1,5 @@
 use Rattle.std.proofs.Common.{◌≡◌, ◌<◌, ℕ, length, get_or}
-use Rattle.p3_packed.proofs.packed_field_extension.PackedExtFieldPackedFieldExtensionExtField.extract.Given as goal
+use Rattle.p3_packed.proofs.packed_field_extension.PackedExtFieldExtensionLanesExtField.extract.Given as goal
 
 abbrev pub invariant-loop-i : goal.invariant-loop-i
 invariant-loop-i g l =

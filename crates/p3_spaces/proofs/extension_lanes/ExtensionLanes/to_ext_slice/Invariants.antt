@@ -1,8 +1,8 @@
 use Rattle.p3_theory.specs.Lists.TabulatedPlaces.{HoldsBelow}
 use Rattle.p3_theory.specs.Polynomials.Polynomial.{at}
-use Rattle.p3_spaces.proofs.packed_field_extension.PackedFieldExtension.to_ext_slice.Given as goal
+use Rattle.p3_spaces.proofs.extension_lanes.ExtensionLanes.to_ext_slice.Given as goal
 
 abbrev pub invariant-loop-lane : goal.invariant-loop-lane
 invariant-loop-lane g l =
     let o = g.EF.PrimeCharacteristicRing.ops in
-    HoldsBelow (at o (g.Self.PackedFieldExtension.ext_lanes l.fn.self)) o.zero l.out l.lane
+    HoldsBelow (at o (g.Self.ExtensionLanes.ext_lanes l.fn.self)) o.zero l.out l.lane

@@ -1,6 +1,6 @@
 use Rattle.std.proofs.Common.{◌∙◌, ap, get_or}
 use Rattle.p3_packed.specs.ValueLanes.{gathered}
-use Rattle.p3_packed.proofs.packed_field_extension.PackedExtFieldPackedFieldExtensionExtField.from_ext_slice.Goals as goal
+use Rattle.p3_packed.proofs.packed_field_extension.PackedExtFieldExtensionLanesExtField.from_ext_slice.Goals as goal
 
 pub returns : goal.returns
 returns g c =
