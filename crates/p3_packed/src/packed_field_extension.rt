@@ -45,7 +45,7 @@ fn pack_coefficients<F: Field, P: PackedField<F>, const D: usize, S: Copy>(
 
 /// The lanes are extension values: lane k has lane k of each coefficient.
 impl<
-    F: FrobeniusExtendable<D, S> + ExtensionOverAlgebra<P, D, S> + Packable,
+    F: Field + ExtensionOverAlgebra<P, D, S> + Packable,
     const D: usize,
     S: ExtensionShape,
     P: PackedField<F> + Packing,
