@@ -1,0 +1,172 @@
+ghost use Rattle.std.specs.Prelude.{◌≡◌, ◌<◌, ℕ, length, get_or, replicate};
+
+use p3_base::packed_traits::{Inhabited, Packable, PackedValue};
+use p3_ring::ring::PrimeCharacteristicRing;
+use std::alloc::AllocError;
+use std::fmt;
+use std::marker::Model;
+
+/// N values, with the ring's operations entry by entry. Upstream's `FieldArray`.
+pub struct FieldArray<F: Inhabited, const N: usize>(pub [F; N]);
+
+impl<F: Inhabited, const N: usize> Model for FieldArray<F, N> {
+    ghost use Rattle.std.specs.Prelude.{◌≡◌, length};
+    ghost use Rattle.p3_theory.specs.Lanes.Rows.{Row, fitted, row_code};
+    ghost use Rattle.p3_array.specs.Inside.{same_array};
+
+    ghost Value = { Row F N };
+
+    ghost coded = { row_code N F.code };
+
+    ghost view = { λ a. fitted F.inhabitant N a.0 };
+
+    ghost invariant = { λ a. length a.0 ≡ N };
+
+    ghost inverse = { λ v. record { 0 = v.items } };
+
+    ghost inverse_ok = { λ a h. same_array F.inhabitant N a h };
+}
+
+impl<F: Inhabited, const N: usize> Clone for FieldArray<F, N> {
+    ghost use Rattle.std.specs.Prelude.{⊤};
+
+    ghost is_clone = { λ x y. y ≡ x };
+
+    ghost is_infallible = { λ _. ⊤ };
+
+    #[inline]
+    fn clone(&self) -> Result<Self, AllocError> {
+        Ok(*self)
+    }
+}
+
+impl<F: Inhabited, const N: usize> Copy for FieldArray<F, N> {}
+
+impl<F: Inhabited, const N: usize> FieldArray<F, N> {
+    /// The array of these values. This project's own: upstream writes the array alone.
+    #[tactic(auto, using(p3_theory::specs::Lanes::Rows::fit_same))]
+    #[inline]
+    pub fn new(items: [F; N]) -> Self
+        ensures { result.items ≡ items }
+    {
+        FieldArray(items)
+    }
+
+    /// The values.
+    #[inline]
+    pub(crate) fn items(self) -> [F; N]
+        ensures { result ≡ self.items }
+    {
+        self.0
+    }
+}
+
+/// Zero in each entry. Upstream's `Default`.
+impl<F: PrimeCharacteristicRing + Inhabited, const N: usize> Default for FieldArray<F, N> {
+    ghost is_default = { λ x. x.items ≡ replicate N F.ops.zero };
+
+    /// The array of zeros.
+    #[inline]
+    fn default() -> Self {
+        Self::new([F::zero(); N])
+    }
+}
+
+impl<F: Inhabited, const N: usize> From<F> for FieldArray<F, N> {
+    ghost from_gives = { λ f r. r.items ≡ replicate N f };
+
+    /// The value in each entry.
+    #[inline]
+    fn from(value: F) -> Self {
+        Self::new([value; N])
+    }
+}
+
+impl<F: Inhabited, const N: usize> From<[F; N]> for FieldArray<F, N> {
+    ghost from_gives = { λ v r. r.items ≡ v };
+
+    /// The values, entry by entry.
+    #[inline]
+    fn from(value: [F; N]) -> Self {
+        Self::new(value)
+    }
+}
+
+impl<F: Inhabited + PartialEq, const N: usize> PartialEq for FieldArray<F, N> {
+    ghost use Rattle.std.specs.Cmp.Lexicographic.{pointwise};
+    ghost use Rattle.p3_array.specs.Values.{rows_per};
+
+    ghost eq = { λ x y. pointwise F.eq x.items y.items };
+
+    ghost laws = { rows_per F.laws };
+
+    #[inline]
+    fn eq(&self, other: &Self) -> bool {
+        self.items() == other.items()
+    }
+}
+
+impl<F: Inhabited + Eq, const N: usize> Eq for FieldArray<F, N> {
+    ghost use Rattle.p3_array.specs.Values.{rows_equiv};
+
+    ghost laws = { rows_equiv F.Eq.laws };
+}
+
+/// The values as a list. No contract speaks of the text.
+impl<F: Inhabited + fmt::Debug, const N: usize> fmt::Debug for FieldArray<F, N> {
+    fn fmt<O: fmt::Write>(&self, f: &mut fmt::Formatter<O>) -> fmt::Result {
+        fmt::Debug::fmt(&self.0, f)
+    }
+}
+
+/// The entries are lanes.
+impl<F: Packable, const N: usize> PackedValue for FieldArray<F, N> {
+    type Value = F;
+
+    const WIDTH: usize = N;
+
+    ghost WIDTH = { N };
+
+    ghost lanes = { λ x. x.items };
+
+    #[inline]
+    fn from_fn<G: FnMut(usize) -> F>(f: G) -> Self {
+        Self::new(std::array::from_fn(f))
+    }
+
+    #[inline]
+    fn broadcast(value: F) -> Self {
+        Self::new([value; N])
+    }
+
+    #[inline]
+    fn from_slice(slice: &[F]) -> Self {
+        Self::new(<[F; N]>::try_from(slice).unwrap())
+    }
+
+    #[inline]
+    fn to_slice(&self, out: &mut [F]) {
+        let items = self.items();
+        out.copy_from_slice(&items);
+    }
+
+    #[inline]
+    fn extract(&self, lane: usize) -> F {
+        let entries = self.items();
+        entries[lane]
+    }
+
+    #[inline]
+    fn set_lane(&mut self, lane: usize, value: F) {
+        let mut items = self.items();
+        items[lane] = value;
+        *self = Self::new(items);
+    }
+}
+
+/// One value in each entry.
+impl<F: Inhabited, const N: usize> Inhabited for FieldArray<F, N> {
+    ghost use Rattle.std.proofs.lemmas.List.{length-replicate};
+
+    ghost inhabitant = { record { items = replicate N F.inhabitant; sized = length-replicate N F.inhabitant } };
+}

@@ -1,0 +1,7 @@
+//! Arrays of field values as a ring, entry by entry.
+#![tactic(auto)]
+
+pub mod array;
+mod operators;
+mod ring;
+mod scalar_operators;
