@@ -69,16 +69,17 @@ fn run_step<R: PrimeCharacteristicRing>(regs: &mut [R], step: &Step)
     requires { StepFits (length regs.old) step.now }
     ensures { regs.new ≡ after_step R.ops step.now regs.old }
 {
-    match *step {
-        Step::Add { d, a, b } => regs[d] = regs[a] + regs[b],
-        Step::Sub { d, a, b } => regs[d] = regs[a] - regs[b],
-        Step::Mul { d, a, b } => regs[d] = regs[a] * regs[b],
-        Step::Neg { d, a } => regs[d] = -regs[a],
-        Step::Square { d, a } => regs[d] = regs[a].square(),
-        Step::Double { d, a } => regs[d] = regs[a].double(),
-        Step::Exp { d, a, e } => regs[d] = regs[a].exp_u64(e),
-        Step::Mul2Exp { d, a, e } => regs[d] = regs[a].mul_2exp_u64(e),
-    }
+    let (d, value) = match *step {
+        Step::Add { d, a, b } => (d, regs[a] + regs[b]),
+        Step::Sub { d, a, b } => (d, regs[a] - regs[b]),
+        Step::Mul { d, a, b } => (d, regs[a] * regs[b]),
+        Step::Neg { d, a } => (d, -regs[a]),
+        Step::Square { d, a } => (d, regs[a].square()),
+        Step::Double { d, a } => (d, regs[a].double()),
+        Step::Exp { d, a, e } => (d, regs[a].exp_u64(e)),
+        Step::Mul2Exp { d, a, e } => (d, regs[a].mul_2exp_u64(e)),
+    };
+    regs[d] = value;
 }
 
 /// Carries out the steps, one after the other, over registers of any ring. Over an extension each
