@@ -1,2 +1,2 @@
-pub mod Inside
-pub mod Values
+pub mod ArrayFields
+pub mod ArrayEquality

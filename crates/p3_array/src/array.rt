@@ -1,10 +1,13 @@
-ghost use Rattle.std.specs.Prelude.{◌≡◌, ◌<◌, ℕ, length, get_or, replicate};
+ghost use Rattle.std.specs.Prelude.{◌≡◌, ◌<◌, ℕ, length, get_or, slice_index_or, replicate};
+ghost use Rattle.std.specs.Array.{IsMapOf, list_steps};
+ghost use Rattle.std.specs.Iterator.{CallableAtEachTurn};
 
 use p3_base::packed_traits::{Inhabited, Packable, PackedValue};
 use p3_ring::ring::PrimeCharacteristicRing;
 use std::alloc::AllocError;
 use std::fmt;
 use std::marker::Model;
+use std::ops::Index;
 
 /// N values, with the ring's operations entry by entry. Upstream's `FieldArray`.
 pub struct FieldArray<F: Inhabited, const N: usize>(pub [F; N]);
@@ -12,7 +15,7 @@ pub struct FieldArray<F: Inhabited, const N: usize>(pub [F; N]);
 impl<F: Inhabited, const N: usize> Model for FieldArray<F, N> {
     ghost use Rattle.std.specs.Prelude.{◌≡◌, length};
     ghost use Rattle.p3_theory.specs.Lanes.Rows.{Row, fitted, row_code};
-    ghost use Rattle.p3_array.specs.Inside.{same_array};
+    ghost use Rattle.p3_array.specs.ArrayFields.{same_array};
 
     ghost Value = { Row F N };
 
@@ -59,6 +62,53 @@ impl<F: Inhabited, const N: usize> FieldArray<F, N> {
     {
         self.0
     }
+
+    /// What `f` answers at each entry, as an array of N values of any type: `f` is called at the first
+    /// entry, then at the next, up to the last. Each call has to be one that `f` may take after the
+    /// calls before it. Upstream's `map_into_array`.
+    #[inline]
+    pub fn map_into_array<U, G: FnMut(F) -> U>(self, f: G) -> [U; N]
+        requires callable { CallableAtEachTurn list_steps (λ p x q. (y : U) × G.step p x y q) G.pre self.items f }
+        ensures items { IsMapOf G.FnMut f self.items result N }
+    {
+        let mut call = f;
+        std::array::from_fn(
+            move |i|
+                requires { (i < N) × G.pre call (get_or self.items i F.inhabitant) }
+                ensures { G.step call.entry (get_or self.items i F.inhabitant) result call.exit }
+            {
+                let entry = self[i];
+                call(entry)
+            },
+        )
+    }
+
+    /// What `f` answers at each entry, in the same places: `f` is called at the first entry, then at the
+    /// next, up to the last. Each call has to be one that `f` may take after the calls before it.
+    /// Upstream's `map`.
+    #[inline]
+    pub fn map<U: Inhabited, G: FnMut(F) -> U>(self, f: G) -> FieldArray<U, N>
+        requires callable { CallableAtEachTurn list_steps (λ p x q. (y : U) × G.step p x y q) G.pre self.items f }
+        ensures items { IsMapOf G.FnMut f self.items result.items N }
+    {
+        let mapped = self.map_into_array(f);
+        FieldArray::new(mapped)
+    }
+}
+
+/// The entry at an index, which has to be below N. Upstream's `Index`.
+impl<F: Inhabited, const N: usize> Index<usize> for FieldArray<F, N> {
+    type Output = F;
+
+    ghost can_index = { λ a i. i < N };
+
+    ghost index_gives = { λ a i x. x ≡ slice_index_or a.items i x };
+
+    /// The entry at `index`; a call at an index of N or above is refused.
+    #[inline]
+    fn index(&self, index: usize) -> &F {
+        &self.0[index]
+    }
 }
 
 /// Zero in each entry. Upstream's `Default`.
@@ -94,7 +144,7 @@ impl<F: Inhabited, const N: usize> From<[F; N]> for FieldArray<F, N> {
 
 impl<F: Inhabited + PartialEq, const N: usize> PartialEq for FieldArray<F, N> {
     ghost use Rattle.std.specs.Cmp.Lexicographic.{pointwise};
-    ghost use Rattle.p3_array.specs.Values.{rows_per};
+    ghost use Rattle.p3_array.specs.ArrayEquality.{rows_per};
 
     ghost eq = { λ x y. pointwise F.eq x.items y.items };
 
@@ -107,7 +157,7 @@ impl<F: Inhabited + PartialEq, const N: usize> PartialEq for FieldArray<F, N> {
 }
 
 impl<F: Inhabited + Eq, const N: usize> Eq for FieldArray<F, N> {
-    ghost use Rattle.p3_array.specs.Values.{rows_equiv};
+    ghost use Rattle.p3_array.specs.ArrayEquality.{rows_equiv};
 
     ghost laws = { rows_equiv F.Eq.laws };
 }

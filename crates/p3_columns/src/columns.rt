@@ -2,19 +2,9 @@
 ghost use Rattle.std.specs.Prelude.{◌≡◌, ◌<◌, ℕ, length, get_or, slice_get, Some};
 ghost use Rattle.p3_columns.specs.Columns.{column};
 
-use p3_base::packed_traits::{Packable, PackedValue};
+use crate::entries::entry_at;
+use p3_base::packed_traits::PackedValue;
 use p3_spaces::columnwise::AsRow;
-
-/// Entry c of row l.
-#[inline]
-fn entry_at<V: Packable, const N: usize>(rows: &[[V; N]], l: usize, c: usize) -> V
-    requires row { l < length rows.now }
-    requires index { c < N }
-    ensures { (d e : V) → result ≡ get_or (column d c rows.now) l e }
-{
-    let row = &rows[l];
-    row[c]
-}
 
 /// The packing whose lane l is entry c of row l.
 #[inline]

@@ -46,6 +46,10 @@ pub use Rattle.p3_spaces.specs.CoefficientSums
 pub use Rattle.p3_spaces.specs.Streams
 pub use Rattle.p3_tools.specs.BackwardRuns
 pub use Rattle.p3_tools.specs.PairedRuns
+pub use Rattle.p3_array.specs.ArrayFields
+pub use Rattle.p3_array.specs.ArrayEquality
+pub use Rattle.p3_packings.specs.CappedPowers
+pub use Rattle.p3_packings.specs.Transposition
 pub use Rattle.p3_batch_inverse.specs.BatchProducts
 pub use Rattle.p3_batch_inverse.specs.Chains
 pub use Rattle.p3_batch_inverse.specs.Inverses

@@ -1,2 +1,3 @@
 pub mod PackedValues
 pub mod ValueLanes
+pub mod Quotients

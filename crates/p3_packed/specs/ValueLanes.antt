@@ -1,7 +1,8 @@
 -- Lanes of extension values side by side.
 use Rattle.std.specs.Prelude.{◌≡◌, ◌<◌, ◌+◌, ℕ, List, [], ◌∷◌, length, map, get_or, replicate, refl, Some, slice_get, slice_set}
-use Rattle.std.proofs.Common.{ap, ap₂, ◌∙◌, sym, arith}
-use Rattle.std.proofs.lemmas.List.{ext_get_or, get_or-map, get_or-set_same, get_or-set_other}
+use Rattle.std.proofs.Common.{ap, ap₂, ◌∙◌, sym, arith, inl, inr}
+use Rattle.std.proofs.lemmas.Bool.{cases_eq}
+use Rattle.std.proofs.lemmas.List.{ext_get_or, get_or-map, get_or-set_same, get_or-set_other, length-set}
 use Rattle.std.proofs.lemmas.Option.{slice_get-get_or}
 use borrow.Author.Count.{below_more}
 use Rattle.p3_theory.specs.Rings.Ring.{Ops, Hom}
@@ -66,6 +67,15 @@ module _ {F P : Type 0} (Q : Ops F) (lanes : P → List F) (w : ℕ) where
   lane_of_spread e inj k h [] = refl
   lane_of_spread e inj k h (x ∷ v) = ap₂ (λ u t. u ∷ t) (at_replicate w k x Q.zero _ h (inj x)) (lane_of_spread e inj k h v)
 
+  -- lane l is written of one coefficient more
+  pub one_more_written : (l : ℕ) (old xs : List P) (v : List F) (i : ℕ) (q : P) → i < length xs
+      → ((p : P) (j : ℕ) → j < i → lanes (get_or xs j p) ≡ slice_set (lanes (get_or old j p)) l (get_or v j Q.zero))
+      → ((p : P) → lanes q ≡ slice_set (lanes (get_or old i p)) l (get_or v i Q.zero))
+      → (p : P) (j : ℕ) → j < i + 1 → lanes (get_or (slice_set xs i q) j p) ≡ slice_set (lanes (get_or old j p)) l (get_or v j Q.zero)
+  one_more_written l old xs v i q b h e p =
+      below_more (λ j. lanes (get_or (slice_set xs i q) j p) ≡ slice_set (lanes (get_or old j p)) l (get_or v j Q.zero)) i
+      (λ j t. ap lanes (get_or-set_other xs i j q p (omega arith)) ∙ h p j t) (ap lanes (get_or-set_same xs i q p b) ∙ e p)
+
 module _ {F P S : Type 0} {D : ℕ} (O : Ops P) (Q : Ops F) (lanes : P → List F) (w : ℕ) where
   -- the lanes of a value: lane k is the extension value of lane k of each coefficient
   abbrev pub value_lanes : PackedExtField F D S P → List (ExtField F D S F)
@@ -116,6 +126,35 @@ module _ {F P S : Type 0} {D : ℕ} (O : Ops P) (Q : Ops F) (lanes : P → List 
       (H.length-map (lane Q lanes k) x.value.value ∙ x.value.sized ∙ sym r.sized)
       (λ i c. let inside : i < D = omega (arith, c, H.length-map (lane Q lanes k) x.value.value, x.value.sized) in
       get_or-map (lane Q lanes k) x.value.value i O.zero Q.zero (omega (arith, inside, x.value.sized)) ∙ h O.zero i inside)))
+
+  -- a lane is written where it is written of each coefficient
+  pub lane_written : ((p : P) → length (lanes p) ≡ w) → (x y : PackedExtField F D S P) (v : ExtField F D S F) (k : ℕ) → k < w
+      → ((p : P) (i : ℕ) → i < D → lanes (get_or y.value.value i p) ≡ slice_set (lanes (get_or x.value.value i p)) k (get_or v.value i Q.zero))
+      → value_lanes y ≡ slice_set (value_lanes x) k v
+  lane_written long x y v k inside h =
+      let coefficient : (z : PackedExtField F D S P) (j i : ℕ) → i < D → get_or (map (lane Q lanes j) z.value.value) i Q.zero ≡ lane Q lanes j (get_or z.value.value i O.zero) =
+      λ z j i b. get_or-map (lane Q lanes j) z.value.value i O.zero Q.zero (omega (arith, b, z.value.sized)) in
+      let below : (u : ExtField F D S F) (i : ℕ) → i < length u.value → i < D = λ u i b. omega (arith, b, u.sized) in
+      let whole : length (value_lanes x) ≡ w = length-tabulate w _ in
+      ext_get_or v (value_lanes y) (slice_set (value_lanes x) k v) (omega (arith, whole, length-tabulate w (λ j. value_lane (lane Q lanes j) y), length-set {A = ExtField F D S F}))
+      (λ j b.
+      let lt : j < w = omega (arith, b, length-tabulate w (λ j. value_lane (lane Q lanes j) y)) in
+      at_lane v y j lt
+      ∙ elim (cases_eq j k) [
+        | inl same ↦
+            same_value _ _ (ext_get_or Q.zero (map (lane Q lanes j) y.value.value) v.value (H.length-map (lane Q lanes j) y.value.value ∙ y.value.sized ∙ sym v.sized)
+            (λ i c. let n : i < D = omega (arith, c, H.length-map (lane Q lanes j) y.value.value, y.value.sized) in
+            coefficient y j i n ∙ ap (λ l. get_or l j Q.zero) (h O.zero i n) ∙ ap (λ m. get_or (slice_set (lanes (get_or x.value.value i O.zero)) k (get_or v.value i Q.zero)) m Q.zero) same
+            ∙ get_or-set_same (lanes (get_or x.value.value i O.zero)) k (get_or v.value i Q.zero) Q.zero (omega (arith, inside, long (get_or x.value.value i O.zero)))))
+            ∙ sym (ap (λ m. get_or (slice_set (value_lanes x) k v) m v) same ∙ get_or-set_same (value_lanes x) k v v (omega (arith, inside, whole)))
+        | inr other ↦
+            same_value _ _ (ext_get_or Q.zero (map (lane Q lanes j) y.value.value) (map (lane Q lanes j) x.value.value)
+            (H.length-map (lane Q lanes j) y.value.value ∙ y.value.sized ∙ sym x.value.sized ∙ sym (H.length-map (lane Q lanes j) x.value.value))
+            (λ i c. let n : i < D = omega (arith, c, H.length-map (lane Q lanes j) y.value.value, y.value.sized) in
+            coefficient y j i n ∙ ap (λ l. get_or l j Q.zero) (h O.zero i n)
+            ∙ get_or-set_other (lanes (get_or x.value.value i O.zero)) k j (get_or v.value i Q.zero) Q.zero other ∙ sym (coefficient x j i n)))
+            ∙ sym (get_or-set_other (value_lanes x) k j v v other ∙ at_lane v x j lt)
+      ])
 
   -- one more coefficient is written
   pub one_more_coefficient : (old : List P) (slice : List (ExtField F D S F)) (i : ℕ) (q : P) → i < length old

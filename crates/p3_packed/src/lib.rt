@@ -3,6 +3,7 @@
 
 pub mod algebra;
 pub mod basis;
+mod division;
 pub mod extension_values;
 pub mod packed_ext_field;
 pub mod packed_field_extension;

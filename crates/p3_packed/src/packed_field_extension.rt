@@ -4,9 +4,9 @@ use crate::packed_ext_field::{PackedExtField, Packing};
 use p3_base::field::Field;
 use p3_base::packed_traits::{Packable, PackedField, PackedValue};
 use p3_ext::extension::{ExtField, ExtensionOverAlgebra, ExtensionShape, FrobeniusExtendable};
+use p3_packings::extension_lanes::ExtensionLanes;
+use p3_packings::packed_field_extension::PackedFieldExtension;
 use p3_ring::ring::{Algebra, PrimeCharacteristicRing};
-use p3_spaces::extension_lanes::ExtensionLanes;
-use p3_spaces::packed_field_extension::PackedFieldExtension;
 
 /// The packing of coefficient i of the values.
 #[inline]
@@ -74,6 +74,17 @@ impl<
             value[i] = PackedValue::extract(&part, lane);
         }
         ExtField::<F, D, S, F>::new(value)
+    }
+
+    #[inline]
+    fn set_ext_lane(&mut self, lane: usize, value: ExtField<F, D, S, F>) {
+        let mut parts = self.value.value;
+        for i in 0..D {
+            let mut part = parts[i];
+            part.set_lane(lane, value.value[i]);
+            parts[i] = part;
+        }
+        *self = Self::new(parts);
     }
 
     ghost ext_lengths = { λ x. length-tabulate P.WIDTH _ };

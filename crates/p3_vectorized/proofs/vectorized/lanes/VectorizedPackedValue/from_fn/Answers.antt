@@ -2,7 +2,7 @@ use Rattle.std.specs.Prelude.{◌*◌}
 use Rattle.std.proofs.Common.{arith, ap}
 use borrow.Author.Rules.{of_calls}
 use Rattle.p3_vectorized.specs.VectorLists.{vector_lanes, length-lanes}
-use Rattle.p3_vectorized.specs.CallsInTurn.{answered-none, answered-callable, answered-more, answered-all}
+use Rattle.p3_packings.specs.CallsInTurn.{answered-none, answered-callable, answered-more, answered-all}
 use Rattle.p3_vectorized.proofs.vectorized.lanes.VectorizedPackedValue.from_fn.Goals as goal
 
 pub loop-lane-init : goal.loop-lane-init

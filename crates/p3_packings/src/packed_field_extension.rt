@@ -1,12 +1,17 @@
-ghost use Rattle.std.specs.Prelude.{◌≡◌, ◌<◌, ℕ, map, replicate, get_or};
+ghost use Rattle.std.specs.Prelude.{◌≡◌, ◌<◌, ℕ, length, map, replicate, get_or};
+ghost use Rattle.std.specs.Int.{div_ceil};
 ghost use Rattle.p3_theory.specs.Lanes.Lanes.{lane};
+ghost use Rattle.p3_ring.specs.BoundedSequence.{terms};
+ghost use Rattle.p3_base.specs.PackedPowers.{PacksTerms};
+ghost use Rattle.p3_packings.specs.CappedPowers.{PacksPowers};
 
-use crate::basis::BasedVectorSpace;
-use crate::extension_field::ExtensionField;
 use crate::extension_lanes::ExtensionLanes;
 use p3_base::field::Field;
 use p3_base::packed_traits::{Packable, PackedField};
+use p3_ring::powers::{BoundedPowers, Powers};
 use p3_ring::ring::Algebra;
+use p3_spaces::basis::BasedVectorSpace;
+use p3_spaces::extension_field::ExtensionField;
 
 /// Values of an extension side by side: what an operation gives at a lane is the extension's own
 /// operation on that lane, and the coefficients at a lane are that lane of the coefficients. Upstream's
@@ -29,6 +34,34 @@ pub trait PackedFieldExtension<F: Field, EF: ExtensionField<F>>: ExtensionLanes<
 
     /// An extension value as a packing holds the value in all lanes.
     ghost ext_injects: { (e : EF) → Self.ext_lanes (⟦<Self as Algebra<EF>>⟧.embed e) ≡ replicate Self.Base.WIDTH e };
+
+    /// The powers of the base from one upward, `LANES` of them in each item. Upstream's
+    /// `packed_ext_powers`.
+    #[inline]
+    final fn packed_ext_powers(base: EF) -> Powers<Self>
+        ensures { PacksTerms Self.ops EF.ops Self.ext_lanes Self.LANES result.base result.current base EF.ops.one }
+    {
+        let mut current = Self::zero();
+        let mut power = EF::one();
+        for lane in 0..Self::LANES {
+            current.set_ext_lane(lane, power);
+            power *= base;
+        }
+        Powers {
+            base: <Self as From<EF>>::from(power),
+            current,
+        }
+    }
+
+    /// The items of `packed_ext_powers` that `unpacked_len` powers need: their number is that length
+    /// divided by `LANES`, rounded up. Upstream's `packed_ext_powers_capped`.
+    #[inline]
+    final fn packed_ext_powers_capped(base: EF, unpacked_len: usize) -> BoundedPowers<Self>
+        ensures count { length (terms Self.ops result) ≡ div_ceil unpacked_len Self.LANES }
+        ensures powers { PacksPowers Self.ops EF.ops Self.ext_lanes Self.LANES (terms Self.ops result) base }
+    {
+        Self::packed_ext_powers(base).take(unpacked_len.div_ceil(Self::LANES))
+    }
 }
 
 /// A packing of F packs F as an extension of itself.

@@ -1,6 +1,6 @@
 use Rattle.p3_theory.specs.Lists.TabulatedPlaces.{HoldsBelow}
 use Rattle.p3_theory.specs.Polynomials.Polynomial.{at}
-use Rattle.p3_spaces.proofs.extension_lanes.ExtensionLanes.to_ext_slice.Given as goal
+use Rattle.p3_packings.proofs.extension_lanes.ExtensionLanes.to_ext_slice.Given as goal
 
 abbrev pub invariant-loop-lane : goal.invariant-loop-lane
 invariant-loop-lane g l =

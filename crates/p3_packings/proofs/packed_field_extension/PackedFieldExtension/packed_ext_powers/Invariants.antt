@@ -1,0 +1,13 @@
+use Rattle.std.proofs.Common.{◌≡◌}
+use Rattle.p3_theory.specs.Rings.GeometricSequence.{geometric_term}
+use Rattle.p3_theory.specs.Lists.TabulatedPlaces.{HoldsBelow}
+use Rattle.p3_packings.proofs.packed_field_extension.PackedFieldExtension.packed_ext_powers.Given as goal
+
+abbrev pub invariant-loop-lane : goal.invariant-loop-lane
+invariant-loop-lane g l =
+    let o = g.EF.PrimeCharacteristicRing.ops in
+    let term = geometric_term o l.fn.base o.one in
+    record {
+      term_is : l.power ≡ term l.lane;
+      held : HoldsBelow term o.zero (g.Self.ExtensionLanes.ext_lanes l.current) l.lane;
+    }

@@ -1,0 +1,3 @@
+pub mod CallsInTurn
+pub mod CappedPowers
+pub mod Transposition

@@ -1,0 +1,136 @@
+ghost use Rattle.std.specs.Prelude.{◌≡◌, ◌<◌, ◌*◌, ◌/◌, ◌%◌, ℕ, List, length, get_or, slice_get, slice_set, Some};
+ghost use Rattle.std.specs.Array.{IsFromFnResult};
+ghost use Rattle.p3_theory.specs.Bases.Coordinates.{CallableBelow};
+ghost use Rattle.p3_theory.specs.Lanes.Lanes.{KeepsLanes};
+ghost use Rattle.p3_packings.specs.Transposition.{IsTransposed, value_at};
+
+use p3_base::field::Field;
+use p3_base::packed_traits::{Inhabited, Packable, PackedField, PackedValue};
+use p3_ring::ring::PrimeCharacteristicRing;
+
+/// Values of EF side by side, each in a lane of its own: what an operation gives at a lane is EF's own
+/// operation on that lane. It is the part of upstream's `PackedFieldExtension` that says nothing of
+/// coefficients, which are values of F, so that what reads lanes alone asks for no more. This project's
+/// own.
+pub trait ExtensionLanes<F, EF: PrimeCharacteristicRing>: PrimeCharacteristicRing + Inhabited {
+    /// The number of lanes.
+    const LANES: usize;
+
+    ghost LANES: { ℕ };
+
+    /// The values, from lane 0 upward.
+    ghost ext_lanes: { Self → List EF };
+
+    /// The values of the slice, lane by lane. The slice has `LANES` values.
+    fn from_ext_slice(slice: &[EF]) -> Self
+        requires { length slice.now ≡ LANES }
+        ensures { ext_lanes result ≡ slice.now };
+
+    /// The value of a lane below `LANES`.
+    fn extract(&self, lane: usize) -> EF
+        requires { lane < LANES }
+        ensures { slice_get (ext_lanes self.now) lane ≡ Some result };
+
+    /// Writes a lane below `LANES`; the others stay. This project's own.
+    fn set_ext_lane(&mut self, lane: usize, value: EF)
+        requires { lane < LANES }
+        ensures { ext_lanes self.new ≡ slice_set (ext_lanes self.old) lane value };
+
+    /// Each value has `LANES` lanes.
+    ghost ext_lengths: { (x : Self) → length (ext_lanes x) ≡ LANES };
+
+    /// Values with the same lanes are one value.
+    ghost ext_same: { (x y : Self) → ext_lanes x ≡ ext_lanes y → x ≡ y };
+
+    /// Each lane keeps zero, one, sums, negations and products.
+    ghost ext_keeps: { KeepsLanes Self.ops EF.ops ext_lanes LANES };
+
+    /// Writes the lanes to the slice, which has `LANES` values. Upstream's `to_ext_slice`.
+    #[inline]
+    final fn to_ext_slice(&self, out: &mut [EF])
+        requires { length out.old ≡ LANES }
+        ensures { out.new ≡ ext_lanes self.now }
+    {
+        for lane in 0..out.len() {
+            out[lane] = ExtensionLanes::<F, EF>::extract(self, lane);
+        }
+    }
+
+    /// The value whose lane i is what the closure answers at i, for i from 0 upward. Upstream's
+    /// `from_ext_fn`.
+    #[inline]
+    final fn from_ext_fn<G: FnMut(usize) -> EF>(mut f: G) -> Self
+        requires { CallableBelow G.FnMut LANES f }
+        ensures { IsFromFnResult G.FnMut f (ext_lanes result) LANES }
+    {
+        let mut packed = Self::zero();
+        for lane in 0..Self::LANES {
+            let value = f(lane);
+            packed.set_ext_lane(lane, value);
+        }
+        packed
+    }
+
+    /// Adds the value to a lane below `LANES`; the others stay. Upstream's `add_assign_lane`.
+    #[inline]
+    final fn add_assign_lane(&mut self, lane: usize, value: EF)
+        requires { lane < LANES }
+        ensures { (d : EF) → ext_lanes self.new ≡ slice_set (ext_lanes self.old) lane (EF.ops.add (get_or (ext_lanes self.old) lane d) value) }
+    {
+        let mut sum = ExtensionLanes::<F, EF>::extract(self, lane);
+        sum += value;
+        self.set_ext_lane(lane, sum);
+    }
+
+    /// Writes the values of all lanes, read as rows of `src_width` values, transposed: index
+    /// `c * height + r` of the target gets value `r * src_width + c` of the source, whose values go from
+    /// lane 0 upward, packing after packing. The target is as long as the source has values, and the
+    /// width divides that. Upstream's `unpack_transpose_into`.
+    #[inline]
+    final fn unpack_transpose_into(src: &[Self], dst: &mut [EF], src_width: usize)
+        requires width { 0 < src_width }
+        requires whole { length dst.old ≡ length src.now * LANES }
+        requires divides { length dst.old % src_width ≡ 0 }
+        ensures { IsTransposed (value_at Self.ops EF.ops ext_lanes LANES src.now) EF.ops.zero src_width (length dst.old / src_width) dst.new }
+    {
+        let height = dst.len() / src_width;
+        for c in 0..src_width {
+            for r in 0..height {
+                let i = r * src_width + c;
+                let packed = &src[i / Self::LANES];
+                let value = ExtensionLanes::<F, EF>::extract(packed, i % Self::LANES);
+                dst[c * height + r] = value;
+            }
+        }
+    }
+}
+
+/// A packing of F has its values in its lanes.
+impl<F: Field + Packable, P: PackedField<F>> ExtensionLanes<F, F> for P {
+    const LANES: usize = <P as PackedValue>::WIDTH;
+
+    ghost LANES = { P.WIDTH };
+
+    ghost ext_lanes = { P.lanes };
+
+    #[inline]
+    fn from_ext_slice(slice: &[F]) -> P {
+        P::from_slice(slice)
+    }
+
+    #[inline]
+    fn extract(&self, lane: usize) -> F {
+        PackedValue::extract(self, lane)
+    }
+
+    #[inline]
+    fn set_ext_lane(&mut self, lane: usize, value: F) {
+        self.set_lane(lane, value);
+    }
+
+    ghost ext_lengths = { P.lengths };
+
+    ghost ext_same = { P.PackedField.same };
+
+    ghost ext_keeps = { P.keeps };
+}

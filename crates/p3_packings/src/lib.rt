@@ -1,0 +1,7 @@
+//! Extension values side by side: the traits of packed extensions, and what goes by their lanes alone.
+#![tactic(auto)]
+
+pub mod ext_columns;
+pub mod extension_lanes;
+pub mod packed_field_extension;
+pub mod unpacked_ext_rows;
