@@ -181,7 +181,8 @@ impl<F: Packable, const N: usize> PackedValue for FieldArray<F, N> {
 
     #[inline]
     fn from_fn<G: FnMut(usize) -> F>(f: G) -> Self {
-        Self::new(std::array::from_fn(f))
+        let items = std::array::from_fn(f);
+        Self::new(items)
     }
 
     #[inline]
