@@ -6,8 +6,8 @@ ghost use Rattle.p3_ext.specs.Values.{ext_ops};
 ghost use Rattle.p3_runs.specs.Runs.{Fit, run};
 
 use p3_ext::extension::{ExtField, ExtensionShape, FrobeniusExtendable};
-use p3_runs::steps::Step;
 use p3_packings::extension_lanes::ExtensionLanes;
+use p3_runs::steps::Step;
 use p3_vectorized::steps::run_lane_steps;
 use p3_vectorized::vectorized_ext::VectorizedExt;
 

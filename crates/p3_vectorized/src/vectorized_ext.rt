@@ -8,10 +8,10 @@ ghost use Rattle.p3_theory.specs.Lanes.VectorLanes.{vector_lane};
 
 use crate::vectorized::Vectorized;
 use p3_base::packed_traits::Inhabited;
+use p3_packings::extension_lanes::ExtensionLanes;
 use p3_ring::accumulate::{product_from, sum_from};
 use p3_ring::ring::{PrimeCharacteristicRing, RingSums};
 use p3_spaces::basis::BasedVectorSpace;
-use p3_packings::extension_lanes::ExtensionLanes;
 use std::alloc::AllocError;
 use std::fmt;
 use std::iter::{Product, Sum};
