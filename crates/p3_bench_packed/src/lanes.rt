@@ -63,11 +63,14 @@ impl<F: Inhabited, const N: usize> Inhabited for Packed<F, N> {
 /// A packing, and no extension value.
 impl<F: Copy, const N: usize> Packing for Packed<F, N> {}
 
-/// A field whose values stand in packings of N lanes, a power of two.
+/// A field whose values stand in packings of N lanes.
 pub trait Lanes<const N: usize>: Field + Packable {
     /// There is at least one lane.
     ghost some_lane: { 0 < N };
+}
 
+/// A field whose values stand in packings of N lanes, a power of two.
+pub trait LanesPow2<const N: usize>: Lanes<N> {
     /// The number of lanes is a power of two.
     ghost power_of_two: { (k : ℕ) × (N ≡ 2 ^ k) };
 }
@@ -103,7 +106,7 @@ impl<F: Lanes<N>, const N: usize> PackedField<F> for Packed<F, N> {
     ghost divide_assigns_scalar = { λ x f r h. written_mixed_quotient packed_rows F.ops x f r (λ d k w. F.divides _ _ _ (h d k w)) };
 }
 
-impl<F: Lanes<N>, const N: usize> PackedFieldPow2<F> for Packed<F, N> {
+impl<F: LanesPow2<N>, const N: usize> PackedFieldPow2<F> for Packed<F, N> {
     #[inline]
     fn interleave(&self, other: Self, block_len: usize) -> (Self, Self) {
         if block_len == N {
@@ -125,46 +128,67 @@ impl<F: Lanes<N>, const N: usize> PackedFieldPow2<F> for Packed<F, N> {
 }
 
 impl<W: Form<T>, T: Word> Lanes<1> for Fp<W, T> {
-    ghost use Rattle.std.specs.Prelude.{refl};
     ghost use Rattle.std.proofs.Common.{lit<};
 
     ghost some_lane = { lit< tt };
+}
+
+impl<W: Form<T>, T: Word> LanesPow2<1> for Fp<W, T> {
+    ghost use Rattle.std.specs.Prelude.{refl};
 
     ghost power_of_two = { (0, refl) };
 }
 
 impl<W: Form<T>, T: Word> Lanes<2> for Fp<W, T> {
-    ghost use Rattle.std.specs.Prelude.{refl};
     ghost use Rattle.std.proofs.Common.{lit<};
 
     ghost some_lane = { lit< tt };
+}
+
+impl<W: Form<T>, T: Word> LanesPow2<2> for Fp<W, T> {
+    ghost use Rattle.std.specs.Prelude.{refl};
 
     ghost power_of_two = { (1, refl) };
 }
 
-impl<W: Form<T>, T: Word> Lanes<4> for Fp<W, T> {
-    ghost use Rattle.std.specs.Prelude.{refl};
+impl<W: Form<T>, T: Word> Lanes<3> for Fp<W, T> {
     ghost use Rattle.std.proofs.Common.{lit<};
 
     ghost some_lane = { lit< tt };
+}
+
+impl<W: Form<T>, T: Word> Lanes<4> for Fp<W, T> {
+    ghost use Rattle.std.proofs.Common.{lit<};
+
+    ghost some_lane = { lit< tt };
+}
+
+impl<W: Form<T>, T: Word> LanesPow2<4> for Fp<W, T> {
+    ghost use Rattle.std.specs.Prelude.{refl};
 
     ghost power_of_two = { (2, refl) };
 }
 
 impl<W: Form<T>, T: Word> Lanes<8> for Fp<W, T> {
-    ghost use Rattle.std.specs.Prelude.{refl};
     ghost use Rattle.std.proofs.Common.{lit<};
 
     ghost some_lane = { lit< tt };
+}
+
+impl<W: Form<T>, T: Word> LanesPow2<8> for Fp<W, T> {
+    ghost use Rattle.std.specs.Prelude.{refl};
 
     ghost power_of_two = { (3, refl) };
 }
 
 impl<W: Form<T>, T: Word> Lanes<16> for Fp<W, T> {
-    ghost use Rattle.std.specs.Prelude.{refl};
     ghost use Rattle.std.proofs.Common.{lit<};
 
     ghost some_lane = { lit< tt };
+}
+
+impl<W: Form<T>, T: Word> LanesPow2<16> for Fp<W, T> {
+    ghost use Rattle.std.specs.Prelude.{refl};
 
     ghost power_of_two = { (4, refl) };
 }

@@ -14,7 +14,8 @@ pub fn add_words(left: u32, right: u32, order: u32) -> u32
     if sum < order { sum } else { sum - order }
 }
 
-/// The difference of two residues.
+/// The difference of two residues: of the wrapping difference and that with the order more the smaller
+/// one, which vectors have as one step.
 #[inline]
 pub fn subtract_words(left: u32, right: u32, order: u32) -> u32
     requires fits { order < 2 ^ 31 }
@@ -23,11 +24,8 @@ pub fn subtract_words(left: u32, right: u32, order: u32) -> u32
     ensures below { result < order }
     ensures value { result ≡ (left + (order - right)) % order }
 {
-    if left < right {
-        left + (order - right)
-    } else {
-        left - right
-    }
+    let difference = left.wrapping_sub(right);
+    difference.min(difference.wrapping_add(order))
 }
 
 /// The negation of a residue.

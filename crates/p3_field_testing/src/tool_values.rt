@@ -61,13 +61,13 @@ fn slices_in_place(rt: HostRuntime) {
     let other = [BabyBear::new(10), BabyBear::new(20)];
     let scale = BabyBear::new(3);
     let mut slice = [BabyBear::new(1), BabyBear::new(2)];
-    add_scaled_slice_in_place(&mut slice, &other, scale);
+    add_scaled_slice_in_place::<BabyBear, BabyBear>(&mut slice, &other, scale);
     assert_eq!(rt; slice, [BabyBear::new(31), BabyBear::new(62)]);
-    par_add_scaled_slice_in_place(&mut slice, &other, scale);
+    par_add_scaled_slice_in_place::<BabyBear, BabyBear>(&mut slice, &other, scale);
     assert_eq!(rt; slice, [BabyBear::new(61), BabyBear::new(122)]);
-    scale_slice_in_place_single_core(&mut slice, scale);
+    scale_slice_in_place_single_core::<BabyBear, BabyBear>(&mut slice, scale);
     assert_eq!(rt; slice, [BabyBear::new(183), BabyBear::new(366)]);
-    par_scale_slice_in_place(&mut slice, scale);
+    par_scale_slice_in_place::<BabyBear, BabyBear>(&mut slice, scale);
     assert_eq!(rt; slice, [BabyBear::new(549), BabyBear::new(1098)]);
 }
 

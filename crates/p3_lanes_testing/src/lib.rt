@@ -11,6 +11,10 @@ mod packing_blocks;
 #[cfg(test)]
 mod packing_calls;
 #[cfg(test)]
+mod packing_list_calls;
+#[cfg(test)]
+mod packing_list_tables;
+#[cfg(test)]
 mod packing_tables;
 #[cfg(test)]
 mod tables;

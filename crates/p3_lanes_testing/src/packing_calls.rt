@@ -3,6 +3,10 @@
 ghost use Rattle.std.specs.Prelude.{◌≤◌, ◌+◌, ◌*◌, IfSome};
 
 use crate::packing_blocks::{holds, packing, value_at};
+use crate::packing_list_calls::{added, are_powers, columns_agree, scaled, sums_agree};
+use crate::packing_list_tables::{
+    BABY_BEAR_LISTS, F2_LISTS, F17_LISTS, F31_LISTS, GOLDILOCKS_LISTS, KOALA_BEAR_LISTS, Z15_LISTS,
+};
 use crate::packing_tables::{
     BABY_BEAR_CALLS, Call, F2_CALLS, F17_CALLS, F31_CALLS, GOLDILOCKS_CALLS, KOALA_BEAR_CALLS,
     Z15_CALLS,
@@ -32,8 +36,22 @@ fn agrees<F: Field, P: PackedField<F>>(
     let first = sides.next().unwrap_or("");
     let second = sides.next().unwrap_or("");
     let third = sides.next().unwrap_or("");
-    if call == "store_block" {
-        return stored::<F, P>(alloc, first, second, third, answer);
+    match call {
+        "store_block" => return stored::<F, P>(alloc, first, second, third, answer),
+        "packed_powers" | "packed_shifted_powers" => {
+            return Ok(are_powers::<F, P>(first, second, answer));
+        }
+        "scale_slice_in_place_single_core" => {
+            return scaled::<F, P>(alloc, first, second, answer);
+        }
+        "add_scaled_slice_in_place" => {
+            return added::<F, P>(alloc, [first, second, third], answer);
+        }
+        "coeffwise_dot_product" => return sums_agree::<F, P>(alloc, arguments, answer),
+        _ => {}
+    }
+    if let Some(agree) = columns_agree::<F, P>(alloc, call, arguments, answer)? {
+        return Ok(Some(agree));
     }
     let given = match call {
         "dot_product" => Some(product::<F, P>(alloc, first, second)?),
@@ -55,6 +73,7 @@ fn operation<F: Field, P: PackedField<F>>(call: &str, left: &str, right: &str) -
     let before = value_at::<F>(left, 0)?;
     let after = value_at::<F>(right, 0).unwrap_or(F::zero());
     match call {
+        "broadcast" => Some(P::broadcast(before)),
         "add" => Some(x + y),
         "sub" => Some(x - y),
         "mul" => Some(x * y),
@@ -175,11 +194,26 @@ fn values<F: Field>(alloc: Global, text: &str) -> Result<Vec<F>, AllocError> {
     Ok(values)
 }
 
-/// `agrees` over the packings of a prime field in words of 32 bits with 1, 4 or 8 lanes.
+/// Calls on packings of three lanes over `f17`, a width that is no power of two and no vector's. The
+/// answers were reckoned by hand.
+const THREE_LANES: [Call; 9] = [
+    (3, "add", "14,16,6|16,3,8", "13,2,14"),
+    (3, "sub", "0,5,16|1,5,3", "16,0,13"),
+    (3, "mul", "2,3,4|9,6,13", "1,1,1"),
+    (3, "square", "4,13,16", "16,16,1"),
+    (3, "mul scalar", "1,2,3|6", "6,12,1"),
+    (3, "dot_product", "1,2,3 4,5,6|1,1,1 2,2,2", "9,12,15"),
+    (3, "set_lane", "1,2,3|2|16", "1,2,16"),
+    (3, "load_block", "1,2,3,4,5,6,7|1", "4,5,6"),
+    (3, "store_block", "9,9,9|1,2,3,4,5,6,7|1", "1,2,3,9,9,9,7"),
+];
+
+/// `agrees` over the packings of a prime field in words of 32 bits with 1, 3, 4 or 8 lanes.
 fn over<W: Form<u32>>(alloc: Global, row: Call) -> Result<Option<bool>, AllocError> {
     let (width, call, arguments, answer) = row;
     match width {
         1 => agrees::<Fp<W>, Packed<Fp<W>, 1>>(alloc, call, arguments, answer),
+        3 => agrees::<Fp<W>, Packed<Fp<W>, 3>>(alloc, call, arguments, answer),
         4 => agrees::<Fp<W>, Packed<Fp<W>, 4>>(alloc, call, arguments, answer),
         8 => agrees::<Fp<W>, Packed<Fp<W>, 8>>(alloc, call, arguments, answer),
         _ => Ok(None),
@@ -207,9 +241,24 @@ fn assert_calls<W: Form<u32>>(rt: &(impl Abort + AllocGlobal), rows: &[Call]) ->
 }
 
 #[test]
+fn lists_of_packings(rt: HostRuntime) -> Result<(), Fail> {
+    assert_calls::<Plain<M2>>(&rt, &F2_LISTS)?;
+    assert_calls::<Plain<M17>>(&rt, &F17_LISTS)?;
+    assert_calls::<Plain<M31>>(&rt, &F31_LISTS)?;
+    assert_calls::<Plain<M15>>(&rt, &Z15_LISTS)?;
+    assert_calls::<Plain<BabyBearModulus>>(&rt, &BABY_BEAR_LISTS)?;
+    assert_calls::<Plain<KoalaBearModulus>>(&rt, &KOALA_BEAR_LISTS)?;
+    for row in GOLDILOCKS_LISTS {
+        assert_eq!(rt; over_long::<GoldilocksForm>(rt.alloc(), row)?, Some(true));
+    }
+    Ok(())
+}
+
+#[test]
 fn calls_on_packings(rt: HostRuntime) -> Result<(), Fail> {
     assert_calls::<Plain<M2>>(&rt, &F2_CALLS)?;
     assert_calls::<Plain<M17>>(&rt, &F17_CALLS)?;
+    assert_calls::<Plain<M17>>(&rt, &THREE_LANES)?;
     assert_calls::<Plain<M31>>(&rt, &F31_CALLS)?;
     assert_calls::<Plain<M15>>(&rt, &Z15_CALLS)?;
     assert_calls::<Plain<BabyBearModulus>>(&rt, &BABY_BEAR_CALLS)?;

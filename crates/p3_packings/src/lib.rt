@@ -2,6 +2,7 @@
 #![tactic(auto)]
 
 pub mod ext_columns;
+pub mod ext_lane_items;
 pub mod extension_lanes;
 pub mod packed_field_extension;
 pub mod unpacked_ext_rows;

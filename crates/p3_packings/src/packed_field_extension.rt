@@ -1,10 +1,14 @@
-ghost use Rattle.std.specs.Prelude.{◌≡◌, ◌<◌, ℕ, length, map, replicate, get_or};
+ghost use Rattle.std.specs.Prelude.{◌≡◌, ◌<◌, ◌*◌, ℕ, List, length, map, replicate, get_or};
 ghost use Rattle.std.specs.Int.{div_ceil};
+ghost use Rattle.std.specs.List.{flat_map};
+ghost use Rattle.std.specs.Iterator.{IsFinite, UpTo, size};
 ghost use Rattle.p3_theory.specs.Lanes.Lanes.{lane};
 ghost use Rattle.p3_ring.specs.BoundedSequence.{terms};
 ghost use Rattle.p3_base.specs.PackedPowers.{PacksTerms};
 ghost use Rattle.p3_packings.specs.CappedPowers.{PacksPowers};
+ghost use Rattle.p3_spaces.specs.Streams.{YieldsExactly, DrawnFrom};
 
+use crate::ext_lane_items::ExtLaneItems;
 use crate::extension_lanes::ExtensionLanes;
 use p3_base::field::Field;
 use p3_base::packed_traits::{Packable, PackedField};
@@ -12,6 +16,7 @@ use p3_ring::powers::{BoundedPowers, Powers};
 use p3_ring::ring::Algebra;
 use p3_spaces::basis::BasedVectorSpace;
 use p3_spaces::extension_field::ExtensionField;
+use std::marker::PhantomData;
 
 /// Values of an extension side by side: what an operation gives at a lane is the extension's own
 /// operation on that lane, and the coefficients at a lane are that lane of the coefficients. Upstream's
@@ -61,6 +66,26 @@ pub trait PackedFieldExtension<F: Field, EF: ExtensionField<F>>: ExtensionLanes<
         ensures powers { PacksPowers Self.ops EF.ops Self.ext_lanes Self.LANES (terms Self.ops result) base }
     {
         Self::packed_ext_powers(base).take(unpacked_len.div_ceil(Self::LANES))
+    }
+
+    /// The values in the lanes of the packings, from lane 0 upward, packing after packing. Upstream's
+    /// `to_ext_iter`.
+    #[inline]
+    final fn to_ext_iter<I: Iterator<Item = Self>>(iter: I) -> ExtLaneItems<I, F, EF, Self>
+        requires can { I.can_next iter }
+        requires ends { IsFinite (I.remaining iter) }
+        ensures can { ⟦<ExtLaneItems<I, F, EF, Self> as Iterator>⟧.can_next result }
+        ensures count { UpTo (⟦<ExtLaneItems<I, F, EF, Self> as Iterator>⟧.remaining result) (Self.LANES * size (I.remaining iter)) }
+        ensures all { (xs : List Self) → YieldsExactly I.next_gives iter xs
+            → YieldsExactly ⟦<ExtLaneItems<I, F, EF, Self> as Iterator>⟧.next_gives result (flat_map Self.ext_lanes xs) }
+        ensures drawn { DrawnFrom ⟦<ExtLaneItems<I, F, EF, Self> as Iterator>⟧.next_gives I.next_gives result iter (λ values xs. values ≡ flat_map Self.ext_lanes xs) }
+    {
+        ExtLaneItems {
+            source: iter,
+            packed: None,
+            lane: 0,
+            values: PhantomData,
+        }
     }
 }
 

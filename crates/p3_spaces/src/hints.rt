@@ -25,7 +25,7 @@ pub(crate) fn held_hint<B: Iterator<Item = u8>>(reader: &Option<B>) -> (usize, O
 /// The hint of a stream that holds some bytes, and makes `width` bytes of each item of its source.
 /// This project's own.
 #[inline]
-pub(crate) fn bytes_hint(
+pub fn bytes_hint(
     held: (usize, Option<usize>),
     width: usize,
     items: (usize, Option<usize>),

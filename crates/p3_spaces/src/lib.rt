@@ -8,7 +8,7 @@ pub mod columnwise;
 pub mod extension_field;
 pub mod field_bounds;
 pub mod field_bytes;
-mod hints;
+pub mod hints;
 pub mod in_memory;
 pub mod monomials;
 pub mod parallel_streams;

@@ -1,1 +1,2 @@
+pub mod GroupSteps
 pub mod YieldedItems

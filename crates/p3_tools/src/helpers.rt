@@ -12,6 +12,7 @@ ghost use Rattle.p3_tools.specs.BackwardRuns.{RunsBackward, IfYieldsBackward};
 ghost use Rattle.p3_tools.specs.PairedRuns.{RunInPairs, IfBothYield};
 
 use p3_base::field::Field;
+use p3_base::packed_traits::{PackedField, PackedValue};
 use p3_ring::powers::BoundedPowers;
 use p3_ring::ring::{Algebra, PrimeCharacteristicRing, RingSums};
 
@@ -38,9 +39,9 @@ pub fn cyclic_subgroup_coset_known_order<F: Field>(
     generator.shifted_powers(shift).take(order)
 }
 
-/// Multiplies each entry of the slice by `s`. Upstream's `scale_slice_in_place_single_core`.
+/// Multiplies each entry of the slice by `s`, one after the other. This project's own.
 #[inline]
-pub fn scale_slice_in_place_single_core<F: Field>(slice: &mut [F], s: F)
+fn scale_entries<F: Field>(slice: &mut [F], s: F)
     ensures { slice.new ≡ map (λ x. F.ops.mul x s) slice.old }
 {
     for x in slice.iter_mut() {
@@ -48,18 +49,32 @@ pub fn scale_slice_in_place_single_core<F: Field>(slice: &mut [F], s: F)
     }
 }
 
-/// The same, under upstream's name for the work of several threads: a plain loop in order.
+/// Multiplies each entry of the slice by `s`, in packings and the rest entry by entry. Upstream's
+/// `scale_slice_in_place_single_core`.
 #[inline]
-pub fn par_scale_slice_in_place<F: Field>(slice: &mut [F], s: F)
+pub fn scale_slice_in_place_single_core<F: Field, P: PackedField<F>>(slice: &mut [F], s: F)
     ensures { slice.new ≡ map (λ x. F.ops.mul x s) slice.old }
 {
-    scale_slice_in_place_single_core(slice, s);
+    let groups = slice.len() / P::WIDTH;
+    for i in 0..groups {
+        let product = P::load_block(slice, i) * s;
+        product.store_block(slice, i);
+    }
+    scale_entries(&mut slice[groups * P::WIDTH..], s);
 }
 
-/// Adds to each entry of the slice the entry of `other` at its place times `s`. Upstream's
-/// `add_scaled_slice_in_place`.
+/// The same, under upstream's name for the work of several threads: a plain loop in order.
 #[inline]
-pub fn add_scaled_slice_in_place<F: Field>(slice: &mut [F], other: &[F], s: F)
+pub fn par_scale_slice_in_place<F: Field, P: PackedField<F>>(slice: &mut [F], s: F)
+    ensures { slice.new ≡ map (λ x. F.ops.mul x s) slice.old }
+{
+    scale_slice_in_place_single_core::<F, P>(slice, s);
+}
+
+/// Adds to each entry of the slice the entry of `other` at its index times `s`, one after the other. This
+/// project's own.
+#[inline]
+fn add_scaled_entries<F: Field>(slice: &mut [F], other: &[F], s: F)
     requires { length slice.old ≡ length other.now }
     ensures { slice.new ≡ zip_with (λ x y. F.ops.add x (F.ops.mul y s)) slice.old other.now }
 {
@@ -68,13 +83,35 @@ pub fn add_scaled_slice_in_place<F: Field>(slice: &mut [F], other: &[F], s: F)
     }
 }
 
-/// The same, under upstream's name for the work of several threads: a plain loop in order.
+/// Adds to each entry of the slice the entry of `other` at its index times `s`, in packings and the rest
+/// entry by entry. Upstream's `add_scaled_slice_in_place`.
 #[inline]
-pub fn par_add_scaled_slice_in_place<F: Field>(slice: &mut [F], other: &[F], s: F)
+pub fn add_scaled_slice_in_place<F: Field, P: PackedField<F>>(slice: &mut [F], other: &[F], s: F)
     requires { length slice.old ≡ length other.now }
     ensures { slice.new ≡ zip_with (λ x y. F.ops.add x (F.ops.mul y s)) slice.old other.now }
 {
-    add_scaled_slice_in_place(slice, other, s);
+    let groups = slice.len() / P::WIDTH;
+    for i in 0..groups {
+        let x = P::load_block(slice, i);
+        let y = P::load_block(other, i);
+        let sum = x + y * s;
+        sum.store_block(slice, i);
+    }
+    let done = groups * P::WIDTH;
+    add_scaled_entries(&mut slice[done..], &other[done..], s);
+}
+
+/// The same, under upstream's name for the work of several threads: a plain loop in order.
+#[inline]
+pub fn par_add_scaled_slice_in_place<F: Field, P: PackedField<F>>(
+    slice: &mut [F],
+    other: &[F],
+    s: F,
+)
+    requires { length slice.old ≡ length other.now }
+    ensures { slice.new ≡ zip_with (λ x y. F.ops.add x (F.ops.mul y s)) slice.old other.now }
+{
+    add_scaled_slice_in_place::<F, P>(slice, other, s);
 }
 
 /// The array `[x, 0, .., 0]` of length D. Upstream's `field_to_array`.

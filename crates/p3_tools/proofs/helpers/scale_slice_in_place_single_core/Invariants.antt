@@ -1,7 +1,11 @@
-use Rattle.std.proofs.Common.{◌≡◌, ◌++◌, map, take, drop}
+use Rattle.std.proofs.Common.{◌≡◌, ◌++◌, ◌*◌, length, map, take, drop}
 use Rattle.p3_tools.proofs.helpers.scale_slice_in_place_single_core.Given as goal
 
-abbrev pub invariant-loop-x : goal.invariant-loop-x
-invariant-loop-x g l =
+abbrev pub invariant-loop-i : goal.invariant-loop-i
+invariant-loop-i g l =
     let scaled = λ (x : g.row.F.Denot). g.F.PrimeCharacteristicRing.ops.mul x l.s in
-    take l.x-index l.slice ++ map scaled (drop l.x-index l.slice) ≡ map scaled l.initial.slice
+    let done = l.i * g.P.PackedValue.WIDTH in
+    record {
+      long : length l.slice ≡ length l.initial.slice;
+      scaled : take done l.slice ++ map scaled (drop done l.slice) ≡ map scaled l.initial.slice;
+    }

@@ -5,25 +5,25 @@ use Rattle.p3_bench_packed.proofs.lanes.PackedPackedFieldPow2.interleave.Goals.{
 
 pub overflow_add-second : goal.overflow_add-second
 overflow_add-second g c =
-    let next = pair_after g.row.N c.args.block_len c.loop-i.i g.F.Lanes.power_of_two c.requires.power c.requires.divides c.if-block_len.false c.loop-i-test.true
+    let next = pair_after g.row.N c.args.block_len c.loop-i.i g.F.LanesPow2.power_of_two c.requires.power c.requires.divides c.if-block_len.false c.loop-i-test.true
     c.if-i-block_len-eq0.true in
     omega (arith, next, g.N.fits)
 
 pub offset_bounds-self-i-then-i-block_len-eq0 : goal.offset_bounds-self-i-then-i-block_len-eq0
 offset_bounds-self-i-then-i-block_len-eq0 g c =
-    let next = pair_after g.row.N c.args.block_len c.loop-i.i g.F.Lanes.power_of_two c.requires.power c.requires.divides c.if-block_len.false c.loop-i-test.true
+    let next = pair_after g.row.N c.args.block_len c.loop-i.i g.F.LanesPow2.power_of_two c.requires.power c.requires.divides c.if-block_len.false c.loop-i-test.true
     c.if-i-block_len-eq0.true in
     omega (arith, next)
 
 pub listed-then-i-block_len-eq0-2 : goal.listed-then-i-block_len-eq0-2
 listed-then-i-block_len-eq0-2 g c =
-    let next = pair_after g.row.N c.args.block_len c.loop-i.i g.F.Lanes.power_of_two c.requires.power c.requires.divides c.if-block_len.false c.loop-i-test.true
+    let next = pair_after g.row.N c.args.block_len c.loop-i.i g.F.LanesPow2.power_of_two c.requires.power c.requires.divides c.if-block_len.false c.loop-i-test.true
     c.if-i-block_len-eq0.true in
     omega (arith, next, c.args.self.now.sized)
 
 pub bounds-self-i-then-i-block_len-eq0 : goal.bounds-self-i-then-i-block_len-eq0
 bounds-self-i-then-i-block_len-eq0 g c =
-    pair_after g.row.N c.args.block_len c.loop-i.i g.F.Lanes.power_of_two c.requires.power c.requires.divides c.if-block_len.false c.loop-i-test.true
+    pair_after g.row.N c.args.block_len c.loop-i.i g.F.LanesPow2.power_of_two c.requires.power c.requires.divides c.if-block_len.false c.loop-i-test.true
     c.if-i-block_len-eq0.true
 
 pub loop-i-preserved : goal.loop-i-preserved
@@ -36,7 +36,7 @@ loop-i-preserved g c =
       | then-i-block_len-eq0 w ↦
           even_more c.args.block_len s.i g.row.N x.value y.value s.first s.second c.if-i-block_len-eq0.first c.if-i-block_len-eq0.second _ _ c.loop-i-test.true m.0 m.1
           x.sized
-          (pair_after g.row.N c.args.block_len s.i g.F.Lanes.power_of_two c.requires.power c.requires.divides c.if-block_len.false c.loop-i-test.true w.if-i-block_len-eq0.true)
+          (pair_after g.row.N c.args.block_len s.i g.F.LanesPow2.power_of_two c.requires.power c.requires.divides c.if-block_len.false c.loop-i-test.true w.if-i-block_len-eq0.true)
           w.if-i-block_len-eq0.true w.first-is w.second-is m.2
       | else-i-block_len-eq0 w ↦
           odd_more c.args.block_len s.i g.row.N x.value y.value s.first s.second c.if-i-block_len-eq0.first c.if-i-block_len-eq0.second _ _ c.loop-i-test.true m.0 m.1

@@ -1,0 +1,111 @@
+-- Slices that are changed group after group of w entries, and then entry after entry.
+use Rattle.std.specs.Prelude.{◌≡◌, ◌<◌, ◌≤◌, ◌+◌, ◌-◌, ◌*◌, ◌/◌, ℕ, zero, suc, List, [], ◌∷◌, ◌++◌, length, map, take, drop, get_or, replicate, slice_range}
+use Rattle.std.proofs.Common.{arith, ap, ap₂, sym, refl, ◌∙◌, take-add, drop-drop, append_assoc}
+use Rattle.std.proofs.lemmas.Nat.{div-add-mod'}
+use Rattle.std.proofs.lemmas.List.{get_or-map, ext_get_or}
+use Rattle.std.proofs.Math.Nat.{suc-mul, mul-le-mul_right}
+use Rattle.p3_theory.specs.Rings.Ring.{Ops, Hom}
+use Rattle.p3_theory.specs.Lanes.Lanes.{lane, KeepsLanes, at_replicate}
+use Rattle.p3_theory.specs.Lists.PairedLists.{zip_with}
+
+module _ (w : ℕ) where
+  -- a group below the quotient lies whole in the slice
+  pub group_fits : (n i : ℕ) → i < n / w → i * w + w ≤ n
+  group_fits n i h =
+      let next : suc i * w ≤ (n / w) * w = mul-le-mul_right w (omega (arith, h)) in
+      omega (arith, next, suc-mul i w, div-add-mod' n w)
+
+  -- so do all of them
+  pub groups_fit : (n : ℕ) → (n / w) * w ≤ n
+  groups_fit n = omega (arith, div-add-mod' n w)
+
+module _ {A : Type 0} where
+  range_is : (xs : List A) (a w : ℕ) → slice_range xs a (a + w) ≡ take w (drop a xs)
+  range_is xs a w = let e : a + w - a ≡ w = omega arith in ap (λ n. take n (drop a xs)) e
+
+  -- the front with a group more
+  front : (new : List A) (a w : ℕ) → take (a + w) new ≡ take a new ++ slice_range new a (a + w)
+  front new a w = take-add a w new ∙ ap (λ l. take a new ++ l) (sym (range_is new a w))
+
+  zip-nil : (g : A → A → A) (xs : List A) → [] ≡ zip_with g xs []
+  zip-nil g [] = refl
+  zip-nil g (x ∷ xs) = refl
+
+  zip-split : (g : A → A → A) (w : ℕ) (xs ys : List A) → zip_with g xs ys ≡ zip_with g (take w xs) (take w ys) ++ zip_with g (drop w xs) (drop w ys)
+  zip-split g zero xs ys = refl
+  zip-split g (suc w) [] ys = refl
+  zip-split g (suc w) (x ∷ xs) [] = zip-nil g (drop w xs)
+  zip-split g (suc w) (x ∷ xs) (y ∷ ys) = ap (λ l. g x y ∷ l) (zip-split g w xs ys)
+
+  map-split : (f : A → A) (w : ℕ) (xs : List A) → map f xs ≡ map f (take w xs) ++ map f (drop w xs)
+  map-split f zero xs = refl
+  map-split f (suc w) [] = refl
+  map-split f (suc w) (x ∷ xs) = ap (λ l. f x ∷ l) (map-split f w xs)
+
+  joined : (new old part rest whole : List A) (a w : ℕ) → take a new ≡ take a old → slice_range new a (a + w) ≡ part → take a old ++ (part ++ rest) ≡ whole → take (a + w) new ++ rest ≡ whole
+  joined new old part rest whole a w before group h =
+      ap (λ l. l ++ rest) (front new a w ∙ ap₂ (λ p q. p ++ q) before group) ∙ append_assoc (take a old) part rest ∙ h
+
+  -- a group is mapped
+  pub mapped_group : (f : A → A) (new old initial : List A) (a w : ℕ) → take a new ≡ take a old → slice_range new a (a + w) ≡ map f (slice_range old a (a + w))
+      → drop (a + w) new ≡ drop (a + w) old → take a old ++ map f (drop a old) ≡ map f initial → take (a + w) new ++ map f (drop (a + w) new) ≡ map f initial
+  mapped_group f new old initial a w before group after h =
+      ap (λ l. take (a + w) new ++ map f l) after
+      ∙ joined new old (map f (take w (drop a old))) (map f (drop (a + w) old)) (map f initial) a w before (group ∙ ap (map f) (range_is old a w))
+      (ap (λ l. take a old ++ l) (ap (λ l. map f (take w (drop a old)) ++ map f l) (sym (drop-drop w a old)) ∙ sym (map-split f w (drop a old))) ∙ h)
+
+  -- a group is combined with that of another slice
+  pub combined_group : (g : A → A → A) (new old other initial : List A) (a w : ℕ) → take a new ≡ take a old → slice_range new a (a + w) ≡ zip_with g (slice_range old a (a + w)) (slice_range other a (a + w))
+      → drop (a + w) new ≡ drop (a + w) old → take a old ++ zip_with g (drop a old) (drop a other) ≡ zip_with g initial other
+      → take (a + w) new ++ zip_with g (drop (a + w) new) (drop (a + w) other) ≡ zip_with g initial other
+  combined_group g new old other initial a w before group after h =
+      let part = zip_with g (take w (drop a old)) (take w (drop a other)) in
+      ap (λ l. take (a + w) new ++ zip_with g l (drop (a + w) other)) after
+      ∙ joined new old part (zip_with g (drop (a + w) old) (drop (a + w) other)) (zip_with g initial other) a w before (group ∙ ap₂ (zip_with g) (range_is old a w) (range_is other a w))
+      (ap (λ l. take a old ++ l)
+      (ap₂ (λ l m. part ++ zip_with g l m) (sym (drop-drop w a old)) (sym (drop-drop w a other)) ∙ sym (zip-split g w (drop a old) (drop a other)))
+      ∙ h)
+
+  length-mapped : (f : A → A) (xs : List A) → length (map f xs) ≡ length xs
+  length-mapped f [] = refl
+  length-mapped f (x ∷ xs) = ap suc (length-mapped f xs)
+
+  length-zip : (g : A → A → A) (xs ys : List A) → length xs ≡ length ys → length (zip_with g xs ys) ≡ length xs
+  length-zip g [] ys e = refl
+  length-zip g (x ∷ xs) [] e = absurd (omega (arith, e))
+  length-zip g (x ∷ xs) (y ∷ ys) e = ap suc (length-zip g xs ys (omega (arith, e)))
+
+  get-zip : (g : A → A → A) (xs ys : List A) (k : ℕ) (d : A) → length xs ≡ length ys → k < length xs → get_or (zip_with g xs ys) k d ≡ g (get_or xs k d) (get_or ys k d)
+  get-zip g [] ys k d e h = absurd (omega (arith, h))
+  get-zip g (x ∷ xs) [] k d e h = absurd (omega (arith, e))
+  get-zip g (x ∷ xs) (y ∷ ys) zero d e h = refl
+  get-zip g (x ∷ xs) (y ∷ ys) (suc k) d e h = get-zip g xs ys k d (omega (arith, e)) (omega (arith, h))
+
+module _ {P F : Type 0} (O : Ops P) (Q : Ops F) (lanes : P → List F) (w : ℕ) (lengths : (x : P) → length (lanes x) ≡ w) (keeps : KeepsLanes O Q lanes w) where
+  -- the lanes of a packing times one value in all lanes
+  pub scaled_lanes : (x y : P) (s : F) → lanes y ≡ replicate w s → lanes (O.mul x y) ≡ map (λ a. Q.mul a s) (lanes x)
+  scaled_lanes x y s all =
+      let long : length (lanes (O.mul x y)) ≡ w = lengths (O.mul x y) in
+      ext_get_or Q.zero (lanes (O.mul x y)) (map (λ a. Q.mul a s) (lanes x)) (long ∙ sym (length-mapped (λ a. Q.mul a s) (lanes x) ∙ lengths x)) (λ k h.
+      let below : k < w = omega (arith, h, long) in
+      (keeps k below).mul x y ∙ ap (Q.mul (lane Q lanes k x)) (at_replicate w k s Q.zero (lanes y) below all)
+      ∙ sym (get_or-map (λ a. Q.mul a s) (lanes x) k Q.zero Q.zero (omega (arith, below, lengths x))))
+
+  -- the lanes of a sum
+  pub summed_lanes : (x y : P) → lanes (O.add x y) ≡ zip_with Q.add (lanes x) (lanes y)
+  summed_lanes x y =
+      let long : length (lanes (O.add x y)) ≡ w = lengths (O.add x y) in
+      let alike : length (lanes x) ≡ length (lanes y) = lengths x ∙ sym (lengths y) in
+      ext_get_or Q.zero (lanes (O.add x y)) (zip_with Q.add (lanes x) (lanes y)) (long ∙ sym (length-zip Q.add (lanes x) (lanes y) alike ∙ lengths x)) (λ k h.
+      let below : k < w = omega (arith, h, long) in
+      (keeps k below).add x y ∙ sym (get-zip Q.add (lanes x) (lanes y) k Q.zero alike (omega (arith, below, lengths x))))
+
+  zip-map : (g : F → F → F) (f : F → F) (xs ys : List F) → zip_with g xs (map f ys) ≡ zip_with (λ a b. g a (f b)) xs ys
+  zip-map g f [] ys = refl
+  zip-map g f (x ∷ xs) [] = refl
+  zip-map g f (x ∷ xs) (y ∷ ys) = ap (λ l. g x (f y) ∷ l) (zip-map g f xs ys)
+
+  -- the lanes of a packing and another one times a value
+  pub combined_lanes : (x y z : P) (s : F) → lanes z ≡ replicate w s → lanes (O.add x (O.mul y z)) ≡ zip_with (λ a b. Q.add a (Q.mul b s)) (lanes x) (lanes y)
+  combined_lanes x y z s all =
+      summed_lanes x (O.mul y z) ∙ ap (zip_with Q.add (lanes x)) (scaled_lanes y z s all) ∙ zip-map Q.add (λ a. Q.mul a s) (lanes x) (lanes y)
