@@ -4,6 +4,8 @@ mod calculator_cases;
 mod calls;
 mod extension_cases;
 mod extensions;
+mod lane_cases;
+mod lanes;
 mod prime_cases;
 mod primes;
 mod residues;
@@ -13,6 +15,7 @@ fn main() {
     let word = std::env::args().nth(1).unwrap_or_default();
     let mut cases = prime_cases::cases();
     cases.extend(extension_cases::cases());
+    cases.extend(lane_cases::cases());
     cases.extend(calculator_cases::cases());
     if !table::print(&cases, &word) {
         std::process::exit(1);

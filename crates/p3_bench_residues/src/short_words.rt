@@ -1,7 +1,8 @@
 //! Sums, differences, negations and halves of residues modulo an order below 2^31.
 ghost use Rattle.std.specs.Prelude.{◌≡◌, ◌<◌, ◌+◌, ◌-◌, ◌%◌, ◌^◌};
 
-/// The sum of two residues.
+/// The sum of two residues: of the sum and that less the order, wrapping, the smaller one, which vectors
+/// have as one step.
 #[inline]
 pub fn add_words(left: u32, right: u32, order: u32) -> u32
     requires fits { order < 2 ^ 31 }
@@ -11,7 +12,7 @@ pub fn add_words(left: u32, right: u32, order: u32) -> u32
     ensures value { result ≡ (left + right) % order }
 {
     let sum = left + right;
-    if sum < order { sum } else { sum - order }
+    sum.min(sum.wrapping_sub(order))
 }
 
 /// The difference of two residues: of the wrapping difference and that with the order more the smaller

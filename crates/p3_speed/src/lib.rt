@@ -4,4 +4,5 @@
 
 pub mod calculator_call;
 pub mod extension_calls;
+pub mod lane_calls;
 pub mod prime_calls;

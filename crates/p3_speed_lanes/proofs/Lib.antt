@@ -1,0 +1,2 @@
+mod InversionLaws
+mod RoundLaws
