@@ -54,7 +54,7 @@ fn print_row(case: &Case) -> bool {
     let medians = (median(&mut library), median(&mut plain));
     let bests = (library[0], plain[0]);
     println!(
-        "| {:<34} | {:>9.3} | {:>9.3} | {:>5.2} | {:>9.3} | {:>9.3} | {:>5.2} |{}",
+        "| {:<38} | {:>9.3} | {:>9.3} | {:>5.2} | {:>9.3} | {:>9.3} | {:>5.2} |{}",
         case.name,
         bests.0,
         bests.1,
@@ -69,8 +69,8 @@ fn print_row(case: &Case) -> bool {
 
 /// Prints the rows whose names have the word, and whether all values agree.
 pub fn print(cases: &[Case], word: &str) -> bool {
-    println!("| nanoseconds an operation           | library   | Rust      | ratio | median    | median    | pairs |");
-    println!("|------------------------------------|-----------|-----------|-------|-----------|-----------|-------|");
+    println!("| nanoseconds an operation               | library   | Rust      | ratio | median    | median    | pairs |");
+    println!("|----------------------------------------|-----------|-----------|-------|-----------|-----------|-------|");
     let mut agree = true;
     for case in cases.iter().filter(|case| case.name.contains(word)) {
         agree &= print_row(case);
