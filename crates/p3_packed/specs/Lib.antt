@@ -1,4 +1,3 @@
 pub mod PackedValues
-pub mod Quotients
-pub mod Sizes
 pub mod ValueLanes
+pub mod Quotients
