@@ -3,7 +3,7 @@
 ghost use Rattle.std.specs.Prelude.{◌≤◌, ◌+◌, ◌*◌, IfSome};
 
 use crate::packing_blocks::{holds, packing, value_at};
-use crate::packing_list_calls::{added, are_powers, columns_agree, scaled, sums_agree};
+use crate::packing_list_calls::{added, are_powers, scaled, sums_agree};
 use crate::packing_list_tables::{
     BABY_BEAR_LISTS, F2_LISTS, F17_LISTS, F31_LISTS, GOLDILOCKS_LISTS, KOALA_BEAR_LISTS, Z15_LISTS,
 };
@@ -49,9 +49,6 @@ fn agrees<F: Field, P: PackedField<F>>(
         }
         "coeffwise_dot_product" => return sums_agree::<F, P>(alloc, arguments, answer),
         _ => {}
-    }
-    if let Some(agree) = columns_agree::<F, P>(alloc, call, arguments, answer)? {
-        return Ok(Some(agree));
     }
     let given = match call {
         "dot_product" => Some(product::<F, P>(alloc, first, second)?),

@@ -1,10 +1,8 @@
-//! Calls that give or take lists of packings: their powers, sums of products coefficient by coefficient,
-//! and columns. Told by texts as in `packing_calls`.
+//! Calls that give or take lists of packings, or slices: powers, sums of products coefficient by
+//! coefficient, slices that are scaled or added. Told by texts as in `packing_calls`.
 use crate::packing_blocks::{holds, packing, value_at};
 use p3_base::field::Field;
 use p3_base::packed_traits::PackedField;
-use p3_columns::columns::{pack_columns, pack_columns_fn, unpack_into};
-use p3_columns::unpacked_rows::unpack_iter;
 use p3_ring::ring::PrimeCharacteristicRing;
 use p3_spaces::columnwise::coeffwise_dot_product;
 use p3_tools::helpers::{
@@ -63,7 +61,8 @@ pub(crate) fn sums_agree<F: Field, P: PackedField<F>>(
         pairs.push((coefficients, packing::<F, P>(scale)))?;
     }
     let sums = coeffwise_dot_product::<F, P, Vec<P>, _>(degree, pairs.into_iter());
-    for i in 0..8 {
+    let sums = &sums[..];
+    for i in 0..sums.len() {
         if !holds::<F, P>(&sums[i], word(text, i)) {
             return Ok(Some(false));
         }
@@ -117,88 +116,4 @@ pub(crate) fn added<F: Field, P: PackedField<F>>(
     add_scaled_slice_in_place::<F, P>(&mut first, &other, s);
     par_add_scaled_slice_in_place::<F, P>(&mut second, &other, s);
     Ok(Some(first.as_slice() == expected.as_slice() && second.as_slice() == expected.as_slice()))
-}
-
-/// The row of N values of a text.
-fn row<F: Field, const N: usize>(text: &str) -> [F; N] {
-    std::array::from_fn(|c: usize| -> F { value_at::<F>(text, c).unwrap_or(F::zero()) })
-}
-
-/// The rows of N values of a text.
-fn rows<F: Field, const N: usize>(alloc: Global, text: &str) -> Result<Vec<[F; N]>, AllocError> {
-    let mut rows = Vec::new(alloc);
-    for word in text.split_ascii_whitespace() {
-        rows.push(row::<F, N>(word))?;
-    }
-    Ok(rows)
-}
-
-/// Whether the packings hold the values of a text, word by word.
-fn hold_all<F: Field, P: PackedField<F>, const N: usize>(packings: &[P; N], text: &str) -> bool {
-    for c in 0..N {
-        if !holds::<F, P>(&packings[c], word(text, c)) {
-            return false;
-        }
-    }
-    text.split_ascii_whitespace().count() == N
-}
-
-/// Whether the columns of rows are the packings of a text, by both calls.
-fn columns<F: Field, P: PackedField<F>, const N: usize>(
-    alloc: Global,
-    text: &str,
-    answer: &str,
-) -> Result<Option<bool>, AllocError> {
-    let rows = rows::<F, N>(alloc, text)?;
-    if rows.len() != P::WIDTH {
-        return Ok(None);
-    }
-    let packed: [P; N] = pack_columns::<P, N>(&rows);
-    let of_calls: [P; N] = pack_columns_fn::<P, [F; N], _, N>(|l: usize| -> [F; N] {
-        row::<F, N>(word(text, l))
-    });
-    Ok(Some(hold_all::<F, P, N>(&packed, answer) && hold_all::<F, P, N>(&of_calls, answer)))
-}
-
-/// Whether the rows of packings are those of a text, by both calls.
-fn rows_of<F: Field, P: PackedField<F>, const N: usize>(
-    alloc: Global,
-    text: &str,
-    answer: &str,
-) -> Result<Option<bool>, AllocError> {
-    let packed: [P; N] = std::array::from_fn(|c: usize| -> P { packing::<F, P>(word(text, c)) });
-    let mut unpacked = Vec::new(alloc);
-    for _ in 0..P::WIDTH {
-        unpacked.push(row::<F, N>(""))?;
-    }
-    if unpacked.len() != P::WIDTH {
-        return Ok(None);
-    }
-    unpack_into::<P, N>(&packed, &mut unpacked);
-    let expected = rows::<F, N>(alloc, answer)?;
-    let mut given = Vec::new(alloc);
-    for row in unpack_iter::<P, N>(packed) {
-        given.push(row)?;
-    }
-    Ok(Some(unpacked.as_slice() == expected.as_slice() && given.as_slice() == expected.as_slice()))
-}
-
-/// Whether packing columns, or unpacking them, gives the packings or rows of a text; `Ok(None)` where
-/// the call is none of these.
-pub(crate) fn columns_agree<F: Field, P: PackedField<F>>(
-    alloc: Global,
-    call: &str,
-    text: &str,
-    answer: &str,
-) -> Result<Option<bool>, AllocError> {
-    match call {
-        "pack_columns 1" => columns::<F, P, 1>(alloc, text, answer),
-        "pack_columns 2" => columns::<F, P, 2>(alloc, text, answer),
-        "pack_columns 3" => columns::<F, P, 3>(alloc, text, answer),
-        "pack_columns 5" => columns::<F, P, 5>(alloc, text, answer),
-        "unpack_into 1" => rows_of::<F, P, 1>(alloc, text, answer),
-        "unpack_into 3" => rows_of::<F, P, 3>(alloc, text, answer),
-        "unpack_into 5" => rows_of::<F, P, 5>(alloc, text, answer),
-        _ => Ok(None),
-    }
 }

@@ -1,5 +1,5 @@
 //! Calls on packed extension values, told by texts: the call, its arguments and its answer. Arguments
-//! stand between bars, packings and rows between semicolons, values between spaces, and the
+//! stand between bars, packings between semicolons, values between spaces, and the
 //! coefficients of a value between commas.
 ghost use Rattle.std.specs.Prelude.{◌<◌, ℕ, IsTrue};
 ghost use Rattle.p3_theory.specs.Rings.Ring.{Invertible};
@@ -9,10 +9,8 @@ use crate::lane_runs::{coefficient, value};
 use p3_base::field::Field;
 use p3_base::packed_traits::{PackedField, PackedValue};
 use p3_batch_inverse::packed_inverse::invert_packed_extension;
-use p3_packings::ext_columns::{pack_ext_columns, pack_ext_columns_fn, unpack_ext_into};
 use p3_packings::extension_lanes::ExtensionLanes;
 use p3_packings::packed_field_extension::PackedFieldExtension;
-use p3_packings::unpacked_ext_rows::unpack_ext_iter;
 use p3_ring::ring::{Algebra, PrimeCharacteristicRing, RingSums};
 use p3_spaces::extension_field::ExtensionField;
 use std::alloc::{AllocError, Global};
@@ -38,12 +36,6 @@ where
         "packed_ext_powers_capped" => Ok(are_capped_powers::<F, EF, PE>(left, right, answer)),
         "unpack_transpose_into" => transposed::<F, EF, PE>(alloc, left, right, answer),
         "to_ext_iter" => unpacked::<F, EF, PE>(alloc, left, answer),
-        "pack_ext_columns 1" => columns::<F, EF, PE, 1>(alloc, left, answer),
-        "pack_ext_columns 2" => columns::<F, EF, PE, 2>(alloc, left, answer),
-        "pack_ext_columns 3" => columns::<F, EF, PE, 3>(alloc, left, answer),
-        "unpack_ext_into 1" => rows_of::<F, EF, PE, 1>(alloc, left, answer),
-        "unpack_ext_into 2" => rows_of::<F, EF, PE, 2>(alloc, left, answer),
-        "unpack_ext_into 3" => rows_of::<F, EF, PE, 3>(alloc, left, answer),
         _ => {
             let given = match call {
                 "sum"
@@ -74,11 +66,6 @@ pub(crate) fn packing<F: Field, EF: ExtensionField<F>, PE: ExtensionLanes<F, EF>
     PE::from_ext_fn(|lane: usize| -> EF { value_at::<F, EF>(text, lane) })
 }
 
-/// The part at an index of a text.
-fn part(text: &str, index: usize) -> &str {
-    text.split_terminator(';').nth(index).unwrap_or("")
-}
-
 /// Whether the lanes of a packing hold the values of a text.
 pub(crate) fn holds<F: Field, EF: ExtensionField<F>, PE: ExtensionLanes<F, EF>>(
     packing: &PE,
@@ -93,19 +80,6 @@ pub(crate) fn holds<F: Field, EF: ExtensionField<F>, PE: ExtensionLanes<F, EF>>(
         }
     }
     true
-}
-
-/// Whether the packings hold the values of a text, part by part.
-fn hold_all<F: Field, EF: ExtensionField<F>, PE: ExtensionLanes<F, EF>>(
-    packings: &[PE],
-    text: &str,
-) -> bool {
-    for (i, packing) in packings.iter().enumerate() {
-        if !holds::<F, EF, PE>(packing, part(text, i)) {
-            return false;
-        }
-    }
-    packings.len() == text.split_terminator(';').count()
 }
 
 /// The values of a text.
@@ -338,73 +312,4 @@ fn unpacked<F: Field, EF: ExtensionField<F>, PE: PackedFieldExtension<F, EF>>(
         found.push(value)?;
     }
     Ok(Some(found.as_slice() == expected.as_slice()))
-}
-
-/// The row of N values of a text.
-fn row<F: Field, EF: ExtensionField<F>, const N: usize>(text: &str) -> [EF; N] {
-    std::array::from_fn(|c: usize| -> EF { value_at::<F, EF>(text, c) })
-}
-
-/// The rows of N values of a text.
-fn rows<F: Field, EF: ExtensionField<F>, const N: usize>(
-    alloc: Global,
-    text: &str,
-) -> Result<Vec<[EF; N]>, AllocError> {
-    let mut rows = Vec::new(alloc);
-    for part in text.split_terminator(';') {
-        rows.push(row::<F, EF, N>(part))?;
-    }
-    Ok(rows)
-}
-
-/// Whether the columns of rows are the packings of a text, by both calls.
-fn columns<F, EF, PE, const N: usize>(
-    alloc: Global,
-    text: &str,
-    answer: &str,
-) -> Result<Option<bool>, AllocError>
-where
-    F: Field,
-    EF: ExtensionField<F>,
-    PE: PackedFieldExtension<F, EF>,
-{
-    let rows = rows::<F, EF, N>(alloc, text)?;
-    if rows.len() != PE::LANES {
-        return Ok(None);
-    }
-    let packed = pack_ext_columns::<F, EF, PE, N>(&rows);
-    let of_calls = pack_ext_columns_fn::<F, EF, PE, [EF; N], _, N>(|l: usize| -> [EF; N] {
-        row::<F, EF, N>(part(text, l))
-    });
-    Ok(Some(hold_all::<F, EF, PE>(&packed, answer) && hold_all::<F, EF, PE>(&of_calls, answer)))
-}
-
-/// Whether the rows of packings are those of a text, by both calls.
-fn rows_of<F, EF, PE, const N: usize>(
-    alloc: Global,
-    text: &str,
-    answer: &str,
-) -> Result<Option<bool>, AllocError>
-where
-    F: Field,
-    EF: ExtensionField<F>,
-    PE: PackedFieldExtension<F, EF>,
-{
-    let packed: [PE; N] = std::array::from_fn(|c: usize| -> PE {
-        packing::<F, EF, PE>(part(text, c))
-    });
-    let mut unpacked = Vec::new(alloc);
-    for _ in 0..PE::LANES {
-        unpacked.push(row::<F, EF, N>(""))?;
-    }
-    if unpacked.len() != PE::LANES {
-        return Ok(None);
-    }
-    unpack_ext_into::<F, EF, PE, N>(&packed, &mut unpacked);
-    let expected = rows::<F, EF, N>(alloc, answer)?;
-    let mut given = Vec::new(alloc);
-    for row in unpack_ext_iter::<F, EF, PE, N>(packed) {
-        given.push(row)?;
-    }
-    Ok(Some(unpacked.as_slice() == expected.as_slice() && given.as_slice() == expected.as_slice()))
 }
