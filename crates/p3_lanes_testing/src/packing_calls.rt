@@ -3,9 +3,9 @@
 ghost use Rattle.std.specs.Prelude.{◌≤◌, ◌+◌, ◌*◌, IfSome};
 
 use crate::packing_blocks::{holds, packing, value_at};
-use crate::packing_list_calls::{added, are_powers, scaled, sums_agree};
+use crate::packing_list_calls::{added, are_powers, scaled};
 use crate::packing_list_tables::{
-    BABY_BEAR_LISTS, F2_LISTS, F17_LISTS, F31_LISTS, GOLDILOCKS_LISTS, KOALA_BEAR_LISTS, Z15_LISTS,
+    BABY_BEAR_LISTS, F2_LISTS, F17_LISTS, F31_LISTS, GOLDILOCKS_LISTS, Z15_LISTS,
 };
 use crate::packing_tables::{
     BABY_BEAR_CALLS, Call, F2_CALLS, F17_CALLS, F31_CALLS, GOLDILOCKS_CALLS, KOALA_BEAR_CALLS,
@@ -47,7 +47,6 @@ fn agrees<F: Field, P: PackedField<F>>(
         "add_scaled_slice_in_place" => {
             return added::<F, P>(alloc, [first, second, third], answer);
         }
-        "coeffwise_dot_product" => return sums_agree::<F, P>(alloc, arguments, answer),
         _ => {}
     }
     let given = match call {
@@ -244,7 +243,6 @@ fn lists_of_packings(rt: HostRuntime) -> Result<(), Fail> {
     assert_calls::<Plain<M31>>(&rt, &F31_LISTS)?;
     assert_calls::<Plain<M15>>(&rt, &Z15_LISTS)?;
     assert_calls::<Plain<BabyBearModulus>>(&rt, &BABY_BEAR_LISTS)?;
-    assert_calls::<Plain<KoalaBearModulus>>(&rt, &KOALA_BEAR_LISTS)?;
     for row in GOLDILOCKS_LISTS {
         assert_eq!(rt; over_long::<GoldilocksForm>(rt.alloc(), row)?, Some(true));
     }

@@ -1,20 +1,14 @@
-//! Calls that give or take lists of packings, or slices: powers, sums of products coefficient by
-//! coefficient, slices that are scaled or added. Told by texts as in `packing_calls`.
+//! Calls that give lists of packings or go over slices by packings: powers, and slices that are scaled or
+//! added. Told by texts as in `packing_calls`.
 use crate::packing_blocks::{holds, packing, value_at};
 use p3_base::field::Field;
 use p3_base::packed_traits::PackedField;
 use p3_ring::ring::PrimeCharacteristicRing;
-use p3_spaces::columnwise::coeffwise_dot_product;
 use p3_tools::helpers::{
     add_scaled_slice_in_place, par_add_scaled_slice_in_place, par_scale_slice_in_place,
     scale_slice_in_place_single_core,
 };
 use std::alloc::{AllocError, Global};
-
-/// The word at an index of a text.
-fn word(text: &str, index: usize) -> &str {
-    text.split_ascii_whitespace().nth(index).unwrap_or("")
-}
 
 /// Whether the first packings of a sequence, whose start is one where a text has none, are those of a
 /// text.
@@ -35,39 +29,6 @@ pub(crate) fn are_powers<F: Field, P: PackedField<F>>(
         }
     }
     Some(true)
-}
-
-/// Whether the sums of products coefficient by coefficient are those of a text. The arguments are the
-/// degree, and then by turns the coefficients and the packing that they go with.
-pub(crate) fn sums_agree<F: Field, P: PackedField<F>>(
-    alloc: Global,
-    arguments: &str,
-    text: &str,
-) -> Result<Option<bool>, AllocError> {
-    let mut sides = arguments.split('|');
-    let degree = sides.next().unwrap_or("").parse::<usize>().unwrap_or(9);
-    if degree > 8 {
-        return Ok(None);
-    }
-    let mut pairs = Vec::new(alloc);
-    for _ in 0..arguments.len() {
-        let (Some(row), Some(scale)) = (sides.next(), sides.next()) else {
-            break;
-        };
-        let mut coefficients = Vec::new(alloc);
-        for word in row.split_ascii_whitespace() {
-            coefficients.push(packing::<F, P>(word))?;
-        }
-        pairs.push((coefficients, packing::<F, P>(scale)))?;
-    }
-    let sums = coeffwise_dot_product::<F, P, Vec<P>, _>(degree, pairs.into_iter());
-    let sums = &sums[..];
-    for i in 0..sums.len() {
-        if !holds::<F, P>(&sums[i], word(text, i)) {
-            return Ok(Some(false));
-        }
-    }
-    Ok(Some(true))
 }
 
 /// The values of a text.
