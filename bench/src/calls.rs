@@ -17,6 +17,7 @@ unsafe extern "C" {
     pub fn p3_speed_extension_inverses(extension: u32, value: *mut u64, length: usize, step: *const u64, step_length: usize, count: u64);
     pub fn p3_speed_lane_sums(field: u32, lanes: u32, left: *const u64, left_length: usize, right: *const u64, right_length: usize, rounds: u64) -> u64;
     pub fn p3_speed_lane_differences(field: u32, lanes: u32, left: *const u64, left_length: usize, right: *const u64, right_length: usize, rounds: u64) -> u64;
+    pub fn p3_speed_lane_slice_products(field: u32, lanes: u32, left: *const u64, left_length: usize, right: *const u64, right_length: usize, rounds: u64) -> u64;
     pub fn p3_speed_lane_products(field: u32, lanes: u32, left: *const u64, left_length: usize, right: *const u64, right_length: usize, rounds: u64) -> u64;
     pub fn p3_speed_lane_dot_products(field: u32, lanes: u32, left: *const u64, left_length: usize, right: *const u64, right_length: usize, rounds: u64) -> u64;
     pub fn p3_speed_packed_products(extension: u32, lanes: u32, value: *const u64, length: usize, factor: *const u64, factor_length: usize, count: u64) -> u64;

@@ -42,6 +42,7 @@ fn packing_cases<F: Residue, const N: usize>(name: &str, field: u32) -> Vec<Case
     vec![
         row("packed sums", LENGTH, p3_speed_lane_sums, lanes::sums::<F, N>),
         row("packed differences", LENGTH, p3_speed_lane_differences, lanes::differences::<F, N>),
+        row("packed slice products", LENGTH, p3_speed_lane_slice_products, lanes::slice_products::<F, N>),
         row("packed product chain", N, p3_speed_lane_products, lanes::products::<F, N>),
         row("packed dot product", LENGTH, p3_speed_lane_dot_products, lanes::dot_products::<F, N>),
     ]

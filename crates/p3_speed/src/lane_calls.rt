@@ -43,6 +43,24 @@ pub extern "C" fn p3_speed_lane_differences(
     LaneLoop::Differences.run(field, lanes, alloc, numbers)
 }
 
+/// Multiplies the left slice of packings by the right one, packing by packing.
+#[unsafe(no_mangle)]
+pub extern "C" fn p3_speed_lane_slice_products(
+    field: u32,
+    lanes: u32,
+    alloc: Global,
+    left: &[u64],
+    right: &[u64],
+    rounds: u64,
+) -> u64 {
+    let numbers = LaneNumbers {
+        left,
+        right,
+        rounds,
+    };
+    LaneLoop::SliceProducts.run(field, lanes, alloc, numbers)
+}
+
 /// Multiplies the first packing of the left slice by that of the right one.
 #[unsafe(no_mangle)]
 pub extern "C" fn p3_speed_lane_products(
