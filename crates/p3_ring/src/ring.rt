@@ -10,6 +10,7 @@ ghost use Rattle.p3_theory.specs.Rings.Operators.{Gives, GivesOne, Folds, sum_li
 
 use crate::linear_combination::chunked_linear_combination;
 use crate::powers::Powers;
+use crate::sums::sum_of_products;
 use p3_integers::integers::{IntegerQuotient, Quotient};
 use std::alloc::{AllocError, Allocator, Global};
 use std::iter::{Product, Sum};
@@ -426,15 +427,7 @@ pub trait Algebra<F: PrimeCharacteristicRing>: PrimeCharacteristicRing
         requires { length a.now ≡ length f.now }
         ensures { result ≡ dot Self.ops a.now (map embed f.now) }
     {
-        if a.is_empty() {
-            return Self::zero();
-        }
-        let mut sum = a[0] * f[0];
-        for i in 1..a.len() {
-            let product = a[i] * f[i];
-            sum += product;
-        }
-        sum
+        sum_of_products(a, f)
     }
 
     /// `batched_linear_combination` is written for seven counts of values at a time.

@@ -1,7 +1,9 @@
-ghost use Rattle.std.specs.Prelude.{◌≡◌, ◌≤◌, length};
+ghost use Rattle.std.specs.Prelude.{◌≡◌, ◌≤◌, length, map};
+ghost use Rattle.p3_theory.specs.Rings.DotProduct.{dot};
 ghost use Rattle.p3_theory.specs.Rings.Operators.{sum_list};
 
 use crate::ring::PrimeCharacteristicRing;
+use std::ops::Mul;
 
 /// The sum of at most four values, in pairs.
 #[inline]
@@ -60,4 +62,27 @@ pub fn sum_array<R: PrimeCharacteristicRing, const N: usize>(input: &[R]) -> R
     ensures { result ≡ sum_list R.ops input.now }
 {
     sum_slice(&input[..N])
+}
+
+/// The sum of the products of values and elements of another type, position by position. Where each
+/// product is that with an embedded element, it is the dot product with the embedded elements. The
+/// slices have one length. What `mixed_dot_product` runs, under the smallest bounds; this project's own.
+#[inline]
+pub fn sum_of_products<A, V>(a: &[A], f: &[V]) -> A
+where
+    A: PrimeCharacteristicRing + Mul<V, Output = A>,
+    V: Copy,
+    requires lengths { length a.now ≡ length f.now }
+    requires muls { (x : A) (v : V) → ⟦<A as Mul<V>>⟧.can_mul x v }
+    ensures { (embed : V → A) → ((x : A) (v : V) (r : A) → ⟦<A as Mul<V>>⟧.mul_gives x v r → r ≡ A.ops.mul x (embed v)) → result ≡ dot A.ops a.now (map embed f.now) }
+{
+    if a.is_empty() {
+        return A::zero();
+    }
+    let mut sum = a[0] * f[0];
+    for i in 1..a.len() {
+        let product = a[i] * f[i];
+        sum += product;
+    }
+    sum
 }
