@@ -86,6 +86,7 @@ pub use p3_ring::ring::PrimeCharacteristicRing;
 pub use p3_ring::ring::RingSums;
 pub use p3_ring::sponge::SpongePaddingValue;
 pub use p3_ring::sums::sum_array;
+pub use p3_ring::sums::sum_of_products;
 pub use p3_spaces::basis::AlgebraIdentity;
 pub use p3_spaces::basis::BasedVectorSpace;
 pub use p3_spaces::columnwise::AsRow;
