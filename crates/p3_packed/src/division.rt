@@ -1,12 +1,16 @@
-//! Division of packed extension values by an extension value.
-ghost use Rattle.std.specs.Prelude.{◌≡◌, map};
+//! Division of packed extension values by an extension value and by each other.
+ghost use Rattle.std.specs.Prelude.{◌≡◌, ◌<◌, ℕ, map};
 ghost use Rattle.p3_theory.specs.Rings.Ring.{Invertible};
+ghost use Rattle.p3_theory.specs.Lanes.Lanes.{lane};
 ghost use Rattle.p3_ext.specs.Values.{ext_ops};
 ghost use Rattle.p3_packed.specs.PackedValues.{packed_ops, spread};
+ghost use Rattle.p3_packed.specs.Sizes.{ExtensionFits};
+ghost use Rattle.p3_packed.specs.ValueLanes.{value_lanes};
 
 use crate::packed_ext_field::{PackedExtField, Packing};
 use p3_base::field::Field;
 use p3_base::packed_traits::{Packable, PackedField};
+use p3_batch_inverse::packed_inverse::invert_packed_extension;
 use p3_ext::extension::{ExtField, ExtensionOverAlgebra, ExtensionShape, FrobeniusExtendable};
 use p3_ring::ring::Algebra;
 use std::ops::{Div, DivAssign};
@@ -43,5 +47,41 @@ impl<
     #[inline]
     fn div_assign(&mut self, rhs: ExtField<F, D, S, F>) {
         *self = *self / rhs;
+    }
+}
+
+/// Division lane by lane, by values that all have an inverse. An extension value has to fit in memory, as
+/// it does wherever one exists.
+impl<
+    F: FrobeniusExtendable<D, S> + ExtensionOverAlgebra<P, D, S> + Packable,
+    const D: usize,
+    S: ExtensionShape,
+    P: PackedField<F> + Packing,
+> Div for PackedExtField<F, D, S, P> {
+    type Output = Self;
+
+    ghost can_div = { λ x y. ExtensionFits F.row D.row S.row × ((k : ℕ) → k < P.WIDTH → Invertible (ext_ops F.ops F.modulus) (lane (ext_ops F.ops F.modulus) (value_lanes P.ops F.ops P.lanes P.WIDTH) k y)) };
+
+    ghost div_gives = { λ x y r. (packed_ops P.ops (map ⟦<P as Algebra<F>>⟧.embed F.modulus)).mul r y ≡ x };
+
+    #[inline]
+    fn div(self, rhs: Self) -> Self {
+        self * invert_packed_extension::<F, ExtField<F, D, S, F>, Self>(rhs)
+    }
+}
+
+impl<
+    F: FrobeniusExtendable<D, S> + ExtensionOverAlgebra<P, D, S> + Packable,
+    const D: usize,
+    S: ExtensionShape,
+    P: PackedField<F> + Packing,
+> DivAssign for PackedExtField<F, D, S, P> {
+    ghost can_div_assign = { λ x y. ExtensionFits F.row D.row S.row × ((k : ℕ) → k < P.WIDTH → Invertible (ext_ops F.ops F.modulus) (lane (ext_ops F.ops F.modulus) (value_lanes P.ops F.ops P.lanes P.WIDTH) k y)) };
+
+    ghost div_assign_gives = { λ x y r. (packed_ops P.ops (map ⟦<P as Algebra<F>>⟧.embed F.modulus)).mul r y ≡ x };
+
+    #[inline]
+    fn div_assign(&mut self, other: Self) {
+        *self = *self / other;
     }
 }
