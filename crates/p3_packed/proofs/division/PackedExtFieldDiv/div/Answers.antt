@@ -1,15 +1,6 @@
-use Rattle.std.proofs.Common.{map}
-use Rattle.p3_theory.specs.Rings.Ring.{ring_of}
-use Rattle.p3_packed.specs.PackedValues.{packed_laws, packed_product}
-use Rattle.p3_packed.specs.Quotients.{quotient_exact}
+use Rattle.std.proofs.Common.{rules}
+use Rattle.p3_packed.specs.Sizes.{scalars_fit}
 use Rattle.p3_packed.proofs.division.PackedExtFieldDiv.div.Goals as goal
 
-pub returns : goal.returns
-returns g c =
-    let m = g.met.F.ExtensionAlgebra in
-    let f = g.F.ExtensionAlgebra.modulus in
-    let O = g.P.PrimeCharacteristicRing.ops in
-    let i = c.invert_packed_extension.result in
-    quotient_exact (packed_laws (ring_of g.met.P.PrimeCharacteristicRing.ring) g.met.P.Algebra.embeds m.at_least_two f m.monic) c.args.self c.args.rhs i c.mul.result
-    c.invert_packed_extension.ensures.inverse
-    (packed_product O (map g.P.Algebra.embed f) c.args.self i c.mul.result (g.met.F.ExtensionOverAlgebra.packed_products _ _ _ c.mul.ensures))
+pub quotient-requires : goal.quotient-requires
+quotient-requires g c = search (rules, scalars_fit g.row.F g.row.S g.row.P g.row.D g.met.P.HoldsScalar.holds (search rules), c.requires)
