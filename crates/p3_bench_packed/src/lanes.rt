@@ -6,6 +6,7 @@ use p3_base::field::Field;
 use p3_base::packed_traits::{Inhabited, Packable, PackedField, PackedFieldPow2, PackedValue};
 use p3_bench_prime::form::{Form, Word};
 use p3_bench_prime::fp::Fp;
+use p3_packed::holds_scalar::HoldsScalar;
 use p3_packed::packed_ext_field::Packing;
 use p3_vectorized::vectorized::lanes::LaneCountFits;
 
@@ -67,6 +68,16 @@ impl<F: Copy, const N: usize> Packing for Packed<F, N> {}
 pub trait Lanes<const N: usize>: Field + Packable {
     /// There is at least one lane.
     ghost some_lane: { 0 < N };
+
+    /// The number of lanes is a `usize`.
+    ghost counted: { N < 2 ^ 64 };
+}
+
+/// A packing has a place for each lane, and at least one.
+impl<F: Lanes<N>, const N: usize> HoldsScalar<F> for Packed<F, N> {
+    ghost use Rattle.p3_bench_packed.specs.Sizes.{packing_holds};
+
+    ghost holds = { packing_holds F.row N.row F.some_lane F.counted };
 }
 
 /// A field whose values stand in packings of N lanes, a power of two.
@@ -131,6 +142,8 @@ impl<W: Form<T>, T: Word> Lanes<1> for Fp<W, T> {
     ghost use Rattle.std.proofs.Common.{lit<};
 
     ghost some_lane = { lit< tt };
+
+    ghost counted = { lit< tt };
 }
 
 impl<W: Form<T>, T: Word> LanesPow2<1> for Fp<W, T> {
@@ -143,6 +156,8 @@ impl<W: Form<T>, T: Word> Lanes<2> for Fp<W, T> {
     ghost use Rattle.std.proofs.Common.{lit<};
 
     ghost some_lane = { lit< tt };
+
+    ghost counted = { lit< tt };
 }
 
 impl<W: Form<T>, T: Word> LanesPow2<2> for Fp<W, T> {
@@ -155,12 +170,16 @@ impl<W: Form<T>, T: Word> Lanes<3> for Fp<W, T> {
     ghost use Rattle.std.proofs.Common.{lit<};
 
     ghost some_lane = { lit< tt };
+
+    ghost counted = { lit< tt };
 }
 
 impl<W: Form<T>, T: Word> Lanes<4> for Fp<W, T> {
     ghost use Rattle.std.proofs.Common.{lit<};
 
     ghost some_lane = { lit< tt };
+
+    ghost counted = { lit< tt };
 }
 
 impl<W: Form<T>, T: Word> LanesPow2<4> for Fp<W, T> {
@@ -173,6 +192,8 @@ impl<W: Form<T>, T: Word> Lanes<8> for Fp<W, T> {
     ghost use Rattle.std.proofs.Common.{lit<};
 
     ghost some_lane = { lit< tt };
+
+    ghost counted = { lit< tt };
 }
 
 impl<W: Form<T>, T: Word> LanesPow2<8> for Fp<W, T> {
@@ -185,6 +206,8 @@ impl<W: Form<T>, T: Word> Lanes<16> for Fp<W, T> {
     ghost use Rattle.std.proofs.Common.{lit<};
 
     ghost some_lane = { lit< tt };
+
+    ghost counted = { lit< tt };
 }
 
 impl<W: Form<T>, T: Word> LanesPow2<16> for Fp<W, T> {

@@ -10,6 +10,7 @@ pub use p3_ext::extension::{
     binomial_square, cubic_square, octic_mul, quartic_mul, quintic_mul, quintic_square,
     trinomial_cubic_mul, trinomial_quintic_mul, vector_add, vector_sub,
 };
+pub use p3_packed::holds_scalar::HoldsScalar;
 pub use p3_packed::packed_ext_field::{
     PackedBinomialExtensionField, PackedCubicTrinomialExtensionField, PackedExtField,
     PackedQuinticTrinomialExtensionField, Packing,

@@ -1,3 +1,4 @@
 pub mod PackedValues
-pub mod ValueLanes
 pub mod Quotients
+pub mod Sizes
+pub mod ValueLanes

@@ -1,12 +1,17 @@
-//! Division of packed extension values by an extension value.
-ghost use Rattle.std.specs.Prelude.{◌≡◌, map};
+//! Division of packed extension values by an extension value and by each other.
+ghost use Rattle.std.specs.Prelude.{◌≡◌, ◌<◌, ℕ, map};
 ghost use Rattle.p3_theory.specs.Rings.Ring.{Invertible};
+ghost use Rattle.p3_theory.specs.Lanes.Lanes.{lane};
 ghost use Rattle.p3_ext.specs.Values.{ext_ops};
 ghost use Rattle.p3_packed.specs.PackedValues.{packed_ops, spread};
+ghost use Rattle.p3_packed.specs.Sizes.{ExtensionFits};
+ghost use Rattle.p3_packed.specs.ValueLanes.{value_lanes};
 
+use crate::holds_scalar::HoldsScalar;
 use crate::packed_ext_field::{PackedExtField, Packing};
 use p3_base::field::Field;
 use p3_base::packed_traits::{Packable, PackedField};
+use p3_batch_inverse::packed_inverse::invert_packed_extension;
 use p3_ext::extension::{ExtField, ExtensionOverAlgebra, ExtensionShape, FrobeniusExtendable};
 use p3_ring::ring::Algebra;
 use std::ops::{Div, DivAssign};
@@ -43,5 +48,55 @@ impl<
     #[inline]
     fn div_assign(&mut self, rhs: ExtField<F, D, S, F>) {
         *self = *self / rhs;
+    }
+}
+
+/// The quotient lane by lane, where an extension value fits in memory.
+#[inline]
+fn quotient<
+    F: FrobeniusExtendable<D, S> + ExtensionOverAlgebra<P, D, S> + Packable,
+    const D: usize,
+    S: ExtensionShape,
+    P: PackedField<F> + Packing,
+>(x: PackedExtField<F, D, S, P>, y: PackedExtField<F, D, S, P>) -> PackedExtField<F, D, S, P>
+    requires room { ExtensionFits F.row D.row S.row }
+    requires inverses { (k : ℕ) → k < P.WIDTH → Invertible (ext_ops F.ops F.modulus) (lane (ext_ops F.ops F.modulus) (value_lanes P.ops F.ops P.lanes P.WIDTH) k y) }
+    ensures { (packed_ops P.ops (map ⟦<P as Algebra<F>>⟧.embed F.modulus)).mul result y ≡ x }
+{
+    x * invert_packed_extension::<F, ExtField<F, D, S, F>, PackedExtField<F, D, S, P>>(y)
+}
+
+/// Division lane by lane, by values whose lanes all have an inverse.
+impl<
+    F: FrobeniusExtendable<D, S> + ExtensionOverAlgebra<P, D, S> + Packable,
+    const D: usize,
+    S: ExtensionShape,
+    P: PackedField<F> + HoldsScalar<F>,
+> Div for PackedExtField<F, D, S, P> {
+    type Output = Self;
+
+    ghost can_div = { λ x y. (k : ℕ) → k < P.WIDTH → Invertible (ext_ops F.ops F.modulus) (lane (ext_ops F.ops F.modulus) (value_lanes P.ops F.ops P.lanes P.WIDTH) k y) };
+
+    ghost div_gives = { λ x y r. (packed_ops P.ops (map ⟦<P as Algebra<F>>⟧.embed F.modulus)).mul r y ≡ x };
+
+    #[inline]
+    fn div(self, rhs: Self) -> Self {
+        quotient::<F, D, S, P>(self, rhs)
+    }
+}
+
+impl<
+    F: FrobeniusExtendable<D, S> + ExtensionOverAlgebra<P, D, S> + Packable,
+    const D: usize,
+    S: ExtensionShape,
+    P: PackedField<F> + HoldsScalar<F>,
+> DivAssign for PackedExtField<F, D, S, P> {
+    ghost can_div_assign = { λ x y. (k : ℕ) → k < P.WIDTH → Invertible (ext_ops F.ops F.modulus) (lane (ext_ops F.ops F.modulus) (value_lanes P.ops F.ops P.lanes P.WIDTH) k y) };
+
+    ghost div_assign_gives = { λ x y r. (packed_ops P.ops (map ⟦<P as Algebra<F>>⟧.embed F.modulus)).mul r y ≡ x };
+
+    #[inline]
+    fn div_assign(&mut self, other: Self) {
+        *self = *self / other;
     }
 }

@@ -3,12 +3,15 @@ ghost use Rattle.std.specs.Prelude.{◌≡◌, map};
 ghost use Rattle.p3_theory.specs.Polynomials.Polynomial.{quotient_add};
 ghost use Rattle.p3_products.specs.Entries.{entrywise_difference};
 
+use crate::holds_scalar::HoldsScalar;
 use crate::packed_ext_field::PackedExtField;
 use p3_ext::extension::{
     ExtField, ExtensionOverAlgebra, ExtensionShape, PackedProduct, vector_add, vector_sub,
 };
 use p3_products::vectors::embed_entries;
+use p3_ring::accumulate::{product_from, sum_from};
 use p3_ring::ring::{Algebra, PrimeCharacteristicRing};
+use std::iter::{Product, Sum};
 use std::ops::{Add, AddAssign, Mul, MulAssign, Sub, SubAssign};
 
 /// An extension value in all lanes.
@@ -133,4 +136,46 @@ impl<F: ExtensionOverAlgebra<P, D, S>, const D: usize, S: ExtensionShape, P: Alg
     ghost mixed_muls = { record { called = λ _ _. tt; answer = λ x v r h. spread_product P.ops (map P.embed F.modulus) P.embed x v r (F.packed_products _ _ _ h) } };
 
     ghost mixed_mul_assigns = { record { called = λ _ _. tt; answer = λ x v r h. spread_product P.ops (map P.embed F.modulus) P.embed x v r (F.packed_products _ _ _ h) } };
+}
+
+/// The sum of extension values, in every lane.
+impl<
+    F: ExtensionOverAlgebra<P, D, S>,
+    const D: usize,
+    S: ExtensionShape,
+    P: Algebra<F> + HoldsScalar<F>,
+> Sum<ExtField<F, D, S, F>> for PackedExtField<F, D, S, P> {
+    ghost use Rattle.p3_theory.specs.Rings.Operators.{sum_list};
+    ghost use Rattle.p3_ext.specs.Values.{ext_ops};
+    ghost use Rattle.p3_packed.specs.PackedValues.{spread};
+
+    ghost sum_gives = { λ xs r. r ≡ spread P.embed (sum_list (ext_ops F.ops F.modulus) xs) };
+
+    #[inline]
+    fn sum<I: Iterator<Item = ExtField<F, D, S, F>>>(iter: I) -> Self {
+        let start = <ExtField<F, D, S, F> as PrimeCharacteristicRing>::zero();
+        let total = sum_from(start, iter);
+        Self::from(total)
+    }
+}
+
+/// The product of extension values, in every lane.
+impl<
+    F: ExtensionOverAlgebra<P, D, S>,
+    const D: usize,
+    S: ExtensionShape,
+    P: Algebra<F> + HoldsScalar<F>,
+> Product<ExtField<F, D, S, F>> for PackedExtField<F, D, S, P> {
+    ghost use Rattle.p3_theory.specs.Rings.Operators.{product_list};
+    ghost use Rattle.p3_ext.specs.Values.{ext_ops};
+    ghost use Rattle.p3_packed.specs.PackedValues.{spread};
+
+    ghost product_gives = { λ xs r. r ≡ spread P.embed (product_list (ext_ops F.ops F.modulus) xs) };
+
+    #[inline]
+    fn product<I: Iterator<Item = ExtField<F, D, S, F>>>(iter: I) -> Self {
+        let start = <ExtField<F, D, S, F> as PrimeCharacteristicRing>::one();
+        let product = product_from(start, iter);
+        Self::from(product)
+    }
 }

@@ -5,5 +5,6 @@ pub mod algebra;
 pub mod basis;
 mod division;
 pub mod extension_values;
+pub mod holds_scalar;
 pub mod packed_ext_field;
 pub mod packed_field_extension;

@@ -1,0 +1,15 @@
+use Rattle.std.proofs.Common.{map}
+use Rattle.p3_theory.specs.Rings.Ring.{ring_of}
+use Rattle.p3_packed.specs.PackedValues.{packed_laws, packed_product}
+use Rattle.p3_packed.specs.Quotients.{quotient_exact}
+use Rattle.p3_packed.proofs.division.quotient.Goals as goal
+
+pub returns : goal.returns
+returns g c =
+    let m = g.met.F.ExtensionAlgebra in
+    let f = g.F.ExtensionAlgebra.modulus in
+    let O = g.P.PrimeCharacteristicRing.ops in
+    let i = c.invert_packed_extension.result in
+    quotient_exact (packed_laws (ring_of g.met.P.PrimeCharacteristicRing.ring) g.met.P.Algebra.embeds m.at_least_two f m.monic) c.args.x c.args.y i c.mul.result
+    c.invert_packed_extension.ensures.inverse
+    (packed_product O (map g.P.Algebra.embed f) c.args.x i c.mul.result (g.met.F.ExtensionOverAlgebra.packed_products _ _ _ c.mul.ensures))
