@@ -7,7 +7,7 @@ use p3_ring::ring::PrimeCharacteristicRing;
 use std::alloc::AllocError;
 use std::fmt;
 use std::marker::Model;
-use std::ops::Index;
+use std::ops::{Index, IndexMut};
 
 /// N values, with the ring's operations entry by entry. Upstream's `FieldArray`.
 pub struct FieldArray<F: Inhabited, const N: usize>(pub [F; N]);
@@ -108,6 +108,20 @@ impl<F: Inhabited, const N: usize> Index<usize> for FieldArray<F, N> {
     #[inline]
     fn index(&self, index: usize) -> &F {
         &self.0[index]
+    }
+}
+
+/// The entry at an index, which has to be below N, to be written. What is written there is safe, and
+/// the array stays one of N entries; nothing more is known of it afterwards, so a proof that needs the
+/// entries writes by `set_lane`. Upstream's `IndexMut`.
+impl<F: Inhabited, const N: usize> IndexMut<usize> for FieldArray<F, N> {
+    /// The entry at `index`; a call at an index of N or above is refused.
+    #[inline]
+    fn index_mut(&mut self, index: usize) -> &mut F
+        requires { index < N }
+        ensures { result.now ≡ slice_index_or self.old.items index result.now }
+    {
+        &mut self.0[index]
     }
 }
 

@@ -71,6 +71,7 @@ pub use Rattle.p3_ext.specs.Values
 pub use Rattle.p3_runs.specs.FieldRuns
 pub use Rattle.p3_runs.specs.Runs
 pub use Rattle.p3_packed.specs.PackedValues
+pub use Rattle.p3_packed.specs.Sizes
 pub use Rattle.p3_packed.specs.ValueLanes
 pub use Rattle.p3_vectorized.specs.Inside
 pub use Rattle.p3_vectorized.specs.RowMaps
