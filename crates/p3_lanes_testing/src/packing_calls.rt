@@ -14,7 +14,7 @@ use crate::packing_sum_tables::{
     GOLDILOCKS_COLUMNS, GOLDILOCKS_SUMS, KOALA_BEAR_COLUMNS, KOALA_BEAR_SUMS, Z15_COLUMNS,
     Z15_SUMS,
 };
-use crate::packing_sums::{counted_columnwise_agree, sums_agree};
+use crate::packing_sums::{counted_columnwise_agree, is_half, sums_agree};
 use crate::packing_tables::{
     BABY_BEAR_CALLS, Call, F2_CALLS, F17_CALLS, F31_CALLS, GOLDILOCKS_CALLS, KOALA_BEAR_CALLS,
     Z15_CALLS,
@@ -198,6 +198,7 @@ fn row_agrees<F: Field, P: PackedField<F>>(
         "coeffwise_dot_product" => sums_agree::<F, P>(alloc, packings, arguments, answer),
         "add_slices" => slices_agree::<F>(alloc, arguments, answer),
         "slices of every length" => lengths_agree::<F, P>(alloc, arguments),
+        "halve" => Ok(is_half::<F, P>(arguments, answer)),
         _ if call.starts_with("pack_columns") || call.starts_with("unpack_into") => {
             counted_columns_agree::<F, P>(alloc, rows, packings, call, arguments, answer)
         }

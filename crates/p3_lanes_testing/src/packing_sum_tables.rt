@@ -1,4 +1,4 @@
-//! Sums of products of packings, columns of rows, and sums of slices:
+//! Sums of products of packings, columns of rows, halves of packings, and sums of slices:
 //! outside values. Written by a script out of their list; a line of that list, `call type arguments answer`,
 //! is an entry here. The number of scales or columns stands after the call.
 use crate::packing_tables::Call;
@@ -59,15 +59,19 @@ pub(crate) const F17_SUMS: [Call; 11] = [
 ];
 
 /// Over `z15`.
-pub(crate) const Z15_SUMS: [Call; 1] = [(
-    4,
-    "coeffwise_dot_product",
-    "8|8,9,8,13|8,9,2,1||1,8,7,5",
-    "4,6,1,13 0,0,0,0 0,0,0,0 0,0,0,0 0,0,0,0 0,0,0,0 0,0,0,0 0,0,0,0",
-)];
+pub(crate) const Z15_SUMS: [Call; 2] = [
+    (1, "halve", "5", "10"),
+    (
+        4,
+        "coeffwise_dot_product",
+        "8|8,9,8,13|8,9,2,1||1,8,7,5",
+        "4,6,1,13 0,0,0,0 0,0,0,0 0,0,0,0 0,0,0,0 0,0,0,0 0,0,0,0 0,0,0,0",
+    ),
+];
 
 /// Over `bb`.
-pub(crate) const BABY_BEAR_SUMS: [Call; 2] = [
+pub(crate) const BABY_BEAR_SUMS: [Call; 3] = [
+    (1, "halve", "1657848752", "828924376"),
     (
         4,
         "coeffwise_dot_product",
@@ -83,12 +87,18 @@ pub(crate) const BABY_BEAR_SUMS: [Call; 2] = [
 ];
 
 /// Over `kb`.
-pub(crate) const KOALA_BEAR_SUMS: [Call; 2] = [
+pub(crate) const KOALA_BEAR_SUMS: [Call; 3] = [
     (
         1,
         "coeffwise_dot_product",
         "8|1 2130706432 1781928278 0 0 453594176 0 1065353217|2130706432|1 1065353216 2130706432 1 406282707 2130706432 1065353216 2130706432 445347908|2|693923250 2 1974678695 1065353217 874469849 1697971362 610002826 2130706431|0|1065353217 1338455352 1065353216 1 1961479098 1026839633 1065353217 0|1366899745|0 1444617205 1065353217 1065353217 1977091667 722031751 1|2130706431",
         "1748803090 1698351330 730681496 1366899746 881516994 1433094230 1748803086 1065353214",
+    ),
+    (
+        8,
+        "halve",
+        "2130706432,2130706432,2130706432,2130706432,2130706432,2130706432,2130706432,2130706432",
+        "1065353216,1065353216,1065353216,1065353216,1065353216,1065353216,1065353216,1065353216",
     ),
     (
         8,
@@ -99,7 +109,8 @@ pub(crate) const KOALA_BEAR_SUMS: [Call; 2] = [
 ];
 
 /// Over `gl`.
-pub(crate) const GOLDILOCKS_SUMS: [Call; 5] = [
+pub(crate) const GOLDILOCKS_SUMS: [Call; 6] = [
+    (1, "halve", "13251336169429666145", "15849040119422125233"),
     (1, "coeffwise_dot_product", "3", "0 0 0 0 0 0 0 0"),
     (
         4,

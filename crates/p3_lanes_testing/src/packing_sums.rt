@@ -1,5 +1,6 @@
 //! Sums of products of lists of packings. Told by texts as in `packing_calls`.
-ghost use Rattle.std.specs.Prelude.{◌≡◌, ◌<◌, length};
+ghost use Rattle.std.specs.Prelude.{◌≡◌, ◌<◌, length, IsTrue};
+ghost use Rattle.p3_theory.specs.Rings.Ring.{Invertible};
 
 use crate::packing_blocks::{holds, packing, value_at};
 use p3_base::field::Field;
@@ -192,4 +193,24 @@ pub(crate) fn counted_columnwise_agree<F: Field, P: PackedField<F>>(
         "4" => columnwise_agree::<F, P, 4>(alloc, arguments, text),
         _ => Ok(None),
     }
+}
+
+/// Whether a value has an inverse.
+fn has_inverse<F: Field>(value: F) -> bool
+    ensures { IsTrue result → Invertible F.ops value }
+{
+    match value.try_inverse() {
+        Some(_) => true,
+        None => false,
+    }
+}
+
+/// Whether the half of a packing is what a text says; none where two has no inverse.
+pub(crate) fn is_half<F: Field, P: PackedField<F>>(value: &str, text: &str) -> Option<bool> {
+    let two = F::two();
+    if !has_inverse(two) {
+        return None;
+    }
+    let half = packing::<F, P>(value).halve();
+    Some(holds::<F, P>(&half, text))
 }
