@@ -11,9 +11,17 @@ mod packing_blocks;
 #[cfg(test)]
 mod packing_calls;
 #[cfg(test)]
+mod packing_columns;
+#[cfg(test)]
 mod packing_list_calls;
 #[cfg(test)]
 mod packing_list_tables;
+#[cfg(test)]
+mod packing_slices;
+#[cfg(test)]
+mod packing_sum_tables;
+#[cfg(test)]
+mod packing_sums;
 #[cfg(test)]
 mod packing_tables;
 #[cfg(test)]

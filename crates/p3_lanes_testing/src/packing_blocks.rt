@@ -2,7 +2,7 @@
 ghost use Rattle.std.specs.Prelude.{◌≡◌, ◌%◌, ◌<◌};
 
 use crate::tables::{
-    BABY_BEAR_BLOCKS, Blocks, F17_BLOCKS, F31_BLOCKS, GOLDILOCKS_BLOCKS, Z15_BLOCKS,
+    BABY_BEAR_BLOCKS, Blocks, F17_BLOCKS, F31_BLOCKS, GOLDILOCKS_BLOCKS, WORKED_BLOCKS, Z15_BLOCKS,
 };
 use p3_base::field::Field;
 use p3_base::packed_traits::{PackedField, PackedFieldPow2, PackedValue};
@@ -89,6 +89,9 @@ pub(crate) fn value_at<F: Field>(text: &str, index: usize) -> Option<F> {
 #[test]
 fn packings_by_blocks(rt: HostRuntime) {
     for row in F17_BLOCKS {
+        assert_eq!(rt; over::<Plain<M17>>(row), Some(true));
+    }
+    for row in WORKED_BLOCKS {
         assert_eq!(rt; over::<Plain<M17>>(row), Some(true));
     }
     for row in F31_BLOCKS {

@@ -3,10 +3,18 @@
 ghost use Rattle.std.specs.Prelude.{◌≤◌, ◌+◌, ◌*◌, IfSome};
 
 use crate::packing_blocks::{holds, packing, value_at};
+use crate::packing_columns::counted_columns_agree;
 use crate::packing_list_calls::{added, are_powers, scaled};
 use crate::packing_list_tables::{
     BABY_BEAR_LISTS, F2_LISTS, F17_LISTS, F31_LISTS, GOLDILOCKS_LISTS, Z15_LISTS,
 };
+use crate::packing_slices::{group_within, lengths_agree, slices_agree};
+use crate::packing_sum_tables::{
+    BABY_BEAR_COLUMNS, BABY_BEAR_SUMS, F2_COLUMNS, F17_COLUMNS, F17_SUMS, F31_COLUMNS,
+    GOLDILOCKS_COLUMNS, GOLDILOCKS_SUMS, KOALA_BEAR_COLUMNS, KOALA_BEAR_SUMS, Z15_COLUMNS,
+    Z15_SUMS,
+};
+use crate::packing_sums::{counted_columnwise_agree, is_half, sums_agree};
 use crate::packing_tables::{
     BABY_BEAR_CALLS, Call, F2_CALLS, F17_CALLS, F31_CALLS, GOLDILOCKS_CALLS, KOALA_BEAR_CALLS,
     Z15_CALLS,
@@ -123,7 +131,7 @@ fn loaded<F: Field, P: PackedField<F>>(
     index: &str,
 ) -> Result<Option<P>, AllocError> {
     let slice: Vec<F> = values(alloc, slice)?;
-    match group_within::<F, P>(slice.len(), index) {
+    match group_within::<F, P>(slice.len(), index.parse::<usize>().unwrap_or(usize::MAX)) {
         Some(i) => Ok(Some(P::load_block(&slice, i))),
         None => Ok(None),
     }
@@ -138,7 +146,7 @@ fn stored<F: Field, P: PackedField<F>>(
     answer: &str,
 ) -> Result<Option<bool>, AllocError> {
     let mut slice: Vec<F> = values(alloc, slice)?;
-    match group_within::<F, P>(slice.len(), index) {
+    match group_within::<F, P>(slice.len(), index.parse::<usize>().unwrap_or(usize::MAX)) {
         Some(i) => packing::<F, P>(lanes).store_block(&mut slice, i),
         None => return Ok(None),
     }
@@ -155,19 +163,6 @@ fn with_lane<F: Field, P: PackedField<F>>(lanes: &str, lane: &str, value: &str) 
     }
     x.set_lane(lane, value_at::<F>(value, 0)?);
     Some(x)
-}
-
-/// The number of a group that lies whole in so many values.
-fn group_within<F: Field, P: PackedField<F>>(length: usize, index: &str) -> Option<usize>
-    ensures { IfSome result (λ i. i * P.WIDTH + P.WIDTH ≤ length) }
-{
-    let index = index.parse::<usize>().ok()?;
-    let start = index.checked_mul(P::WIDTH)?;
-    if start.checked_add(P::WIDTH)? <= length {
-        Some(index)
-    } else {
-        None
-    }
 }
 
 /// The packings of a text.
@@ -190,6 +185,30 @@ fn values<F: Field>(alloc: Global, text: &str) -> Result<Vec<F>, AllocError> {
     Ok(values)
 }
 
+/// Whether a row's call has its answer. The slices are empty: where a signature names arrays of eight,
+/// it is known that they have room.
+fn row_agrees<F: Field, P: PackedField<F>>(
+    alloc: Global,
+    rows: &[[F; 8]],
+    packings: &[[P; 8]],
+    row: Call,
+) -> Result<Option<bool>, AllocError> {
+    let (_, call, arguments, answer) = row;
+    match call {
+        "coeffwise_dot_product" => sums_agree::<F, P>(alloc, packings, arguments, answer),
+        "add_slices" => slices_agree::<F>(alloc, arguments, answer),
+        "slices of every length" => lengths_agree::<F, P>(alloc, arguments),
+        "halve" => Ok(is_half::<F, P>(arguments, answer)),
+        _ if call.starts_with("pack_columns") || call.starts_with("unpack_into") => {
+            counted_columns_agree::<F, P>(alloc, rows, packings, call, arguments, answer)
+        }
+        _ if call.starts_with("generic_batched") => {
+            counted_columnwise_agree::<F, P>(alloc, call, arguments, answer)
+        }
+        _ => agrees::<F, P>(alloc, call, arguments, answer),
+    }
+}
+
 /// Calls on packings of three lanes over `f17`, a width that is no power of two and no vector's. The
 /// answers were reckoned by hand.
 const THREE_LANES: [Call; 9] = [
@@ -204,25 +223,78 @@ const THREE_LANES: [Call; 9] = [
     (3, "store_block", "9,9,9|1,2,3,4,5,6,7|1", "1,2,3,9,9,9,7"),
 ];
 
-/// `agrees` over the packings of a prime field in words of 32 bits with 1, 3, 4 or 8 lanes.
+/// Worked calls over `f17`: the first powers of 3, sums coefficient by coefficient, products added column
+/// by column where the accumulators past the last whole pair stay, and slices of every length from 0 to
+/// 17. The rows of sixteen lanes were reckoned by a script from the definitions.
+const WORKED_SUMS: [Call; 13] = [
+    (4, "packed_powers", "3", "1,3,9,10 13,5,15,11"),
+    (
+        1,
+        "coeffwise_dot_product",
+        "2|1 2|3|4 5|6",
+        "10 2 0 0 0 0 0 0",
+    ),
+    (
+        1,
+        "generic_batched_columnwise_dot_product 2",
+        "1;1;1;1;1|1 4 5|2 3",
+        "3;4;9;13;1",
+    ),
+    (1, "slices of every length", "5", ""),
+    (4, "slices of every length", "5", ""),
+    (8, "slices of every length", "5", ""),
+    (3, "slices of every length", "16", ""),
+    (16, "slices of every length", "5", ""),
+    (
+        16,
+        "add",
+        "2,5,8,11,14,0,3,6,9,12,15,1,4,7,10,13|7,12,10,1,2,13,0,14,4,4,14,0,13,2,1,10",
+        "9,0,1,12,16,13,3,3,13,16,12,1,0,9,11,6",
+    ),
+    (
+        16,
+        "sub",
+        "2,5,8,11,14,0,3,6,9,12,15,1,4,7,10,13|7,12,10,1,2,13,0,14,4,4,14,0,13,2,1,10",
+        "12,10,15,10,12,4,3,9,5,8,1,1,8,5,9,3",
+    ),
+    (
+        16,
+        "mul",
+        "2,5,8,11,14,0,3,6,9,12,15,1,4,7,10,13|7,12,10,1,2,13,0,14,4,4,14,0,13,2,1,10",
+        "14,9,12,11,11,0,0,16,2,14,6,0,1,14,10,11",
+    ),
+    (
+        16,
+        "dot_product",
+        "2,5,8,11,14,0,3,6,9,12,15,1,4,7,10,13 7,12,10,1,2,13,0,14,4,4,14,0,13,2,1,10|7,12,10,1,2,13,0,14,4,4,14,0,13,2,1,10 7,12,10,1,2,13,0,14,4,4,14,0,13,2,1,10",
+        "12,0,10,12,15,16,0,8,1,13,15,0,0,1,11,9",
+    ),
+    (
+        16,
+        "packed_powers",
+        "3",
+        "1,3,9,10,13,5,15,11,16,14,8,7,4,12,2,6 1,3,9,10,13,5,15,11,16,14,8,7,4,12,2,6",
+    ),
+];
+
+/// `row_agrees` over the packings of a prime field in words of 32 bits with 1, 3, 4, 8 or 16 lanes.
 fn over<W: Form<u32>>(alloc: Global, row: Call) -> Result<Option<bool>, AllocError> {
-    let (width, call, arguments, answer) = row;
-    match width {
-        1 => agrees::<Fp<W>, Packed<Fp<W>, 1>>(alloc, call, arguments, answer),
-        3 => agrees::<Fp<W>, Packed<Fp<W>, 3>>(alloc, call, arguments, answer),
-        4 => agrees::<Fp<W>, Packed<Fp<W>, 4>>(alloc, call, arguments, answer),
-        8 => agrees::<Fp<W>, Packed<Fp<W>, 8>>(alloc, call, arguments, answer),
+    match row.0 {
+        1 => row_agrees::<Fp<W>, Packed<Fp<W>, 1>>(alloc, &[], &[], row),
+        3 => row_agrees::<Fp<W>, Packed<Fp<W>, 3>>(alloc, &[], &[], row),
+        4 => row_agrees::<Fp<W>, Packed<Fp<W>, 4>>(alloc, &[], &[], row),
+        8 => row_agrees::<Fp<W>, Packed<Fp<W>, 8>>(alloc, &[], &[], row),
+        16 => row_agrees::<Fp<W>, Packed<Fp<W>, 16>>(alloc, &[], &[], row),
         _ => Ok(None),
     }
 }
 
 /// The same in words of 64 bits.
 fn over_long<W: Form<u64>>(alloc: Global, row: Call) -> Result<Option<bool>, AllocError> {
-    let (width, call, arguments, answer) = row;
-    match width {
-        1 => agrees::<Fp<W, u64>, Packed<Fp<W, u64>, 1>>(alloc, call, arguments, answer),
-        4 => agrees::<Fp<W, u64>, Packed<Fp<W, u64>, 4>>(alloc, call, arguments, answer),
-        8 => agrees::<Fp<W, u64>, Packed<Fp<W, u64>, 8>>(alloc, call, arguments, answer),
+    match row.0 {
+        1 => row_agrees::<Fp<W, u64>, Packed<Fp<W, u64>, 1>>(alloc, &[], &[], row),
+        4 => row_agrees::<Fp<W, u64>, Packed<Fp<W, u64>, 4>>(alloc, &[], &[], row),
+        8 => row_agrees::<Fp<W, u64>, Packed<Fp<W, u64>, 8>>(alloc, &[], &[], row),
         _ => Ok(None),
     }
 }
@@ -259,6 +331,33 @@ fn calls_on_packings(rt: HostRuntime) -> Result<(), Fail> {
     assert_calls::<Plain<BabyBearModulus>>(&rt, &BABY_BEAR_CALLS)?;
     assert_calls::<Plain<KoalaBearModulus>>(&rt, &KOALA_BEAR_CALLS)?;
     for row in GOLDILOCKS_CALLS {
+        assert_eq!(rt; over_long::<GoldilocksForm>(rt.alloc(), row)?, Some(true));
+    }
+    Ok(())
+}
+
+#[test]
+fn sums_over_packings(rt: HostRuntime) -> Result<(), Fail> {
+    assert_calls::<Plain<M17>>(&rt, &F17_SUMS)?;
+    assert_calls::<Plain<M17>>(&rt, &WORKED_SUMS)?;
+    assert_calls::<Plain<M15>>(&rt, &Z15_SUMS)?;
+    assert_calls::<Plain<BabyBearModulus>>(&rt, &BABY_BEAR_SUMS)?;
+    assert_calls::<Plain<KoalaBearModulus>>(&rt, &KOALA_BEAR_SUMS)?;
+    for row in GOLDILOCKS_SUMS {
+        assert_eq!(rt; over_long::<GoldilocksForm>(rt.alloc(), row)?, Some(true));
+    }
+    Ok(())
+}
+
+#[test]
+fn columns_of_rows(rt: HostRuntime) -> Result<(), Fail> {
+    assert_calls::<Plain<M2>>(&rt, &F2_COLUMNS)?;
+    assert_calls::<Plain<M17>>(&rt, &F17_COLUMNS)?;
+    assert_calls::<Plain<M31>>(&rt, &F31_COLUMNS)?;
+    assert_calls::<Plain<M15>>(&rt, &Z15_COLUMNS)?;
+    assert_calls::<Plain<BabyBearModulus>>(&rt, &BABY_BEAR_COLUMNS)?;
+    assert_calls::<Plain<KoalaBearModulus>>(&rt, &KOALA_BEAR_COLUMNS)?;
+    for row in GOLDILOCKS_COLUMNS {
         assert_eq!(rt; over_long::<GoldilocksForm>(rt.alloc(), row)?, Some(true));
     }
     Ok(())

@@ -32,7 +32,7 @@ pub(crate) fn are_powers<F: Field, P: PackedField<F>>(
 }
 
 /// The values of a text.
-fn entries<F: Field>(alloc: Global, text: &str) -> Result<Vec<F>, AllocError> {
+pub(crate) fn entries<F: Field>(alloc: Global, text: &str) -> Result<Vec<F>, AllocError> {
     let mut entries = Vec::new(alloc);
     for word in text.split_terminator(',') {
         entries.push(value_at::<F>(word, 0).unwrap_or(F::zero()))?;

@@ -532,6 +532,13 @@ pub(crate) const F17_BLOCKS: [Blocks; 5] = [
     ),
 ];
 
+/// Worked blocks of four lanes over `f17`.
+pub(crate) const WORKED_BLOCKS: [Blocks; 3] = [
+    (4, 1, "0,1,2,3", "4,5,6,7", "0,4,2,6", "1,5,3,7"),
+    (4, 2, "0,1,2,3", "4,5,6,7", "0,1,4,5", "2,3,6,7"),
+    (4, 4, "0,1,2,3", "4,5,6,7", "0,1,2,3", "4,5,6,7"),
+];
+
 /// Packings over `f31` interleaved by blocks.
 pub(crate) const F31_BLOCKS: [Blocks; 3] = [
     (4, 1, "6,5,18,28", "17,8,5,14", "6,17,18,5", "5,8,28,14"),

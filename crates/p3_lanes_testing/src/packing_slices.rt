@@ -1,0 +1,144 @@
+//! Slices of every length from 0 to 17 that are scaled, added and written by packings, against plain loops.
+ghost use Rattle.std.specs.Prelude.{◌≤◌, ◌+◌, ◌*◌, IfSome};
+
+use crate::packing_blocks::value_at;
+use crate::packing_list_calls::entries;
+use p3_base::field::Field;
+use p3_base::packed_traits::{PackedField, PackedValue};
+use p3_ring::ring::PrimeCharacteristicRing;
+use p3_tools::helpers::{add_scaled_slice_in_place, scale_slice_in_place_single_core};
+use std::alloc::{AllocError, Global};
+
+/// So many values, the multiples of a number.
+fn multiples<F: Field>(alloc: Global, length: usize, step: u64) -> Result<Vec<F>, AllocError> {
+    let mut values = Vec::new(alloc);
+    for i in 0..length {
+        values.push(F::from_u64((i as u64).wrapping_add(1).wrapping_mul(step)))?;
+    }
+    Ok(values)
+}
+
+/// Whether each entry is that of the first list and that of the second one times the factor.
+fn are_sums<F: Field>(sums: &[F], left: &[F], right: &[F], s: F) -> bool {
+    if sums.len() != left.len() || sums.len() != right.len() {
+        return false;
+    }
+    for i in 0..sums.len() {
+        if sums[i] != left[i] + right[i] * s {
+            return false;
+        }
+    }
+    true
+}
+
+/// Whether slices of a length are scaled and added as by the plain loop.
+fn sums_of_length<F: Field, P: PackedField<F>>(
+    alloc: Global,
+    length: usize,
+    s: F,
+) -> Result<bool, AllocError> {
+    let zeros: Vec<F> = multiples(alloc, length, 0)?;
+    let left: Vec<F> = multiples(alloc, length, 5)?;
+    let right: Vec<F> = multiples(alloc, length, 11)?;
+    let mut scaled: Vec<F> = multiples(alloc, length, 11)?;
+    let mut added: Vec<F> = multiples(alloc, length, 5)?;
+    let mut sums: Vec<F> = multiples(alloc, length, 5)?;
+    scale_slice_in_place_single_core::<F, P>(&mut scaled, s);
+    if added.len() != right.len() || sums.len() != right.len() {
+        return Ok(false);
+    }
+    add_scaled_slice_in_place::<F, P>(&mut added, &right, s);
+    F::add_slices(&mut sums, &right);
+    Ok(
+        are_sums(&scaled, &zeros, &right, s)
+            && are_sums(&added, &left, &right, s)
+            && are_sums(&sums, &left, &right, F::one()),
+    )
+}
+
+/// The number of a group that lies whole in so many values.
+pub(crate) fn group_within<F: Field, P: PackedField<F>>(
+    length: usize,
+    group: usize,
+) -> Option<usize>
+    ensures { IfSome result (λ i. i * P.WIDTH + P.WIDTH ≤ length) }
+{
+    let start = group.checked_mul(P::WIDTH)?;
+    if start.checked_add(P::WIDTH)? <= length {
+        Some(group)
+    } else {
+        None
+    }
+}
+
+/// Whether each entry of a group is the packing's lane, and each other one the multiple that it was.
+fn holds_block<F: Field, P: PackedField<F>>(
+    slice: &[F],
+    block: &P,
+    group: usize,
+    step: u64,
+) -> bool {
+    for i in 0..slice.len() {
+        let expected = if i / P::WIDTH == group {
+            block.extract(i % P::WIDTH)
+        } else {
+            F::from_u64((i as u64).wrapping_add(1).wrapping_mul(step))
+        };
+        if slice[i] != expected {
+            return false;
+        }
+    }
+    true
+}
+
+/// Whether a packing written to each whole group of a slice stands there alone, and is read there again.
+fn blocks_of_length<F: Field, P: PackedField<F>>(
+    alloc: Global,
+    length: usize,
+) -> Result<bool, AllocError> {
+    let block = P::from_fn(|lane: usize| -> F { F::from_usize(lane) });
+    for group in 0..length {
+        let mut slice: Vec<F> = multiples(alloc, length, 7)?;
+        let Some(i) = group_within::<F, P>(slice.len(), group) else {
+            return Ok(true);
+        };
+        block.store_block(&mut slice, i);
+        if !holds_block::<F, P>(&slice, &block, i, 7) {
+            return Ok(false);
+        }
+    }
+    Ok(true)
+}
+
+/// Whether slices of all lengths up to 17 are scaled, added and written as by plain loops.
+pub(crate) fn lengths_agree<F: Field, P: PackedField<F>>(
+    alloc: Global,
+    factor: &str,
+) -> Result<Option<bool>, AllocError> {
+    let Some(s) = value_at::<F>(factor, 0) else {
+        return Ok(None);
+    };
+    for length in 0..18usize {
+        if !sums_of_length::<F, P>(alloc, length, s)? || !blocks_of_length::<F, P>(alloc, length)? {
+            return Ok(Some(false));
+        }
+    }
+    Ok(Some(true))
+}
+
+/// Whether a slice is what a text says once another one is added to it.
+pub(crate) fn slices_agree<F: Field>(
+    alloc: Global,
+    slices: &str,
+    text: &str,
+) -> Result<Option<bool>, AllocError> {
+    let mut sides = slices.split('|');
+    let mut sums: Vec<F> = entries(alloc, sides.next().unwrap_or(""))?;
+    let other: Vec<F> = entries(alloc, sides.next().unwrap_or(""))?;
+    let expected: Vec<F> = entries(alloc, text)?;
+    if sums.len() != other.len() {
+        return Ok(None);
+    }
+    F::add_slices(&mut sums, &other);
+    Ok(Some(sums.as_slice() == expected.as_slice()))
+}
