@@ -5,3 +5,9 @@
 mod lane_run_tables;
 #[cfg(test)]
 mod lane_runs;
+#[cfg(test)]
+mod packed_call_tables;
+#[cfg(test)]
+mod packed_calls;
+#[cfg(test)]
+mod packed_calls_over;
