@@ -5,3 +5,5 @@
 mod array_calls;
 #[cfg(test)]
 mod array_tables;
+#[cfg(test)]
+mod mapping;
