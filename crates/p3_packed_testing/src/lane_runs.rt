@@ -387,12 +387,12 @@ fn values<W: LaneRuns<D, L, N>, const D: usize, const L: usize, const N: usize>(
 }
 
 /// The value of a text.
-pub(crate) fn value<F: Field, EF: BasedVectorSpace<F>>(text: &str) -> EF {
+fn value<F: Field, EF: BasedVectorSpace<F>>(text: &str) -> EF {
     EF::from_basis_coefficients_fn(|d: usize| -> F { coefficient::<F>(text, d) })
 }
 
 /// The coefficient at an index of a text, zero past its end.
-pub(crate) fn coefficient<F: Field>(text: &str, index: usize) -> F {
+fn coefficient<F: Field>(text: &str, index: usize) -> F {
     let number = match text.split(',').nth(index) {
         Some(word) => word.parse::<u32>().unwrap_or(0),
         None => 0,

@@ -5,9 +5,3 @@
 mod lane_run_tables;
 #[cfg(test)]
 mod lane_runs;
-#[cfg(test)]
-mod packed_call_tables;
-#[cfg(test)]
-mod packed_calls;
-#[cfg(test)]
-mod packed_calls_over;
