@@ -115,6 +115,7 @@ pub use p3_spaces::streams::U64Stream;
 pub use p3_tools::coset as coset;
 pub use p3_tools::helpers::HornerIter;
 pub use p3_tools::helpers::add_scaled_slice_in_place;
+pub use p3_tools::helpers::add_slices;
 pub use p3_tools::helpers::cyclic_subgroup_coset_known_order;
 pub use p3_tools::helpers::cyclic_subgroup_known_order;
 pub use p3_tools::helpers::dot_product;

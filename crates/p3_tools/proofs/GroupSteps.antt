@@ -4,7 +4,7 @@ use Rattle.std.proofs.Common.{arith, ap, ap₂, sym, refl, ◌∙◌, take-add, 
 use Rattle.std.proofs.lemmas.Nat.{div-add-mod'}
 use Rattle.std.proofs.lemmas.List.{get_or-map, ext_get_or}
 use Rattle.std.proofs.Math.Nat.{suc-mul, mul-le-mul_right}
-use Rattle.p3_theory.specs.Rings.Ring.{Ops, Hom}
+use Rattle.p3_theory.specs.Rings.Ring.{Ops}
 use Rattle.p3_theory.specs.Lanes.Lanes.{lane, KeepsLanes, at_replicate}
 use Rattle.p3_theory.specs.Lists.PairedLists.{zip_with}
 

@@ -114,6 +114,25 @@ pub fn par_add_scaled_slice_in_place<F: Field, P: PackedField<F>>(
     add_scaled_slice_in_place::<F, P>(slice, other, s);
 }
 
+/// Adds to each entry of the first slice the entry of the second at its index, in packings and the rest
+/// entry by entry. The slices have one length. Upstream's `add_slices`, a method of the field there, which
+/// names its packing; here the method of this name goes entry by entry.
+#[inline]
+pub fn add_slices<F: Field, P: PackedField<F>>(slice_1: &mut [F], slice_2: &[F])
+    requires { length slice_1.old ≡ length slice_2.now }
+    ensures { slice_1.new ≡ zip_with F.ops.add slice_1.old slice_2.now }
+{
+    let groups = slice_1.len() / P::WIDTH;
+    for i in 0..groups {
+        let x = P::load_block(slice_1, i);
+        let y = P::load_block(slice_2, i);
+        let sum = x + y;
+        sum.store_block(slice_1, i);
+    }
+    let done = groups * P::WIDTH;
+    F::add_slices(&mut slice_1[done..], &slice_2[done..]);
+}
+
 /// The array `[x, 0, .., 0]` of length D. Upstream's `field_to_array`.
 #[inline]
 #[must_use]
