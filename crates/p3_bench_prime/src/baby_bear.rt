@@ -1,7 +1,9 @@
+ghost use Rattle.std.specs.Prelude.{refl};
 ghost use Rattle.std.proofs.Common.{lit<};
 
-use crate::form::{Modulus, Plain};
+use crate::form::Modulus;
 use crate::fp::Fp;
+use crate::montgomery::{Montgomery, MontgomeryModulus};
 
 /// The marker of the order 2^31 - 2^27 + 1.
 pub struct BabyBearModulus;
@@ -20,5 +22,23 @@ impl Modulus for BabyBearModulus {
     const GENERATOR: u32 = 31;
 }
 
-/// The residues modulo 2^31 - 2^27 + 1. Upstream's `BabyBear`.
-pub type BabyBear = Fp<Plain<BabyBearModulus>>;
+impl MontgomeryModulus for BabyBearModulus {
+    ghost INVERSE = { 2281701377 };
+
+    ghost SQUARE = { 1172168163 };
+
+    ghost SCALE_INVERSE = { 943718400 };
+
+    ghost inverse = { refl };
+
+    ghost square = { refl };
+
+    ghost scale_inverse = { refl };
+
+    const INVERSE: u32 = 2281701377;
+
+    const SQUARE: u32 = 1172168163;
+}
+
+/// The residues modulo 2^31 - 2^27 + 1, in Montgomery's form. Upstream's `BabyBear`.
+pub type BabyBear = Fp<Montgomery<BabyBearModulus>>;

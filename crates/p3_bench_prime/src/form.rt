@@ -2,6 +2,7 @@ ghost use Rattle.std.specs.Prelude.{◌≡◌, ◌<◌, ◌+◌, ◌-◌, ◌*�
 ghost use Rattle.p3_bench_residues.specs.Forms.{IsForm};
 
 use crate::fp::Fp;
+use crate::short_sums::sum_products;
 use p3_bench_residues::remainder::{remainder_by_reciprocal, remainder_of_sum};
 use p3_bench_residues::short_words::{add_words, halve_word, negate_word, subtract_words};
 use std::alloc::AllocError;
@@ -11,14 +12,35 @@ use std::marker::PhantomData;
 pub trait Word: Copy {
     /// The number that a word is.
     ghost number: { Self → ℕ };
+
+    /// The number that a word is.
+    fn to_u64(self) -> u64
+        ensures { result ≡ number self };
+
+    /// Words that are one number are one word.
+    ghost same_number: { (v w : Self) → number v ≡ number w → v ≡ w };
 }
 
 impl Word for u32 {
     ghost number = { λ w. w };
+
+    #[inline]
+    fn to_u64(self) -> u64 {
+        self as u64
+    }
+
+    ghost same_number = { λ v w h. h };
 }
 
 impl Word for u64 {
     ghost number = { λ w. w };
+
+    #[inline]
+    fn to_u64(self) -> u64 {
+        self
+    }
+
+    ghost same_number = { λ v w h. h };
 }
 
 /// How words of a type stand for the residues modulo an order, and the operations on words. A type
@@ -208,7 +230,7 @@ impl<M: Modulus> Form<u32> for Plain<M> {
     /// The sum of the products of the words, which is reduced once, at the end.
     #[inline]
     fn dot_product(u: &[Fp<Self, u32>], v: &[Fp<Self, u32>]) -> u32 {
-        let sum = Fp::sum_products(u, v);
+        let sum = sum_products(u, v);
         remainder_of_sum(sum, M::ORDER)
     }
 }

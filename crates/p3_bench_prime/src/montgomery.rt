@@ -1,0 +1,122 @@
+//! Residues in Montgomery's form: the word holds the residue times 2^32.
+ghost use Rattle.std.specs.Prelude.{◌≡◌, ◌*◌, ◌%◌, ◌^◌, ℕ, ⊤};
+
+use crate::form::{Form, Modulus, ShortForm};
+use crate::fp::Fp;
+use crate::short_sums::sum_products;
+use p3_bench_residues::montgomery::{montgomery_product, montgomery_sum};
+use p3_bench_residues::short_words::{add_words, halve_word, negate_word, subtract_words};
+use std::alloc::AllocError;
+use std::marker::PhantomData;
+
+/// What Montgomery's form needs of an odd order, as numbers. It stands for what upstream writes in
+/// each impl of `MontyParameters`.
+pub trait MontgomeryModulus: Modulus {
+    ghost INVERSE: { ℕ };
+
+    ghost SQUARE: { ℕ };
+
+    /// The inverse of 2^32 modulo the order.
+    ghost SCALE_INVERSE: { ℕ };
+
+    ghost inverse: { (Self.ORDER * INVERSE) % 2 ^ 32 ≡ 1 };
+
+    ghost square: { SQUARE ≡ (2 ^ 32 * 2 ^ 32) % Self.ORDER };
+
+    ghost scale_inverse: { (2 ^ 32 * SCALE_INVERSE) % Self.ORDER ≡ 1 };
+
+    /// The inverse of the order modulo 2^32.
+    const INVERSE: u32;
+
+    /// The residue of 2^64.
+    const SQUARE: u32;
+}
+
+/// The form in which a word of 32 bits holds a residue of the order of M times 2^32, as a residue: a
+/// product takes one reduction, which needs no quotient.
+pub struct Montgomery<M>(PhantomData<M>);
+
+impl<M> Clone for Montgomery<M> {
+    ghost is_clone = { λ x y. y ≡ x };
+
+    ghost is_infallible = { λ _. ⊤ };
+
+    #[inline]
+    fn clone(&self) -> Result<Self, AllocError> {
+        Ok(*self)
+    }
+}
+
+impl<M> Copy for Montgomery<M> {}
+
+impl<M: MontgomeryModulus> Form<u32> for Montgomery<M> {
+    ghost use Rattle.p3_bench_residues.specs.Forms.{order_below};
+    ghost use Rattle.p3_bench_residues.specs.Montgomery.{montgomery, montgomery_canon, montgomery_word};
+
+    ghost ORDER = { M.ORDER };
+
+    ghost number = { λ w. w };
+
+    ghost canon = { montgomery_canon M.ORDER (2 ^ 32) M.SCALE_INVERSE };
+
+    ghost word = { montgomery_word M.ORDER (2 ^ 32) M.SCALE_INVERSE };
+
+    ghost GENERATOR = { M.GENERATOR };
+
+    ghost is_form = { montgomery M.ORDER (2 ^ 32) M.SCALE_INVERSE M.scale_inverse M.above_one (order_below M.ORDER M.fits) };
+
+    const ORDER: u64 = M::ORDER as u64;
+
+    const GENERATOR: u64 = M::GENERATOR as u64;
+
+    #[inline]
+    fn decode(stored: u32) -> u64 {
+        montgomery_product(stored, 1, M::ORDER, M::INVERSE) as u64
+    }
+
+    #[inline]
+    fn encode(residue: u64) -> u32 {
+        montgomery_product(M::SQUARE, residue as u32, M::ORDER, M::INVERSE)
+    }
+
+    #[inline]
+    fn reduce(value: u32) -> u32 {
+        montgomery_product(M::SQUARE, value, M::ORDER, M::INVERSE)
+    }
+
+    #[inline]
+    fn sum(left: u32, right: u32) -> u32 {
+        add_words(left, right, M::ORDER)
+    }
+
+    #[inline]
+    fn difference(left: u32, right: u32) -> u32 {
+        subtract_words(left, right, M::ORDER)
+    }
+
+    #[inline]
+    fn negation(stored: u32) -> u32 {
+        negate_word(stored, M::ORDER)
+    }
+
+    #[inline]
+    fn product(left: u32, right: u32) -> u32 {
+        montgomery_product(left, right, M::ORDER, M::INVERSE)
+    }
+
+    #[inline]
+    fn half(stored: u32) -> u32 {
+        halve_word(stored, M::ORDER)
+    }
+
+    /// The sum of the products of the words, which is reduced once, at the end.
+    #[inline]
+    fn dot_product(u: &[Fp<Self, u32>], v: &[Fp<Self, u32>]) -> u32 {
+        let sum = sum_products(u, v);
+        montgomery_sum(sum, M::ORDER, M::INVERSE)
+    }
+}
+
+impl<M: MontgomeryModulus> ShortForm for Montgomery<M> {
+    ghost short = { M.fits };
+}
