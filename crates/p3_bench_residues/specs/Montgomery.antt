@@ -110,7 +110,7 @@ module _ (p r i : ℕ) (unit : (r * i) % p ≡ 1) where
         let rest = sum_of_products (λ z. canon (word z)) xs ys in
         let regrouped : w * i * (v * i) ≡ w * v * (i * i) = omega arith in
         let whole : w * v * (i * i) + s * (i * i) ≡ (w * v + s) * (i * i) = omega arith in
-        sym (add-mod_first (canon w * canon v) rest p ∙ sym (add-mod_second ((canon w * canon v) % p) rest p))
+        sym (add-mod_second ((canon w * canon v) % p) rest p ∙ add-mod_first (canon w * canon v) rest p)
         ∙ ap₂ (λ a b. (a + b) % p) (mul-mod_first (w * i) (canon v) p ∙ mul-mod_second (w * i) (v * i) p ∙ ap (λ z. z % p) regrouped) (scaled xs ys)
         ∙ add-mod_first (w * v * (i * i)) ((s * (i * i)) % p) p ∙ add-mod_second (w * v * (i * i)) (s * (i * i)) p ∙ ap (λ z. z % p) whole
 
