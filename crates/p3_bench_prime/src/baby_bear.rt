@@ -1,39 +1,36 @@
 ghost use Rattle.std.specs.Prelude.{refl};
 ghost use Rattle.std.proofs.Common.{lit<};
 
-use crate::form::Modulus;
 use crate::fp::Fp;
 use crate::montgomery::{Montgomery, MontgomeryModulus};
 
 /// The marker of the order 2^31 - 2^27 + 1.
 pub struct BabyBearModulus;
 
-impl Modulus for BabyBearModulus {
+impl MontgomeryModulus for BabyBearModulus {
     ghost ORDER = { 2013265921 };
 
     ghost GENERATOR = { 31 };
 
-    ghost above_one = { lit< tt };
-
-    ghost fits = { lit< tt };
-
-    const ORDER: u32 = 2013265921;
-
-    const GENERATOR: u32 = 31;
-}
-
-impl MontgomeryModulus for BabyBearModulus {
     ghost INVERSE = { 2281701377 };
 
     ghost SQUARE = { 1172168163 };
 
     ghost SCALE_INVERSE = { 943718400 };
 
-    ghost inverse = { refl };
+    ghost above_one = { lit< tt };
 
-    ghost square = { refl };
+    ghost fits = { lit< tt };
 
-    ghost scale_inverse = { refl };
+    ghost inverts_order = { refl };
+
+    ghost is_square = { refl };
+
+    ghost undoes_scale = { refl };
+
+    const ORDER: u32 = 2013265921;
+
+    const GENERATOR: u32 = 31;
 
     const INVERSE: u32 = 2281701377;
 

@@ -1,7 +1,7 @@
 //! Residues in Montgomery's form: the word holds the residue times 2^32.
-ghost use Rattle.std.specs.Prelude.{◌≡◌, ◌*◌, ◌%◌, ◌^◌, ℕ, ⊤};
+ghost use Rattle.std.specs.Prelude.{◌≡◌, ◌<◌, ◌*◌, ◌%◌, ◌^◌, ℕ, ⊤};
 
-use crate::form::{Form, Modulus, ShortForm};
+use crate::form::{Form, ShortForm};
 use crate::fp::Fp;
 use crate::short_sums::sum_products;
 use p3_bench_residues::montgomery::{montgomery_product, montgomery_sum};
@@ -9,9 +9,13 @@ use p3_bench_residues::short_words::{add_words, halve_word, negate_word, subtrac
 use std::alloc::AllocError;
 use std::marker::PhantomData;
 
-/// What Montgomery's form needs of an odd order, as numbers. It stands for what upstream writes in
-/// each impl of `MontyParameters`.
-pub trait MontgomeryModulus: Modulus {
+/// A marker of an odd order, with the numbers that Montgomery's form takes from it. It stands for what
+/// upstream writes in each impl of `MontyParameters`.
+pub trait MontgomeryModulus {
+    ghost ORDER: { ℕ };
+
+    ghost GENERATOR: { ℕ };
+
     ghost INVERSE: { ℕ };
 
     ghost SQUARE: { ℕ };
@@ -19,17 +23,46 @@ pub trait MontgomeryModulus: Modulus {
     /// The inverse of 2^32 modulo the order.
     ghost SCALE_INVERSE: { ℕ };
 
-    ghost inverse: { (Self.ORDER * INVERSE) % 2 ^ 32 ≡ 1 };
+    ghost above_one: { 1 < ORDER };
 
-    ghost square: { SQUARE ≡ (2 ^ 32 * 2 ^ 32) % Self.ORDER };
+    ghost fits: { ORDER < 2 ^ 31 };
 
-    ghost scale_inverse: { (2 ^ 32 * SCALE_INVERSE) % Self.ORDER ≡ 1 };
+    ghost inverts_order: { (ORDER * INVERSE) % 2 ^ 32 ≡ 1 };
+
+    ghost is_square: { SQUARE ≡ (2 ^ 32 * 2 ^ 32) % ORDER };
+
+    ghost undoes_scale: { (2 ^ 32 * SCALE_INVERSE) % ORDER ≡ 1 };
+
+    /// The order, from 2 to 2^31 - 1.
+    const ORDER: u32;
+
+    /// The residue that upstream names as a generator of the units. No clause says that it generates them.
+    const GENERATOR: u32;
 
     /// The inverse of the order modulo 2^32.
     const INVERSE: u32;
 
     /// The residue of 2^64.
     const SQUARE: u32;
+}
+
+/// The residue that is the product of both words once it is multiplied by 2^32.
+#[inline]
+fn reduced_product<M: MontgomeryModulus>(left: u32, right: u32) -> u32
+    requires { left < M.ORDER }
+    ensures below { result < M.ORDER }
+    ensures value { (result * 2 ^ 32) % M.ORDER ≡ (left * right) % M.ORDER }
+{
+    montgomery_product(left, right, M::ORDER, M::INVERSE)
+}
+
+/// The residue that is the sum once it is multiplied by 2^32.
+#[inline]
+fn reduced_sum<M: MontgomeryModulus>(sum: u128) -> u32
+    ensures below { result < M.ORDER }
+    ensures value { (result * 2 ^ 32) % M.ORDER ≡ sum % M.ORDER }
+{
+    montgomery_sum(sum, M::ORDER, M::INVERSE)
 }
 
 /// The form in which a word of 32 bits holds a residue of the order of M times 2^32, as a residue: a
@@ -63,7 +96,7 @@ impl<M: MontgomeryModulus> Form<u32> for Montgomery<M> {
 
     ghost GENERATOR = { M.GENERATOR };
 
-    ghost is_form = { montgomery M.ORDER (2 ^ 32) M.SCALE_INVERSE M.scale_inverse M.above_one (order_below M.ORDER M.fits) };
+    ghost is_form = { montgomery M.ORDER (2 ^ 32) M.SCALE_INVERSE M.undoes_scale M.above_one (order_below M.ORDER M.fits) };
 
     const ORDER: u64 = M::ORDER as u64;
 
@@ -71,17 +104,17 @@ impl<M: MontgomeryModulus> Form<u32> for Montgomery<M> {
 
     #[inline]
     fn decode(stored: u32) -> u64 {
-        montgomery_product(stored, 1, M::ORDER, M::INVERSE) as u64
+        reduced_product::<M>(stored, 1) as u64
     }
 
     #[inline]
     fn encode(residue: u64) -> u32 {
-        montgomery_product(M::SQUARE, residue as u32, M::ORDER, M::INVERSE)
+        reduced_product::<M>(M::SQUARE, residue as u32)
     }
 
     #[inline]
     fn reduce(value: u32) -> u32 {
-        montgomery_product(M::SQUARE, value, M::ORDER, M::INVERSE)
+        reduced_product::<M>(M::SQUARE, value)
     }
 
     #[inline]
@@ -101,7 +134,7 @@ impl<M: MontgomeryModulus> Form<u32> for Montgomery<M> {
 
     #[inline]
     fn product(left: u32, right: u32) -> u32 {
-        montgomery_product(left, right, M::ORDER, M::INVERSE)
+        reduced_product::<M>(left, right)
     }
 
     #[inline]
@@ -113,7 +146,7 @@ impl<M: MontgomeryModulus> Form<u32> for Montgomery<M> {
     #[inline]
     fn dot_product(u: &[Fp<Self, u32>], v: &[Fp<Self, u32>]) -> u32 {
         let sum = sum_products(u, v);
-        montgomery_sum(sum, M::ORDER, M::INVERSE)
+        reduced_sum::<M>(sum)
     }
 }
 

@@ -5,7 +5,7 @@ use Rattle.std.proofs.Math.Nat.{add-mul-mod_self_left, mod-lt, mod-eq_of_lt, mul
 use Rattle.std.proofs.lemmas.Nat.{mul-mod_first, mul-mod_second}
 use Rattle.p3_theory.specs.ResidueRings.Modular.{add-mod_first, add-mod_second}
 use Rattle.p3_theory.specs.ResidueRings.SumsOfProducts.{sum_of_products}
-use Rattle.p3_bench_residues.specs.Forms.{IsForm}
+use Rattle.p3_bench_residues.specs.Forms.{IsForm, remainder_below}
 
 module _ (p r i : ℕ) where
   -- the residue that a word stands for
@@ -15,6 +15,10 @@ module _ (p r i : ℕ) where
   -- the word that stands for a residue
   abbrev pub montgomery_word : ℕ → ℕ
   montgomery_word n = (n * r) % p
+
+-- the square of r is taken modulo p
+pub square_below : (p s r : ℕ) → 1 < p → s ≡ (r * r) % p → s < p
+square_below p s r above e = let h = remainder_below p (r * r) above in omega (arith, e, h)
 
 module _ (p r i : ℕ) (unit : (r * i) % p ≡ 1) where
   abbrev canon : ℕ → ℕ
