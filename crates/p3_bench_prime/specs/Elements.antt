@@ -46,12 +46,12 @@ module _ {W T : Type 0} (form : forms.Ghosts W T) {bounds : words.Ghosts T} wher
   }
 
   -- the words of two values are one number exactly where their canonical values are
-  pub same_words : ((v w : T) → bounds.number v ≡ bounds.number w → v ≡ w) → (x y : Fp W T form bounds)
-      → (bounds.number x.word == bounds.number y.word) ≡ on canon ◌==◌ x y
-  same_words one x y =
+  pub same_words : (x y : Fp W T form bounds) → (bounds.number x.word == bounds.number y.word) ≡ on canon ◌==◌ x y
+  same_words x y =
       let words = Decides-eqb (bounds.number x.word) (bounds.number y.word) in
       let residues = Decides-eqb (canon x) (canon y) in
-      same_tests _ _ (λ h. residues.1 (ap form.canon (one x.word y.word (words.0 h)))) (λ h. words.1 (ap (λ z. bounds.number z.word) (same_canon is x y (residues.0 h))))
+      same_tests _ _ (λ h. residues.1 (ap form.canon (bounds.same_number x.word y.word (words.0 h))))
+      (λ h. words.1 (ap (λ z. bounds.number z.word) (same_canon is x y (residues.0 h))))
 
 -- the word of a value as a number
 abbrev pub word_number : {W : Type 0} {form : forms.Ghosts W ℕ} {bounds : words.Ghosts ℕ} → Fp W ℕ form bounds → ℕ

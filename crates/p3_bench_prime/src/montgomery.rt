@@ -3,7 +3,7 @@ ghost use Rattle.std.specs.Prelude.{◌≡◌, ◌<◌, ◌*◌, ◌%◌, ◌^�
 
 use crate::form::{Form, ShortForm};
 use crate::fp::Fp;
-use crate::short_sums::sum_products;
+use crate::short_sums::{ShortWord, sum_products};
 use p3_bench_residues::montgomery::{montgomery_product, montgomery_sum};
 use p3_bench_residues::short_words::{add_words, halve_word, negate_word, subtract_words};
 use std::alloc::AllocError;
@@ -152,4 +152,18 @@ impl<M: MontgomeryModulus> Form<u32> for Montgomery<M> {
 
 impl<M: MontgomeryModulus> ShortForm for Montgomery<M> {
     ghost short = { M.fits };
+}
+
+impl<M: MontgomeryModulus> ShortWord for Fp<Montgomery<M>> {
+    ghost use Rattle.std.proofs.Common.{arith};
+    ghost use Rattle.p3_bench_prime.specs.Elements.{word_number};
+
+    ghost word = { word_number };
+
+    #[inline]
+    fn stored_word(&self) -> u32 {
+        self.word
+    }
+
+    ghost short = { λ x. omega (arith, x.below, M.fits) };
 }
