@@ -629,7 +629,9 @@ fn rows_hold<W: ShortForm, V: Form<T>, T: Word>(
 
 #[test]
 fn f17_into_bb(rt: HostRuntime) -> Result<(), Fail> {
-    assert!(rt; rows_hold::<Plain<M17>, Montgomery<BabyBearModulus>, u32>(rt.alloc(), &F17_INTO_BB)?);
+    assert!(rt;
+        rows_hold::<Plain<M17>, Montgomery<BabyBearModulus>, u32>(rt.alloc(), &F17_INTO_BB)?
+    );
     Ok(())
 }
 
@@ -642,14 +644,19 @@ fn f2_into_f17(rt: HostRuntime) -> Result<(), Fail> {
 #[test]
 fn kb_into_bb(rt: HostRuntime) -> Result<(), Fail> {
     assert!(rt;
-        rows_hold::<Plain<KoalaBearModulus>, Montgomery<BabyBearModulus>, u32>(rt.alloc(), &KB_INTO_BB)?
+        rows_hold::<Plain<KoalaBearModulus>, Montgomery<BabyBearModulus>, u32>(
+            rt.alloc(),
+            &KB_INTO_BB
+        )?
     );
     Ok(())
 }
 
 #[test]
 fn bb_into_gl(rt: HostRuntime) -> Result<(), Fail> {
-    assert!(rt; rows_hold::<Montgomery<BabyBearModulus>, GoldilocksForm, u64>(rt.alloc(), &BB_INTO_GL)?);
+    assert!(rt;
+        rows_hold::<Montgomery<BabyBearModulus>, GoldilocksForm, u64>(rt.alloc(), &BB_INTO_GL)?
+    );
     Ok(())
 }
 
@@ -691,7 +698,9 @@ fn f31_into_kb(rt: HostRuntime) -> Result<(), Fail> {
 
 #[test]
 fn z15_into_bb(rt: HostRuntime) -> Result<(), Fail> {
-    assert!(rt; rows_hold::<Plain<M15>, Montgomery<BabyBearModulus>, u32>(rt.alloc(), &Z15_INTO_BB)?);
+    assert!(rt;
+        rows_hold::<Plain<M15>, Montgomery<BabyBearModulus>, u32>(rt.alloc(), &Z15_INTO_BB)?
+    );
     Ok(())
 }
 
@@ -706,13 +715,18 @@ fn kb_into_gl(rt: HostRuntime) -> Result<(), Fail> {
 #[test]
 fn bb_into_kb(rt: HostRuntime) -> Result<(), Fail> {
     assert!(rt;
-        rows_hold::<Montgomery<BabyBearModulus>, Plain<KoalaBearModulus>, u32>(rt.alloc(), &BB_INTO_KB)?
+        rows_hold::<Montgomery<BabyBearModulus>, Plain<KoalaBearModulus>, u32>(
+            rt.alloc(),
+            &BB_INTO_KB
+        )?
     );
     Ok(())
 }
 
 #[test]
 fn bb_into_f17(rt: HostRuntime) -> Result<(), Fail> {
-    assert!(rt; rows_hold::<Montgomery<BabyBearModulus>, Plain<M17>, u32>(rt.alloc(), &BB_INTO_F17)?);
+    assert!(rt;
+        rows_hold::<Montgomery<BabyBearModulus>, Plain<M17>, u32>(rt.alloc(), &BB_INTO_F17)?
+    );
     Ok(())
 }
