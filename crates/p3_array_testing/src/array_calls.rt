@@ -7,6 +7,7 @@ use p3_base::packed_traits::{Packable, PackedValue};
 use p3_bench_prime::baby_bear::BabyBearModulus;
 use p3_bench_prime::form::{Form, Plain};
 use p3_bench_prime::fp::Fp;
+use p3_bench_prime::montgomery::Montgomery;
 use p3_bench_prime::small::{M17, M31};
 use p3_ring::ring::PrimeCharacteristicRing;
 use std::alloc::{AllocError, Global};
@@ -111,6 +112,6 @@ fn assert_calls<W: Form<u32>>(rt: &(impl Abort + AllocGlobal), rows: &[Call]) ->
 #[test]
 fn calls_on_arrays(rt: HostRuntime) -> Result<(), Fail> {
     assert_calls::<Plain<M17>>(&rt, &F17_CALLS)?;
-    assert_calls::<Plain<BabyBearModulus>>(&rt, &BABY_BEAR_CALLS)?;
+    assert_calls::<Montgomery<BabyBearModulus>>(&rt, &BABY_BEAR_CALLS)?;
     assert_calls::<Plain<M31>>(&rt, &F31_CALLS)
 }

@@ -14,6 +14,7 @@ use p3_bench_prime::baby_bear::BabyBearModulus;
 use p3_bench_prime::form::{Form, Plain, Word};
 use p3_bench_prime::fp::Fp;
 use p3_bench_prime::goldilocks::GoldilocksForm;
+use p3_bench_prime::montgomery::Montgomery;
 use p3_bench_prime::small::{M15, M17};
 use p3_ring::ring::PrimeCharacteristicRing;
 use std::alloc::{AllocError, Global};
@@ -113,6 +114,6 @@ fn assert_rows<W: Form<T>, T: Word>(
 fn batch_inverses(rt: HostRuntime) -> Result<(), Fail> {
     assert_rows::<Plain<M17>, u32>(&rt, &OVER_F17, &INVERSES_F17)?;
     assert_rows::<Plain<M15>, u32>(&rt, &OVER_Z15, &INVERSES_Z15)?;
-    assert_rows::<Plain<BabyBearModulus>, u32>(&rt, &OVER_BABY_BEAR, &INVERSES_BABY_BEAR)?;
+    assert_rows::<Montgomery<BabyBearModulus>, u32>(&rt, &OVER_BABY_BEAR, &INVERSES_BABY_BEAR)?;
     assert_rows::<GoldilocksForm, u64>(&rt, &OVER_GOLDILOCKS, &INVERSES_GOLDILOCKS)
 }

@@ -1,14 +1,22 @@
 -- The values of a prime field, in words of any type, as residues.
-use Rattle.std.specs.Prelude.{◌≡◌, ◌<◌, ◌%◌, ℕ}
-use Rattle.std.proofs.Common.{ap, ◌∙◌, subst}
+use Rattle.std.specs.Prelude.{◌≡◌, ◌<◌, ◌%◌, ◌==◌, ℕ, Bool, true, false, refl}
+use Rattle.std.specs.Ordering.{on}
+use Rattle.std.proofs.Common.{ap, ◌∙◌, sym, subst}
+use Rattle.std.proofs.lemmas.Bool.Decides.{Decides-eqb}
 use Rattle.std.proofs.Math.Nat.{mod-eq_of_lt}
 use Rattle.std.proofs.Math.Bridge.{le_prop}
 use Rattle.p3_theory.specs.Rings.Ring.{Ops}
-use Rattle.p3_theory.specs.ResidueRings.Residues.{IsResidues, residue_ops}
+use Rattle.p3_theory.specs.ResidueRings.Residues.{IsResidues, residue_ops, same_canon}
 use Rattle.p3_bench_residues.specs.Forms.{remainder_below}
 use Rattle.p3_bench_prime.specs.declared.fp.Fp.{Fp}
 use Rattle.p3_bench_prime.specs.declared.form.Form as forms
 use Rattle.p3_bench_prime.specs.declared.form.Word as words
+
+-- tests that hold in the same cases are one
+same_tests : (a b : Bool) → (a ≡ true → b ≡ true) → (b ≡ true → a ≡ true) → a ≡ b
+same_tests true b h k = sym (h refl)
+same_tests false true h k = k refl
+same_tests false false h k = refl
 
 module _ {W T : Type 0} (form : forms.Ghosts W T) {bounds : words.Ghosts T} where
   -- the canonical value
@@ -36,6 +44,14 @@ module _ {W T : Type 0} (form : forms.Ghosts W T) {bounds : words.Ghosts T} wher
     canon_of = λ n. form.is_form.canon_word (n % form.ORDER) (remainder_below form.ORDER n form.is_form.above_one);
     of_canon = λ x. same_word _ _ (ap form.word (mod-eq_of_lt (form.is_form.canon_below x.word x.below)) ∙ form.is_form.word_canon x.word x.below);
   }
+
+  -- the words of two values are one number exactly where their canonical values are
+  pub same_words : (x y : Fp W T form bounds) → (bounds.number x.word == bounds.number y.word) ≡ on canon ◌==◌ x y
+  same_words x y =
+      let words = Decides-eqb (bounds.number x.word) (bounds.number y.word) in
+      let residues = Decides-eqb (canon x) (canon y) in
+      same_tests _ _ (λ h. residues.1 (ap form.canon (bounds.same_number x.word y.word (words.0 h))))
+      (λ h. words.1 (ap (λ z. bounds.number z.word) (same_canon is x y (residues.0 h))))
 
 -- the word of a value as a number
 abbrev pub word_number : {W : Type 0} {form : forms.Ghosts W ℕ} {bounds : words.Ghosts ℕ} → Fp W ℕ form bounds → ℕ

@@ -1,24 +1,41 @@
+ghost use Rattle.std.specs.Prelude.{refl};
 ghost use Rattle.std.proofs.Common.{lit<};
 
-use crate::form::{Modulus, Plain};
 use crate::fp::Fp;
+use crate::montgomery::{Montgomery, MontgomeryModulus};
 
 /// The marker of the order 2^31 - 2^27 + 1.
 pub struct BabyBearModulus;
 
-impl Modulus for BabyBearModulus {
+impl MontgomeryModulus for BabyBearModulus {
     ghost ORDER = { 2013265921 };
 
     ghost GENERATOR = { 31 };
+
+    ghost INVERSE = { 2281701377 };
+
+    ghost SQUARE = { 1172168163 };
+
+    ghost SCALE_INVERSE = { 943718400 };
 
     ghost above_one = { lit< tt };
 
     ghost fits = { lit< tt };
 
+    ghost inverts_order = { refl };
+
+    ghost is_square = { refl };
+
+    ghost undoes_scale = { refl };
+
     const ORDER: u32 = 2013265921;
 
     const GENERATOR: u32 = 31;
+
+    const INVERSE: u32 = 2281701377;
+
+    const SQUARE: u32 = 1172168163;
 }
 
-/// The residues modulo 2^31 - 2^27 + 1. Upstream's `BabyBear`.
-pub type BabyBear = Fp<Plain<BabyBearModulus>>;
+/// The residues modulo 2^31 - 2^27 + 1, in Montgomery's form. Upstream's `BabyBear`.
+pub type BabyBear = Fp<Montgomery<BabyBearModulus>>;

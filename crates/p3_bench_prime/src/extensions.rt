@@ -8,6 +8,7 @@ use crate::baby_bear::{BabyBear, BabyBearModulus};
 use crate::binomial_constants::BinomialConstants;
 use crate::form::{Form, Plain, ShortForm};
 use crate::fp::Fp;
+use crate::montgomery::Montgomery;
 use crate::small::{F2, F17, F17b, F31, M2, M15, M17, M17b, M31, Z15};
 use crate::trinomial_constants::TrinomialConstants;
 use p3_ext::extension::{
@@ -283,7 +284,7 @@ impl BinomialConstants<6> for Plain<M31> {
 /// The extension of `BabyBear` by `X^4 = 31`.
 pub type BabyBearx4 = BinomialExtensionField<BabyBear, 4>;
 
-impl BinomialConstants<4> for Plain<BabyBearModulus> {
+impl BinomialConstants<4> for Montgomery<BabyBearModulus> {
     ghost W = { 31 };
 
     ghost DTH_ROOT = { 1728404513 };

@@ -2,6 +2,7 @@ ghost use Rattle.std.specs.Prelude.{◌≡◌, ◌<◌, ◌+◌, ◌-◌, ◌*�
 ghost use Rattle.p3_bench_residues.specs.Forms.{IsForm};
 
 use crate::fp::Fp;
+use crate::short_sums::{ShortWord, sum_products};
 use p3_bench_residues::remainder::{remainder_by_reciprocal, remainder_of_sum};
 use p3_bench_residues::short_words::{add_words, halve_word, negate_word, subtract_words};
 use std::alloc::AllocError;
@@ -11,14 +12,35 @@ use std::marker::PhantomData;
 pub trait Word: Copy {
     /// The number that a word is.
     ghost number: { Self → ℕ };
+
+    /// Words that are one number are one word.
+    ghost same_number: { (v w : Self) → number v ≡ number w → v ≡ w };
+
+    /// The number that a word is.
+    fn to_u64(self) -> u64
+        ensures { result ≡ number self };
 }
 
 impl Word for u32 {
     ghost number = { λ w. w };
+
+    ghost same_number = { λ v w h. h };
+
+    #[inline]
+    fn to_u64(self) -> u64 {
+        self as u64
+    }
 }
 
 impl Word for u64 {
     ghost number = { λ w. w };
+
+    ghost same_number = { λ v w h. h };
+
+    #[inline]
+    fn to_u64(self) -> u64 {
+        self
+    }
 }
 
 /// How words of a type stand for the residues modulo an order, and the operations on words. A type
@@ -208,11 +230,25 @@ impl<M: Modulus> Form<u32> for Plain<M> {
     /// The sum of the products of the words, which is reduced once, at the end.
     #[inline]
     fn dot_product(u: &[Fp<Self, u32>], v: &[Fp<Self, u32>]) -> u32 {
-        let sum = Fp::sum_products(u, v);
+        let sum = sum_products(u, v);
         remainder_of_sum(sum, M::ORDER)
     }
 }
 
 impl<M: Modulus> ShortForm for Plain<M> {
     ghost short = { M.fits };
+}
+
+impl<M: Modulus> ShortWord for Fp<Plain<M>> {
+    ghost use Rattle.std.proofs.Common.{arith};
+    ghost use Rattle.p3_bench_prime.specs.Elements.{word_number};
+
+    ghost word = { word_number };
+
+    #[inline]
+    fn stored_word(&self) -> u32 {
+        self.word
+    }
+
+    ghost short = { λ x. omega (arith, x.below, M.fits) };
 }

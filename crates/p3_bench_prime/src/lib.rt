@@ -12,6 +12,7 @@ mod fp_bounds;
 pub mod goldilocks;
 pub mod koala_bear;
 pub mod monomials;
+pub mod montgomery;
 mod short_sums;
 pub mod small;
 pub mod trinomial_constants;

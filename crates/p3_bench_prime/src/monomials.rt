@@ -7,6 +7,7 @@ use crate::baby_bear::BabyBearModulus;
 use crate::form::{Form, Plain, Word};
 use crate::fp::Fp;
 use crate::koala_bear::KoalaBearModulus;
+use crate::montgomery::Montgomery;
 use crate::small::{M17, M31};
 use p3_ring::exponentiation::{exp_1420470955, exp_1725656503};
 use p3_ring::ring::PrimeCharacteristicRing;
@@ -61,7 +62,7 @@ impl MonomialConstants<u32, 7> for Plain<M31> {
     ghost inverse_exponents = { (3, refl) };
 }
 
-impl MonomialConstants<u32, 7> for Plain<BabyBearModulus> {
+impl MonomialConstants<u32, 7> for Montgomery<BabyBearModulus> {
     ghost ROOT_EXPONENT = { 1725656503 };
 
     #[inline]

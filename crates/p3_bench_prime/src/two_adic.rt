@@ -6,6 +6,7 @@ use crate::baby_bear::BabyBearModulus;
 use crate::form::{Form, Plain, Word};
 use crate::fp::Fp;
 use crate::koala_bear::KoalaBearModulus;
+use crate::montgomery::Montgomery;
 use crate::small::{M2, M15, M17, M17b, M31};
 use p3_base::field::TwoAdicField;
 pub use p3_bench_residues::two_adic_powers::TwoAdicPowers;
@@ -141,7 +142,7 @@ impl TwoAdicConstants<u32> for Plain<M15> {
     ghost generates = { refl };
 }
 
-impl TwoAdicConstants<u32> for Plain<BabyBearModulus> {
+impl TwoAdicConstants<u32> for Montgomery<BabyBearModulus> {
     ghost TWO_ADICITY = { 27 };
 
     ghost TOP_GENERATOR = { 440564289 };
@@ -153,7 +154,7 @@ impl TwoAdicConstants<u32> for Plain<BabyBearModulus> {
     ghost generates = { refl };
 }
 
-impl TopPowerConstants<u32> for Plain<BabyBearModulus> {
+impl TopPowerConstants<u32> for Montgomery<BabyBearModulus> {
     ghost top_power = { refl };
 }
 

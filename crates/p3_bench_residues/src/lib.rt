@@ -3,6 +3,7 @@
 
 pub mod goldilocks_words;
 pub mod inverse;
+pub mod montgomery;
 pub mod remainder;
 pub mod short_words;
 pub mod two_adic_powers;

@@ -12,6 +12,7 @@ use p3_bench_prime::baby_bear::BabyBearModulus;
 use p3_bench_prime::binomial_constants::BinomialConstants;
 use p3_bench_prime::form::{Plain, Word};
 use p3_bench_prime::fp::Fp;
+use p3_bench_prime::montgomery::Montgomery;
 use p3_bench_prime::small::{F31, M2, M15, M17, M17b, M31};
 use p3_bench_prime::trinomial_constants::{TrinomialConstants, TrinomialShape};
 use p3_ext::extension::{Binomial, CubicTrinomial, QuinticTrinomial};
@@ -151,7 +152,7 @@ impl NamedBinomial<6> for Plain<M31> {
     ghost order_fits = { lit< tt };
 }
 
-impl NamedBinomial<4> for Plain<BabyBearModulus> {
+impl NamedBinomial<4> for Montgomery<BabyBearModulus> {
     ghost spec = { field_bbx4 };
 
     ghost is_spec = { refl };

@@ -9,6 +9,7 @@ use p3_bench_prime::extensions::{
     BabyBearx4, F2t5, F17bx2, F17t5, F17x2, F17x4, F17x8, F31c, F31t3, F31x3, F31x5, F31x6, Z15x2,
 };
 use p3_bench_prime::form::Plain;
+use p3_bench_prime::montgomery::Montgomery;
 use p3_bench_prime::small::{F31, M2, M15, M17, M17b, M31};
 use p3_field::extension::{CubicTrinomial, QuinticTrinomial};
 use std::test::Fail;
@@ -101,10 +102,10 @@ fn f31c(rt: HostRuntime) -> Result<(), Fail> {
 #[test]
 fn bbx4(rt: HostRuntime) -> Result<(), Fail> {
     assert!(rt;
-        <Plain<BabyBearModulus> as BinomialCalls<4>>::constants() == [31, 1728404513, 0, 1]
+        <Montgomery<BabyBearModulus> as BinomialCalls<4>>::constants() == [31, 1728404513, 0, 1]
     );
     assert_streams::<BabyBearx4>(&rt, tables::BBX4.streams)?;
-    <Plain<BabyBearModulus> as BinomialCalls<4>>::assert_extension(&rt, &tables::BBX4, &[])
+    <Montgomery<BabyBearModulus> as BinomialCalls<4>>::assert_extension(&rt, &tables::BBX4, &[])
 }
 
 #[test]

@@ -20,6 +20,8 @@ mod ring_values;
 #[cfg(test)]
 mod step_runs;
 #[cfg(test)]
+mod stored_words;
+#[cfg(test)]
 mod stream_values;
 #[cfg(test)]
 mod tool_values;

@@ -11,6 +11,7 @@ use p3_bench_prime::baby_bear::BabyBearModulus;
 use p3_bench_prime::form::{Form, Plain};
 use p3_bench_prime::fp::Fp;
 use p3_bench_prime::goldilocks::GoldilocksForm;
+use p3_bench_prime::montgomery::Montgomery;
 use p3_bench_prime::small::{M15, M17, M31};
 use p3_ring::ring::PrimeCharacteristicRing;
 
@@ -101,7 +102,7 @@ fn packings_by_blocks(rt: HostRuntime) {
         assert_eq!(rt; over::<Plain<M15>>(row), Some(true));
     }
     for row in BABY_BEAR_BLOCKS {
-        assert_eq!(rt; over::<Plain<BabyBearModulus>>(row), Some(true));
+        assert_eq!(rt; over::<Montgomery<BabyBearModulus>>(row), Some(true));
     }
     for row in GOLDILOCKS_BLOCKS {
         assert_eq!(rt; over_long::<GoldilocksForm>(row), Some(true));

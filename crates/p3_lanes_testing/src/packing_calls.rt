@@ -27,6 +27,7 @@ use p3_bench_prime::form::{Form, Plain};
 use p3_bench_prime::fp::Fp;
 use p3_bench_prime::goldilocks::GoldilocksForm;
 use p3_bench_prime::koala_bear::KoalaBearModulus;
+use p3_bench_prime::montgomery::Montgomery;
 use p3_bench_prime::small::{M2, M15, M17, M31};
 use p3_ring::ring::{Algebra, PrimeCharacteristicRing};
 use std::alloc::{AllocError, Global};
@@ -314,7 +315,7 @@ fn lists_of_packings(rt: HostRuntime) -> Result<(), Fail> {
     assert_calls::<Plain<M17>>(&rt, &F17_LISTS)?;
     assert_calls::<Plain<M31>>(&rt, &F31_LISTS)?;
     assert_calls::<Plain<M15>>(&rt, &Z15_LISTS)?;
-    assert_calls::<Plain<BabyBearModulus>>(&rt, &BABY_BEAR_LISTS)?;
+    assert_calls::<Montgomery<BabyBearModulus>>(&rt, &BABY_BEAR_LISTS)?;
     for row in GOLDILOCKS_LISTS {
         assert_eq!(rt; over_long::<GoldilocksForm>(rt.alloc(), row)?, Some(true));
     }
@@ -328,7 +329,7 @@ fn calls_on_packings(rt: HostRuntime) -> Result<(), Fail> {
     assert_calls::<Plain<M17>>(&rt, &THREE_LANES)?;
     assert_calls::<Plain<M31>>(&rt, &F31_CALLS)?;
     assert_calls::<Plain<M15>>(&rt, &Z15_CALLS)?;
-    assert_calls::<Plain<BabyBearModulus>>(&rt, &BABY_BEAR_CALLS)?;
+    assert_calls::<Montgomery<BabyBearModulus>>(&rt, &BABY_BEAR_CALLS)?;
     assert_calls::<Plain<KoalaBearModulus>>(&rt, &KOALA_BEAR_CALLS)?;
     for row in GOLDILOCKS_CALLS {
         assert_eq!(rt; over_long::<GoldilocksForm>(rt.alloc(), row)?, Some(true));
@@ -341,7 +342,7 @@ fn sums_over_packings(rt: HostRuntime) -> Result<(), Fail> {
     assert_calls::<Plain<M17>>(&rt, &F17_SUMS)?;
     assert_calls::<Plain<M17>>(&rt, &WORKED_SUMS)?;
     assert_calls::<Plain<M15>>(&rt, &Z15_SUMS)?;
-    assert_calls::<Plain<BabyBearModulus>>(&rt, &BABY_BEAR_SUMS)?;
+    assert_calls::<Montgomery<BabyBearModulus>>(&rt, &BABY_BEAR_SUMS)?;
     assert_calls::<Plain<KoalaBearModulus>>(&rt, &KOALA_BEAR_SUMS)?;
     for row in GOLDILOCKS_SUMS {
         assert_eq!(rt; over_long::<GoldilocksForm>(rt.alloc(), row)?, Some(true));
@@ -355,7 +356,7 @@ fn columns_of_rows(rt: HostRuntime) -> Result<(), Fail> {
     assert_calls::<Plain<M17>>(&rt, &F17_COLUMNS)?;
     assert_calls::<Plain<M31>>(&rt, &F31_COLUMNS)?;
     assert_calls::<Plain<M15>>(&rt, &Z15_COLUMNS)?;
-    assert_calls::<Plain<BabyBearModulus>>(&rt, &BABY_BEAR_COLUMNS)?;
+    assert_calls::<Montgomery<BabyBearModulus>>(&rt, &BABY_BEAR_COLUMNS)?;
     assert_calls::<Plain<KoalaBearModulus>>(&rt, &KOALA_BEAR_COLUMNS)?;
     for row in GOLDILOCKS_COLUMNS {
         assert_eq!(rt; over_long::<GoldilocksForm>(rt.alloc(), row)?, Some(true));

@@ -5,6 +5,7 @@ use p3_bench_prime::form::{Form, Plain, ShortForm, Word};
 use p3_bench_prime::fp::Fp;
 use p3_bench_prime::goldilocks::GoldilocksForm;
 use p3_bench_prime::koala_bear::KoalaBearModulus;
+use p3_bench_prime::montgomery::Montgomery;
 use p3_bench_prime::small::{M2, M15, M17, M31};
 use std::alloc::{AllocError, Global};
 use std::test::Fail;
@@ -628,7 +629,7 @@ fn rows_hold<W: ShortForm, V: Form<T>, T: Word>(
 
 #[test]
 fn f17_into_bb(rt: HostRuntime) -> Result<(), Fail> {
-    assert!(rt; rows_hold::<Plain<M17>, Plain<BabyBearModulus>, u32>(rt.alloc(), &F17_INTO_BB)?);
+    assert!(rt; rows_hold::<Plain<M17>, Montgomery<BabyBearModulus>, u32>(rt.alloc(), &F17_INTO_BB)?);
     Ok(())
 }
 
@@ -641,14 +642,14 @@ fn f2_into_f17(rt: HostRuntime) -> Result<(), Fail> {
 #[test]
 fn kb_into_bb(rt: HostRuntime) -> Result<(), Fail> {
     assert!(rt;
-        rows_hold::<Plain<KoalaBearModulus>, Plain<BabyBearModulus>, u32>(rt.alloc(), &KB_INTO_BB)?
+        rows_hold::<Plain<KoalaBearModulus>, Montgomery<BabyBearModulus>, u32>(rt.alloc(), &KB_INTO_BB)?
     );
     Ok(())
 }
 
 #[test]
 fn bb_into_gl(rt: HostRuntime) -> Result<(), Fail> {
-    assert!(rt; rows_hold::<Plain<BabyBearModulus>, GoldilocksForm, u64>(rt.alloc(), &BB_INTO_GL)?);
+    assert!(rt; rows_hold::<Montgomery<BabyBearModulus>, GoldilocksForm, u64>(rt.alloc(), &BB_INTO_GL)?);
     Ok(())
 }
 
@@ -690,7 +691,7 @@ fn f31_into_kb(rt: HostRuntime) -> Result<(), Fail> {
 
 #[test]
 fn z15_into_bb(rt: HostRuntime) -> Result<(), Fail> {
-    assert!(rt; rows_hold::<Plain<M15>, Plain<BabyBearModulus>, u32>(rt.alloc(), &Z15_INTO_BB)?);
+    assert!(rt; rows_hold::<Plain<M15>, Montgomery<BabyBearModulus>, u32>(rt.alloc(), &Z15_INTO_BB)?);
     Ok(())
 }
 
@@ -705,13 +706,13 @@ fn kb_into_gl(rt: HostRuntime) -> Result<(), Fail> {
 #[test]
 fn bb_into_kb(rt: HostRuntime) -> Result<(), Fail> {
     assert!(rt;
-        rows_hold::<Plain<BabyBearModulus>, Plain<KoalaBearModulus>, u32>(rt.alloc(), &BB_INTO_KB)?
+        rows_hold::<Montgomery<BabyBearModulus>, Plain<KoalaBearModulus>, u32>(rt.alloc(), &BB_INTO_KB)?
     );
     Ok(())
 }
 
 #[test]
 fn bb_into_f17(rt: HostRuntime) -> Result<(), Fail> {
-    assert!(rt; rows_hold::<Plain<BabyBearModulus>, Plain<M17>, u32>(rt.alloc(), &BB_INTO_F17)?);
+    assert!(rt; rows_hold::<Montgomery<BabyBearModulus>, Plain<M17>, u32>(rt.alloc(), &BB_INTO_F17)?);
     Ok(())
 }

@@ -3,6 +3,7 @@
 use crate::lane_runs::{OverBinomial, OverCubic, run_agrees};
 use p3_bench_prime::baby_bear::BabyBearModulus;
 use p3_bench_prime::form::Plain;
+use p3_bench_prime::montgomery::Montgomery;
 use p3_bench_prime::small::{M17, M31};
 use std::alloc::{AllocError, Global};
 use std::test::Fail;
@@ -392,22 +393,22 @@ fn over_f17x2(alloc: Global, run: Run) -> Result<Option<bool>, AllocError> {
 fn over_bbx4(alloc: Global, run: Run) -> Result<Option<bool>, AllocError> {
     let (width, n, before, steps, after) = run;
     match (width, n) {
-        (4, 1) => run_agrees::<OverBinomial<Plain<BabyBearModulus>>, 4, 4, 1>(
+        (4, 1) => run_agrees::<OverBinomial<Montgomery<BabyBearModulus>>, 4, 4, 1>(
             alloc, before, steps, after,
         ),
-        (4, 2) => run_agrees::<OverBinomial<Plain<BabyBearModulus>>, 4, 4, 2>(
+        (4, 2) => run_agrees::<OverBinomial<Montgomery<BabyBearModulus>>, 4, 4, 2>(
             alloc, before, steps, after,
         ),
-        (4, 3) => run_agrees::<OverBinomial<Plain<BabyBearModulus>>, 4, 4, 3>(
+        (4, 3) => run_agrees::<OverBinomial<Montgomery<BabyBearModulus>>, 4, 4, 3>(
             alloc, before, steps, after,
         ),
-        (8, 1) => run_agrees::<OverBinomial<Plain<BabyBearModulus>>, 4, 8, 1>(
+        (8, 1) => run_agrees::<OverBinomial<Montgomery<BabyBearModulus>>, 4, 8, 1>(
             alloc, before, steps, after,
         ),
-        (8, 2) => run_agrees::<OverBinomial<Plain<BabyBearModulus>>, 4, 8, 2>(
+        (8, 2) => run_agrees::<OverBinomial<Montgomery<BabyBearModulus>>, 4, 8, 2>(
             alloc, before, steps, after,
         ),
-        (8, 3) => run_agrees::<OverBinomial<Plain<BabyBearModulus>>, 4, 8, 3>(
+        (8, 3) => run_agrees::<OverBinomial<Montgomery<BabyBearModulus>>, 4, 8, 3>(
             alloc, before, steps, after,
         ),
         _ => Ok(None),

@@ -1,0 +1,169 @@
+//! Residues in Montgomery's form: the word holds the residue times 2^32.
+ghost use Rattle.std.specs.Prelude.{◌≡◌, ◌<◌, ◌*◌, ◌%◌, ◌^◌, ℕ, ⊤};
+
+use crate::form::{Form, ShortForm};
+use crate::fp::Fp;
+use crate::short_sums::{ShortWord, sum_products};
+use p3_bench_residues::montgomery::{montgomery_product, montgomery_sum};
+use p3_bench_residues::short_words::{add_words, halve_word, negate_word, subtract_words};
+use std::alloc::AllocError;
+use std::marker::PhantomData;
+
+/// A marker of an odd order, with the numbers that Montgomery's form takes from it. It stands for what
+/// upstream writes in each impl of `MontyParameters`.
+pub trait MontgomeryModulus {
+    ghost ORDER: { ℕ };
+
+    ghost GENERATOR: { ℕ };
+
+    ghost INVERSE: { ℕ };
+
+    ghost SQUARE: { ℕ };
+
+    /// The inverse of 2^32 modulo the order.
+    ghost SCALE_INVERSE: { ℕ };
+
+    ghost above_one: { 1 < ORDER };
+
+    ghost fits: { ORDER < 2 ^ 31 };
+
+    ghost inverts_order: { (ORDER * INVERSE) % 2 ^ 32 ≡ 1 };
+
+    ghost is_square: { SQUARE ≡ (2 ^ 32 * 2 ^ 32) % ORDER };
+
+    ghost undoes_scale: { (2 ^ 32 * SCALE_INVERSE) % ORDER ≡ 1 };
+
+    /// The order, from 2 to 2^31 - 1.
+    const ORDER: u32;
+
+    /// The residue that upstream names as a generator of the units. No clause says that it generates them.
+    const GENERATOR: u32;
+
+    /// The inverse of the order modulo 2^32.
+    const INVERSE: u32;
+
+    /// The residue of 2^64.
+    const SQUARE: u32;
+}
+
+/// The residue that is the product of both words once it is multiplied by 2^32.
+#[inline]
+fn reduced_product<M: MontgomeryModulus>(left: u32, right: u32) -> u32
+    requires { left < M.ORDER }
+    ensures below { result < M.ORDER }
+    ensures value { (result * 2 ^ 32) % M.ORDER ≡ (left * right) % M.ORDER }
+{
+    montgomery_product(left, right, M::ORDER, M::INVERSE)
+}
+
+/// The residue that is the sum once it is multiplied by 2^32.
+#[inline]
+fn reduced_sum<M: MontgomeryModulus>(sum: u128) -> u32
+    ensures below { result < M.ORDER }
+    ensures value { (result * 2 ^ 32) % M.ORDER ≡ sum % M.ORDER }
+{
+    montgomery_sum(sum, M::ORDER, M::INVERSE)
+}
+
+/// The form in which a word of 32 bits holds a residue of the order of M times 2^32, as a residue: a
+/// product takes one reduction, which needs no quotient.
+pub struct Montgomery<M>(PhantomData<M>);
+
+impl<M> Clone for Montgomery<M> {
+    ghost is_clone = { λ x y. y ≡ x };
+
+    ghost is_infallible = { λ _. ⊤ };
+
+    #[inline]
+    fn clone(&self) -> Result<Self, AllocError> {
+        Ok(*self)
+    }
+}
+
+impl<M> Copy for Montgomery<M> {}
+
+impl<M: MontgomeryModulus> Form<u32> for Montgomery<M> {
+    ghost use Rattle.p3_bench_residues.specs.Forms.{order_below};
+    ghost use Rattle.p3_bench_residues.specs.Montgomery.{montgomery, montgomery_canon, montgomery_word};
+
+    ghost ORDER = { M.ORDER };
+
+    ghost number = { λ w. w };
+
+    ghost canon = { montgomery_canon M.ORDER (2 ^ 32) M.SCALE_INVERSE };
+
+    ghost word = { montgomery_word M.ORDER (2 ^ 32) M.SCALE_INVERSE };
+
+    ghost GENERATOR = { M.GENERATOR };
+
+    ghost is_form = { montgomery M.ORDER (2 ^ 32) M.SCALE_INVERSE M.undoes_scale M.above_one (order_below M.ORDER M.fits) };
+
+    const ORDER: u64 = M::ORDER as u64;
+
+    const GENERATOR: u64 = M::GENERATOR as u64;
+
+    #[inline]
+    fn decode(stored: u32) -> u64 {
+        reduced_product::<M>(stored, 1) as u64
+    }
+
+    #[inline]
+    fn encode(residue: u64) -> u32 {
+        reduced_product::<M>(M::SQUARE, residue as u32)
+    }
+
+    #[inline]
+    fn reduce(value: u32) -> u32 {
+        reduced_product::<M>(M::SQUARE, value)
+    }
+
+    #[inline]
+    fn sum(left: u32, right: u32) -> u32 {
+        add_words(left, right, M::ORDER)
+    }
+
+    #[inline]
+    fn difference(left: u32, right: u32) -> u32 {
+        subtract_words(left, right, M::ORDER)
+    }
+
+    #[inline]
+    fn negation(stored: u32) -> u32 {
+        negate_word(stored, M::ORDER)
+    }
+
+    #[inline]
+    fn product(left: u32, right: u32) -> u32 {
+        reduced_product::<M>(left, right)
+    }
+
+    #[inline]
+    fn half(stored: u32) -> u32 {
+        halve_word(stored, M::ORDER)
+    }
+
+    /// The sum of the products of the words, which is reduced once, at the end.
+    #[inline]
+    fn dot_product(u: &[Fp<Self, u32>], v: &[Fp<Self, u32>]) -> u32 {
+        let sum = sum_products(u, v);
+        reduced_sum::<M>(sum)
+    }
+}
+
+impl<M: MontgomeryModulus> ShortForm for Montgomery<M> {
+    ghost short = { M.fits };
+}
+
+impl<M: MontgomeryModulus> ShortWord for Fp<Montgomery<M>> {
+    ghost use Rattle.std.proofs.Common.{arith};
+    ghost use Rattle.p3_bench_prime.specs.Elements.{word_number};
+
+    ghost word = { word_number };
+
+    #[inline]
+    fn stored_word(&self) -> u32 {
+        self.word
+    }
+
+    ghost short = { λ x. omega (arith, x.below, M.fits) };
+}
