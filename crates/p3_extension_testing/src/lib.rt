@@ -7,8 +7,6 @@ mod calls;
 #[cfg(test)]
 mod complex_values;
 #[cfg(test)]
-mod extension_root_tables;
-#[cfg(test)]
 mod extension_rows;
 #[cfg(test)]
 mod extension_tables;
@@ -27,8 +25,8 @@ mod square_root_tables;
 #[cfg(test)]
 mod square_roots;
 #[cfg(test)]
-mod tower_values;
+mod texts;
 #[cfg(test)]
-mod trinomial_tables;
+mod tower_values;
 #[cfg(test)]
 mod values;
