@@ -3,7 +3,7 @@
 //! the values of a list between spaces; the coefficients of a value between commas.
 ghost use Rattle.std.specs.Prelude.{◌<◌, IsSome};
 
-use crate::texts::{lists, parts};
+use crate::texts::{lists, parts, sides};
 use crate::values::{Canonical, OfText, Tabled, TwoAdicTabled};
 use p3_field::RawDataSerializable;
 use p3_field::extension::BinomiallyExtendable;
@@ -23,9 +23,7 @@ fn is_answer<T: Tabled>(found: Option<T>, answer: &str) -> bool {
 /// of its turns.
 fn is_counted<T: Tabled>(found: (Option<T>, u32), answer: &str) -> bool {
     let (root, turns) = found;
-    let mut words = answer.split(' ');
-    let text = words.next().unwrap_or("");
-    let count = words.next().unwrap_or("");
+    let (text, count) = sides(answer, ' ');
     is_answer(root, text) && count.parse::<u32>().ok() == Some(turns)
 }
 
@@ -62,9 +60,7 @@ fn agrees<T: Tabled>(
 ) -> Result<Option<bool>, AllocError>
     requires { IsSome T.Tabled.size }
 {
-    let mut sides = arguments.split('|');
-    let first = sides.next().unwrap_or("");
-    let second = sides.next().unwrap_or("");
+    let (first, second) = sides(arguments, '|');
     let Some(x) = T::of(first) else {
         return Ok(None);
     };

@@ -21,8 +21,6 @@ mod powers;
 #[cfg(test)]
 mod slices;
 #[cfg(test)]
-mod square_root_tables;
-#[cfg(test)]
 mod square_roots;
 #[cfg(test)]
 mod texts;

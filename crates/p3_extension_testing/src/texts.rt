@@ -32,3 +32,11 @@ pub fn lists(text: &str, numbers: &[u64]) -> bool {
     }
     entries(text) == numbers.len()
 }
+
+/// What stands before and after the first of some signs.
+pub fn sides(text: &str, sign: char) -> (&str, &str) {
+    let mut sides = text.split(sign);
+    let first = sides.next().unwrap_or("");
+    let second = sides.next().unwrap_or("");
+    (first, second)
+}
