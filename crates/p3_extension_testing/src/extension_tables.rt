@@ -129,7 +129,9 @@ as_base;5,0,0,0;5
 as_base;0,1,0,0;None
 as_base;0,15,12,16;None
 as_base;0,1,15,0;None
-as_base;16,8,5,1;None";
+as_base;16,8,5,1;None
+as_base;0,1,0,0;None
+as_base;5,0,0,0;5";
 
 /// Values of `f17x4` and the words of their bytes.
 pub const F17X4_STREAMS: &str = "into_u64_stream;1,1,14,12;4294967297,51539607566
@@ -693,3 +695,20 @@ into_u64_stream;1,1,0,1,0;4294967297,4294967296,0";
 pub const F2T5_TWO_ADIC: &str = "TWO_ADICITY;;0
 two_adic_generator;0;1,0,0,0,0
 two_adic_generator;64;None";
+
+/// Worked values at `f17x2`.
+pub const F17X2_WORKED: &str = "text of every value;;";
+
+/// Worked values at `f17x4`.
+pub const F17X4_WORKED: &str = "from_basis_coefficients_slice;1,2,3;None
+ith_basis_element;4;None
+ith_basis_element;1;0,1,0,0
+add base;1,2,3,4|2;3,2,3,4
+sub base;1,2,3,4|2;16,2,3,4
+mul base;1,2,3,4|2;2,4,6,8
+from base;2;2,0,0,0
+from array;1,2,3,4;1,2,3,4
+mixed_dot_product;1,2,3,4 1,2,3,4|1,1;2,4,6,8
+algebra_id;;bench:f17x4
+zero_vec;2;0,0,0,0 0,0,0,0
+flatten_to_base and back;1,2,3,4 5,6,7,8|1,2,3,4,5,6,7,8;1,2,3,4 5,6,7,8";

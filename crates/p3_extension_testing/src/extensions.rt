@@ -30,6 +30,12 @@ fn f17x4(rt: HostRuntime) -> Result<(), Fail> {
 }
 
 #[test]
+fn worked_values(rt: HostRuntime) -> Result<(), Fail> {
+    <Plain<M17> as BinomialCalls<2>>::assert_worked(&rt, tables::F17X2_WORKED)?;
+    <Plain<M17> as BinomialCalls<4>>::assert_worked(&rt, tables::F17X4_WORKED)
+}
+
+#[test]
 fn f17x8(rt: HostRuntime) -> Result<(), Fail> {
     assert!(rt; <Plain<M17> as BinomialCalls<8>>::constants() == [3, 9, 0, 1]);
     <Plain<M17> as TwoAdicBinomialCalls<8>>::assert_two_adic(&rt, tables::F17X8_TWO_ADIC);

@@ -7,8 +7,6 @@ mod calls;
 #[cfg(test)]
 mod complex_values;
 #[cfg(test)]
-mod extension_rows;
-#[cfg(test)]
 mod extension_tables;
 #[cfg(test)]
 mod extension_values;
@@ -28,3 +26,5 @@ mod texts;
 mod tower_values;
 #[cfg(test)]
 mod values;
+#[cfg(test)]
+mod worked;

@@ -4,9 +4,9 @@
 ghost use Rattle.std.specs.Prelude.{IsSome, Some};
 ghost use Rattle.p3_ext.specs.Orders.{extension_size};
 
-use crate::calls;
+use crate::{calls, worked};
 use p3_bench_prime::binomial_constants::BinomialConstants;
-use p3_bench_prime::form::Form;
+use p3_bench_prime::form::{Form, ShortForm};
 use p3_bench_prime::fp::Fp;
 use p3_bench_prime::two_adic_constants::{TwoAdicBinomialConstants, TwoAdicTrinomialConstants};
 use p3_field::extension::{
@@ -24,15 +24,22 @@ pub trait BinomialCalls<const D: usize>: Form<u32> {
     /// Asserts the lines of a table.
     fn assert_calls(rt: &(impl Abort + AllocGlobal), table: &str) -> Result<(), Fail>
         requires { IsSome (extension_size (Some Self.ORDER) D) };
+
+    /// Asserts worked lines.
+    fn assert_worked(rt: &(impl Abort + AllocGlobal), table: &str) -> Result<(), Fail>;
 }
 
-impl<W: BinomialConstants<D>, const D: usize> BinomialCalls<D> for W {
+impl<W: BinomialConstants<D> + ShortForm, const D: usize> BinomialCalls<D> for W {
     fn constants() -> [u64; 4] {
         calls::constants::<Fp<W>, D>()
     }
 
     fn assert_calls(rt: &(impl Abort + AllocGlobal), table: &str) -> Result<(), Fail> {
         calls::assert_calls::<BinomialExtensionField<Fp<W>, D>>(rt, table)
+    }
+
+    fn assert_worked(rt: &(impl Abort + AllocGlobal), table: &str) -> Result<(), Fail> {
+        worked::assert_worked::<BinomialExtensionField<Fp<W>, D>>(rt, table)
     }
 }
 

@@ -26,7 +26,13 @@ fn powers_at<W: MonomialConstants<T, N>, T: Word, const N: u64>(x: u64, y: u64) 
 fn powers_that_permute(rt: HostRuntime) {
     assert_eq!(rt; powers_at::<Plain<M17>, u32, 3>(2, 8), [8, 2]);
     assert_eq!(rt; powers_at::<Plain<M31>, u32, 7>(3, 17), [17, 3]);
-    assert_eq!(rt; powers_at::<Plain<BabyBearModulus>, u32, 7>(3, 2187), [2187, 3]);
-    assert_eq!(rt; powers_at::<Plain<KoalaBearModulus>, u32, 3>(5, 125), [125, 5]);
+    assert_eq!(rt;
+        powers_at::<Plain<BabyBearModulus>, u32, 7>(3, 2187),
+        [2187, 3]
+    );
+    assert_eq!(rt;
+        powers_at::<Plain<KoalaBearModulus>, u32, 3>(5, 125),
+        [125, 5]
+    );
     assert_eq!(rt; powers_at::<GoldilocksForm, u64, 7>(3, 2187), [2187, 3]);
 }

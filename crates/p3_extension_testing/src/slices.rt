@@ -127,10 +127,7 @@ fn agrees<W: Form<u32>>(
 }
 
 /// Asserts the lines of a table.
-fn assert_slices<W: Form<u32>>(
-    rt: &(impl Abort + AllocGlobal),
-    table: &str,
-) -> Result<(), Fail> {
+fn assert_slices<W: Form<u32>>(rt: &(impl Abort + AllocGlobal), table: &str) -> Result<(), Fail> {
     for line in table.lines() {
         let (call, arguments, answer) = parts(line);
         assert!(rt; agrees::<W>(rt.alloc(), call, arguments, answer)?, "{line}");
