@@ -3,7 +3,7 @@
 //! the values of a list between spaces; the coefficients of a value between commas.
 ghost use Rattle.std.specs.Prelude.{◌<◌, IsSome};
 
-use crate::texts::{lists, parts, sides};
+use p3_field_testing::texts::{lists, parts, sides};
 use crate::values::{Canonical, OfText, Tabled, TwoAdicTabled};
 use p3_field::RawDataSerializable;
 use p3_field::extension::BinomiallyExtendable;

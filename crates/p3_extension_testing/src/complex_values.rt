@@ -2,7 +2,7 @@
 //! call, its arguments and its answer, with semicolons between them; arguments stand between bars, and
 //! the coefficients of a value between commas.
 
-use crate::texts::{entries, lists, number_at, parts, sides};
+use p3_field_testing::texts::{entries, lists, number_at, parts, sides};
 use crate::values::Canonical;
 use p3_bench_prime::complex_tower::F31cx2;
 use p3_bench_prime::extensions::F31c;

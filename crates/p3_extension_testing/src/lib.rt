@@ -21,8 +21,6 @@ mod slices;
 #[cfg(test)]
 mod square_roots;
 #[cfg(test)]
-mod texts;
-#[cfg(test)]
 mod tower_values;
 #[cfg(test)]
 mod values;

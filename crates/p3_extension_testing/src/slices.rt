@@ -1,7 +1,7 @@
 //! Worked products and squares over slices. A line is the call with its degree, two lists, what the
 //! result's list holds before, and W, with bars between them, and what it holds afterwards.
 
-use crate::texts::{entries, number_at, parts};
+use p3_field_testing::texts::{entries, number_at, parts};
 use p3_bench_prime::form::{Form, Plain};
 use p3_bench_prime::fp::Fp;
 use p3_bench_prime::small::{M17, M31};

@@ -4,7 +4,7 @@
 ghost use Rattle.std.specs.Prelude.{IsSome};
 ghost use Rattle.std.proofs.Common.{lit<};
 
-use crate::texts::sides;
+use p3_field_testing::texts::sides;
 use p3_bench_prime::form::{Form, Modulus, Plain};
 use p3_bench_prime::fp::Fp;
 use p3_bench_prime::small::{M2, M15, M17, M17b, M31};

@@ -1,7 +1,7 @@
 //! Extension values by their canonical coefficients, from X^0 upward, and the calls of the tables.
 ghost use Rattle.std.specs.Prelude.{ℕ, Option, IsSome};
 
-use crate::texts::{entries, number_at};
+use p3_field_testing::texts::{entries, number_at};
 use p3_bench_prime::form::{Form, ShortForm, Word};
 use p3_bench_prime::fp::Fp;
 use p3_field::extension::{

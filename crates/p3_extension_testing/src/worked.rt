@@ -1,6 +1,6 @@
 //! Worked values of the calls on extensions that no list of outside values has.
 
-use crate::texts::{entries, number_at, parts, sides};
+use p3_field_testing::texts::{entries, number_at, parts, sides};
 use crate::values::{Canonical, Tabled};
 use p3_field::extension::{ExtField, ExtensionShape, FrobeniusExtendable};
 use p3_field::{Algebra, AlgebraIdentity, BasedVectorSpace, InMemory, PrimeCharacteristicRing};
