@@ -3,10 +3,10 @@
 //! the values of a list between spaces; the coefficients of a value between commas.
 ghost use Rattle.std.specs.Prelude.{◌<◌, IsSome};
 
-use p3_field_testing::texts::{lists, parts, sides};
 use crate::values::{Canonical, OfText, Tabled, TwoAdicTabled};
 use p3_field::RawDataSerializable;
 use p3_field::extension::BinomiallyExtendable;
+use p3_field_testing::texts::{lists, parts, sides};
 use std::alloc::{AllocError, Global};
 use std::process::Abort;
 use std::test::Fail;

@@ -2,7 +2,6 @@
 //! call, its arguments and its answer, with semicolons between them; arguments stand between bars, and
 //! the coefficients of a value between commas.
 
-use p3_field_testing::texts::{entries, lists, number_at, parts, sides};
 use crate::values::Canonical;
 use p3_bench_prime::complex_tower::F31cx2;
 use p3_bench_prime::extensions::F31c;
@@ -10,6 +9,7 @@ use p3_field::RawDataSerializable;
 use p3_field::extension::{
     BinomiallyExtendable, Complex, ComplexExtendable, HasTwoAdicComplexBinomialExtension,
 };
+use p3_field_testing::texts::{entries, lists, number_at, parts, sides};
 use std::process::Abort;
 
 /// Complex values, the constants of their field, and those of the extension of degree 2 over them:

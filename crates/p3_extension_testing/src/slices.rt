@@ -1,7 +1,6 @@
 //! Worked products and squares over slices. A line is the call with its degree, two lists, what the
 //! result's list holds before, and W, with bars between them, and what it holds afterwards.
 
-use p3_field_testing::texts::{entries, number_at, parts};
 use p3_bench_prime::form::{Form, Plain};
 use p3_bench_prime::fp::Fp;
 use p3_bench_prime::small::{M17, M31};
@@ -10,6 +9,7 @@ use p3_field::extension::{
     quintic_square, trinomial_cubic_mul, trinomial_quintic_mul, vector_add, vector_sub,
 };
 use p3_field::{PrimeCharacteristicRing, PrimeField64};
+use p3_field_testing::texts::{entries, number_at, parts};
 use std::alloc::{AllocError, Global};
 use std::process::Abort;
 use std::test::Fail;

@@ -4,7 +4,6 @@
 ghost use Rattle.std.specs.Prelude.{IsSome};
 ghost use Rattle.std.proofs.Common.{lit<};
 
-use p3_field_testing::texts::sides;
 use p3_bench_prime::form::{Form, Modulus, Plain};
 use p3_bench_prime::fp::Fp;
 use p3_bench_prime::small::{M2, M15, M17, M17b, M31};
@@ -12,6 +11,7 @@ use p3_bench_prime::two_adic::TwoAdicConstants;
 use p3_field::{
     PrimeField64, TwoAdicField, tonelli_shanks_counted, tonelli_shanks_two_adic_counted,
 };
+use p3_field_testing::texts::sides;
 use std::process::Abort;
 
 /// The marker of the order 4, at which two times two is zero.

@@ -1,7 +1,6 @@
 //! Extension values by their canonical coefficients, from X^0 upward, and the calls of the tables.
 ghost use Rattle.std.specs.Prelude.{ℕ, Option, IsSome};
 
-use p3_field_testing::texts::{entries, number_at};
 use p3_bench_prime::form::{Form, ShortForm, Word};
 use p3_bench_prime::fp::Fp;
 use p3_field::extension::{
@@ -11,6 +10,7 @@ use p3_field::{
     ExtensionField, Field, PrimeCharacteristicRing, PrimeField64, TwoAdicField,
     tonelli_shanks_counted, tonelli_shanks_two_adic_counted,
 };
+use p3_field_testing::texts::{entries, number_at};
 use std::alloc::{AllocError, Global};
 
 /// A residue's canonical value alone: `PrimeField64` has all integer maps among its bounds, which each

@@ -1,9 +1,9 @@
 //! Worked values of the calls on extensions that no list of outside values has.
 
-use p3_field_testing::texts::{entries, number_at, parts, sides};
 use crate::values::{Canonical, Tabled};
 use p3_field::extension::{ExtField, ExtensionShape, FrobeniusExtendable};
 use p3_field::{Algebra, AlgebraIdentity, BasedVectorSpace, InMemory, PrimeCharacteristicRing};
+use p3_field_testing::texts::{entries, number_at, parts, sides};
 use std::alloc::{AllocError, Global};
 use std::process::Abort;
 use std::test::Fail;
@@ -39,8 +39,8 @@ pub trait Worked: Tabled {
         text: &str,
     ) -> Result<Option<Vec<Self>>, AllocError>;
 
-    /// The texts: plain, in the formatter's other form, and with a width.
-    fn texts(&self, alloc: Global) -> Result<[String; 3], AllocError>;
+    /// Whether this is the text, also in the formatter's other form and with a width.
+    fn has_text(&self, alloc: Global, text: &str) -> Result<bool, AllocError>;
 }
 
 /// The values of the base of a text.
@@ -135,12 +135,12 @@ impl<F: FrobeniusExtendable<D, S> + Canonical + InMemory, const D: usize, S: Ext
         Ok(Some(<Self as BasedVectorSpace<F>>::reconstitute_from_base(alloc, flat)?))
     }
 
-    fn texts(&self, alloc: Global) -> Result<[String; 3], AllocError> {
+    fn has_text(&self, alloc: Global, text: &str) -> Result<bool, AllocError> {
         let x = *self;
         let plain = format!(in alloc; "{x}")?;
         let other = format!(in alloc; "{x:#}")?;
         let wide = format!(in alloc; "{x:>8}")?;
-        Ok([plain, other, wide])
+        Ok(plain.as_str() == text && other.as_str() == text && wide.as_str() == text)
     }
 }
 
@@ -187,10 +187,8 @@ fn have_texts<T: Worked>(alloc: Global) -> Result<bool, AllocError> {
             let Some(x) = T::of(coefficients.as_str()) else {
                 return Ok(false);
             };
-            for found in x.texts(alloc)?.iter() {
-                if found.as_str() != text.as_str() {
-                    return Ok(false);
-                }
+            if !x.has_text(alloc, text.as_str())? {
+                return Ok(false);
             }
         }
     }
