@@ -1,6 +1,6 @@
 //! Tests of rings and prime fields: worked rows and outside values as tables, and calls whose
-//! growths are refused. The allocator that refuses them, and how
-//! lines of texts are read, are open to the tests of other crates.
+//! growths are refused. The allocator that refuses them, and what reads lines of tables, are open to the
+//! tests of other crates.
 #![tactic(auto)]
 
 #[cfg(test)]
