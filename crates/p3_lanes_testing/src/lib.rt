@@ -7,6 +7,8 @@ mod kernels;
 #[cfg(test)]
 mod numbers;
 #[cfg(test)]
+mod operations;
+#[cfg(test)]
 mod packing_blocks;
 #[cfg(test)]
 mod packing_calls;
@@ -17,6 +19,8 @@ mod packing_list_calls;
 #[cfg(test)]
 mod packing_list_tables;
 #[cfg(test)]
+mod packing_quotients;
+#[cfg(test)]
 mod packing_slices;
 #[cfg(test)]
 mod packing_sum_tables;
@@ -25,6 +29,12 @@ mod packing_sums;
 #[cfg(test)]
 mod packing_tables;
 #[cfg(test)]
+mod rows;
+#[cfg(test)]
 mod tables;
 #[cfg(test)]
 mod vector_blocks;
+#[cfg(test)]
+mod vector_calls;
+#[cfg(test)]
+mod vector_tables;
