@@ -52,7 +52,8 @@ fn half<F: Field, A: Algebra<F>>(x: A) -> Option<A> {
     if !has_inverse(two) {
         return None;
     }
-    Some(x.halve())
+    let half = x.halve();
+    Some(half)
 }
 
 /// The sum of the products of two lists, as far as the shorter one reaches.

@@ -5,13 +5,13 @@ use crate::rows::{Row, holds, packing};
 use p3_base::field::Field;
 use p3_base::packed_traits::{PackedFieldPow2, PackedValue};
 
-/// Two packings, interleaved by the blocks of a text; none where the blocks don't fill a packing.
-fn interleaved<F: Field, P: PackedFieldPow2<F>>(x: P, y: P, block: &str) -> Option<(P, P)> {
+/// Two packings, interleaved by blocks of so many lanes; none where the blocks don't fill a packing.
+fn interleaved<F: Field, P: PackedFieldPow2<F>>(x: P, y: P, block: usize) -> Option<(P, P)> {
     match block {
-        "1" => Some(x.interleave(y, 1)),
-        "2" if P::WIDTH % 2 == 0 => Some(x.interleave(y, 2)),
-        "4" if P::WIDTH % 4 == 0 => Some(x.interleave(y, 4)),
-        "8" if P::WIDTH % 8 == 0 => Some(x.interleave(y, 8)),
+        1 => Some(x.interleave(y, 1)),
+        2 if P::WIDTH % 2 == 0 => Some(x.interleave(y, 2)),
+        4 if P::WIDTH % 4 == 0 => Some(x.interleave(y, 4)),
+        8 if P::WIDTH % 8 == 0 => Some(x.interleave(y, 8)),
         _ => None,
     }
 }
@@ -22,6 +22,7 @@ pub(crate) fn blocks_agree<F: Field, P: PackedFieldPow2<F>>(row: Row<'_>) -> Opt
     let x = packing::<F, P>(row.argument(0));
     let y = packing::<F, P>(row.argument(1));
     let (first, second) = row.answer.split_once('|')?;
-    let both = interleaved::<F, P>(x, y, row.argument(2))?;
+    let block = row.argument(2).parse::<usize>().ok()?;
+    let both = interleaved::<F, P>(x, y, block)?;
     Some(holds::<F, P>(&both.0, first) && holds::<F, P>(&both.1, second))
 }

@@ -6,7 +6,7 @@ use crate::packing_list_calls::{added, are_powers, are_taken, scaled};
 use crate::packing_list_tables::{LISTS, POWERS};
 use crate::packing_quotients::{quotient, scalar_quotient};
 use crate::packing_slices::{lengths_agree, loaded, slices_agree, stored};
-use crate::packing_sum_tables::{COLUMNS, SUMS, WORKED_SUMS};
+use crate::packing_sum_tables::{COLUMNS, SUMS, WORKED_COLUMNS, WORKED_SUMS};
 use crate::packing_sums::{counted_columnwise_agree, sums_agree};
 use crate::packing_tables::{BLOCKS, OPERATIONS, THREE_LANES, WORKED_BLOCKS};
 use crate::rows::{Row, holds, packing, packings, value_at, values};
@@ -209,7 +209,8 @@ fn sums_over_packings(rt: HostRuntime) -> Result<(), Fail> {
 
 #[test]
 fn columns_of_rows(rt: HostRuntime) -> Result<(), Fail> {
-    assert_table(&rt, COLUMNS)
+    assert_table(&rt, COLUMNS)?;
+    assert_table(&rt, WORKED_COLUMNS)
 }
 
 #[test]

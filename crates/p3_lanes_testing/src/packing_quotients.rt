@@ -20,11 +20,12 @@ fn lane_inverses<F: Field, P: PackedField<F>>(packing: &P) -> P {
 }
 
 /// Whether each lane is one.
-fn is_one<F: Field, P: PackedField<F>>(packing: P) -> bool
+fn lanes_are_one<F: Field, P: PackedField<F>>(packing: P) -> bool
     ensures { IsTrue result → packing ≡ P.ops.one }
 {
     for lane in 0..P::WIDTH {
-        if packing.extract(lane) != F::one() {
+        let value = packing.extract(lane);
+        if !value.is_one() {
             return false;
         }
     }
@@ -37,7 +38,7 @@ fn lanes_have_inverses<F: Field, P: PackedField<F>>(packing: P) -> bool
 {
     let inverses = lane_inverses::<F, P>(&packing);
     let product = packing * inverses;
-    is_one::<F, P>(product)
+    lanes_are_one::<F, P>(product)
 }
 
 /// The quotient of two packings; none where a lane of the divisor has no inverse.
