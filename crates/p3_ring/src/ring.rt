@@ -427,7 +427,7 @@ pub trait Algebra<F: PrimeCharacteristicRing>: PrimeCharacteristicRing
         requires { length a.now ≡ length f.now }
         ensures { result ≡ dot Self.ops a.now (map embed f.now) }
     {
-        sum_of_products(a, f)
+        sum_of_products(Self::zero(), a, f)
     }
 
     /// `batched_linear_combination` is written for seven counts of values at a time.

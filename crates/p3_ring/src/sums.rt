@@ -1,9 +1,10 @@
 ghost use Rattle.std.specs.Prelude.{◌≡◌, ◌≤◌, length, map};
 ghost use Rattle.p3_theory.specs.Rings.DotProduct.{dot};
-ghost use Rattle.p3_theory.specs.Rings.Operators.{sum_list};
+ghost use Rattle.p3_theory.specs.Rings.Operators.{Gives, sum_list};
+ghost use Rattle.p3_theory.specs.Rings.Ring.{Ops, RingLaws};
 
 use crate::ring::PrimeCharacteristicRing;
-use std::ops::Mul;
+use std::ops::{Add, Mul};
 
 /// The sum of at most four values, in pairs.
 #[inline]
@@ -64,25 +65,29 @@ pub fn sum_array<R: PrimeCharacteristicRing, const N: usize>(input: &[R]) -> R
     sum_slice(&input[..N])
 }
 
-/// The sum of the products of values and elements of another type, position by position. Where each
-/// product is that with an embedded element, it is the dot product with the embedded elements. The
-/// slices have one length. What `mixed_dot_product` runs, under the smallest bounds; this project's own.
+/// The sum of the products of values and elements of another type, position by position, and `zero`
+/// for empty slices. Where `+` and `*` are the sum of a ring and its product with an embedded element,
+/// and `zero` is the ring's, it is the dot product with the embedded elements. The slices have one
+/// length. What `mixed_dot_product` runs, under the smallest bounds; this project's own.
 #[inline]
-pub fn sum_of_products<A, V>(a: &[A], f: &[V]) -> A
+pub fn sum_of_products<A, V>(zero: A, a: &[A], f: &[V]) -> A
 where
-    A: PrimeCharacteristicRing + Mul<V, Output = A>,
+    A: Copy + Add<Output = A> + Mul<V, Output = A>,
     V: Copy,
     requires lengths { length a.now ≡ length f.now }
-    requires muls { (x : A) (v : V) → ⟦<A as Mul<V>>⟧.can_mul x v }
-    ensures { (embed : V → A) → ((x : A) (v : V) (r : A) → ⟦<A as Mul<V>>⟧.mul_gives x v r → r ≡ A.ops.mul x (embed v)) → result ≡ dot A.ops a.now (map embed f.now) }
+    requires sums { (x y : A) → ⟦<A as Add>⟧.can_add x y }
+    requires products { (x : A) (v : V) → ⟦<A as Mul<V>>⟧.can_mul x v }
+    ensures { (o : Ops A) → RingLaws o → (embed : V → A) → Gives ⟦<A as Add>⟧.can_add ⟦<A as Add>⟧.add_gives o.add
+        → Gives ⟦<A as Mul<V>>⟧.can_mul ⟦<A as Mul<V>>⟧.mul_gives (λ x v. o.mul x (embed v))
+        → zero ≡ o.zero → result ≡ dot o a.now (map embed f.now) }
 {
     if a.is_empty() {
-        return A::zero();
+        return zero;
     }
     let mut sum = a[0] * f[0];
     for i in 1..a.len() {
         let product = a[i] * f[i];
-        sum += product;
+        sum = sum + product;
     }
     sum
 }

@@ -26,6 +26,17 @@ module _ {A : Type 0} (O : Ops A) where
   run [] regs = regs
   run (s ∷ steps) regs = run steps (after_step s regs)
 
+-- the register that a step writes
+abbrev pub destination : Step → ℕ
+destination (Add d a b) = d
+destination (Sub d a b) = d
+destination (Mul d a b) = d
+destination (Neg d a) = d
+destination (Square d a) = d
+destination (Double d a) = d
+destination (Exp d a e) = d
+destination (Mul2Exp d a e) = d
+
 -- the registers that a step names are below n
 abbrev pub StepFits : ℕ → Step → Type 0
 StepFits n (Add d a b) = (d < n) × (a < n) × (b < n)

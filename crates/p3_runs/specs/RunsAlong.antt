@@ -1,8 +1,8 @@
 -- A map that keeps the operations takes runs of steps to runs of steps.
-use Rattle.std.specs.Prelude.{◌≡◌, ℕ, zero, suc, List, [], ◌∷◌, refl, map, slice_set, slice_index_or}
-use Rattle.std.proofs.Common.{ap, ap₂, ◌∙◌, sym}
+use Rattle.std.specs.Prelude.{◌≡◌, ℕ, zero, suc, List, [], ◌∷◌, refl, map, slice_set}
+use Rattle.std.proofs.Common.{ap, ap₂, ◌∙◌}
 use Rattle.std.proofs.lemmas.List.{map-set}
-use Rattle.p3_theory.specs.Rings.Ring.{Ops, Hom, subtract}
+use Rattle.p3_theory.specs.Rings.Ring.{Ops, Hom}
 use Rattle.p3_theory.specs.Rings.Powers.{power}
 use Rattle.p3_theory.specs.Rings.Multiples.{two}
 use Rattle.p3_theory.specs.Rings.Homomorphism.{map-power}

@@ -1,8 +1,8 @@
 //! Runs of steps over registers.
 pub mod field_steps;
 
-ghost use Rattle.std.specs.Prelude.{◌≡◌, ◌↔◌, ℕ, All, IsTrue, length};
-ghost use Rattle.p3_runs.specs.Runs.{StepFits, Fit, after_step, run};
+ghost use Rattle.std.specs.Prelude.{◌≡◌, ◌↔◌, ℕ, All, IsTrue, length, slice_set};
+ghost use Rattle.p3_runs.specs.Runs.{StepFits, Fit, destination, after_step, run};
 
 pub use field_steps::{FieldStep, StepFault, StepRefused, run_field_steps};
 use p3_ring::ring::PrimeCharacteristicRing;
@@ -27,6 +27,22 @@ pub enum Step {
     Exp { d: usize, a: usize, e: u64 },
     /// The product with two to the power e.
     Mul2Exp { d: usize, a: usize, e: u64 },
+}
+
+impl Step {
+    /// The register that the step writes.
+    #[inline]
+    fn destination(&self) -> usize
+        ensures { result ≡ destination self.now }
+    {
+        match *self {
+            Step::Add { d, a: _, b: _ }
+            | Step::Sub { d, a: _, b: _ }
+            | Step::Mul { d, a: _, b: _ } => d,
+            Step::Neg { d, a: _ } | Step::Square { d, a: _ } | Step::Double { d, a: _ } => d,
+            Step::Exp { d, a: _, e: _ } | Step::Mul2Exp { d, a: _, e: _ } => d,
+        }
+    }
 }
 
 /// What names registers: a step over a ring, or one over a field. This project's own.
@@ -63,22 +79,32 @@ pub fn steps_fit<S: Registers>(steps: &[S], n: usize) -> bool
     steps.iter().all(|step| step.fits(n))
 }
 
+/// What a step gives the register that it writes.
+#[inline]
+fn step_value<R: PrimeCharacteristicRing>(regs: &[R], step: &Step) -> R
+    requires { StepFits (length regs.now) step.now }
+    ensures { slice_set regs.now (destination step.now) result ≡ after_step R.ops step.now regs.now }
+{
+    match *step {
+        Step::Add { d: _, a, b } => regs[a] + regs[b],
+        Step::Sub { d: _, a, b } => regs[a] - regs[b],
+        Step::Mul { d: _, a, b } => regs[a] * regs[b],
+        Step::Neg { d: _, a } => -regs[a],
+        Step::Square { d: _, a } => regs[a].square(),
+        Step::Double { d: _, a } => regs[a].double(),
+        Step::Exp { d: _, a, e } => regs[a].exp_u64(e),
+        Step::Mul2Exp { d: _, a, e } => regs[a].mul_2exp_u64(e),
+    }
+}
+
 /// Carries out one step.
 #[inline]
 fn run_step<R: PrimeCharacteristicRing>(regs: &mut [R], step: &Step)
     requires { StepFits (length regs.old) step.now }
     ensures { regs.new ≡ after_step R.ops step.now regs.old }
 {
-    let (d, value) = match *step {
-        Step::Add { d, a, b } => (d, regs[a] + regs[b]),
-        Step::Sub { d, a, b } => (d, regs[a] - regs[b]),
-        Step::Mul { d, a, b } => (d, regs[a] * regs[b]),
-        Step::Neg { d, a } => (d, -regs[a]),
-        Step::Square { d, a } => (d, regs[a].square()),
-        Step::Double { d, a } => (d, regs[a].double()),
-        Step::Exp { d, a, e } => (d, regs[a].exp_u64(e)),
-        Step::Mul2Exp { d, a, e } => (d, regs[a].mul_2exp_u64(e)),
-    };
+    let value = step_value(regs, step);
+    let d = step.destination();
     regs[d] = value;
 }
 
