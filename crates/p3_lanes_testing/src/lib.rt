@@ -3,6 +3,8 @@
 #![tactic(auto)]
 
 #[cfg(test)]
+mod kernel_tables;
+#[cfg(test)]
 mod kernels;
 #[cfg(test)]
 mod numbers;
@@ -30,8 +32,6 @@ mod packing_sums;
 mod packing_tables;
 #[cfg(test)]
 mod rows;
-#[cfg(test)]
-mod tables;
 #[cfg(test)]
 mod vector_blocks;
 #[cfg(test)]

@@ -14,6 +14,7 @@ use crate::vector_calls::counted_vectors_agree;
 use crate::vector_tables::VECTORS;
 use p3_base::field::Field;
 use p3_base::packed_traits::{PackedField, PackedFieldPow2, PackedValue};
+use p3_bench_packed::lanes::{Lanes, LanesPow2};
 use p3_bench_packed::packed::Packed;
 use p3_bench_prime::baby_bear::BabyBearModulus;
 use p3_bench_prime::form::{Form, Plain};
@@ -133,25 +134,46 @@ fn any_agrees<F: Field, P: PackedFieldPow2<F>>(
     }
 }
 
-/// `any_agrees` over the packings of a prime field in words of 32 bits with 1, 4, 8 or 16 lanes, and
-/// `row_agrees` over those with 3 lanes.
+/// `any_agrees` over packings of L lanes, a power of two.
+fn at_blocks<F: LanesPow2<L>, const L: usize>(
+    alloc: Global,
+    rows: &[[F; 8]],
+    packings: &[[Packed<F, L>; 8]],
+    vectors: &[Vectorized<F, Packed<F, L>, 4>],
+    row: Row<'_>,
+) -> Result<Option<bool>, AllocError> {
+    any_agrees::<F, Packed<F, L>>(alloc, rows, packings, vectors, row)
+}
+
+/// `row_agrees` over packings of L lanes.
+fn at_lanes<F: Lanes<L>, const L: usize>(
+    alloc: Global,
+    rows: &[[F; 8]],
+    packings: &[[Packed<F, L>; 8]],
+    vectors: &[Vectorized<F, Packed<F, L>, 4>],
+    row: Row<'_>,
+) -> Result<Option<bool>, AllocError> {
+    row_agrees::<F, Packed<F, L>>(alloc, rows, packings, vectors, row)
+}
+
+/// Whether a row's call has its answer over a prime field in words of 32 bits.
 fn over<W: Form<u32>>(alloc: Global, row: Row<'_>) -> Result<Option<bool>, AllocError> {
     match row.lanes {
-        "1" => any_agrees::<Fp<W>, Packed<Fp<W>, 1>>(alloc, &[], &[], &[], row),
-        "3" => row_agrees::<Fp<W>, Packed<Fp<W>, 3>>(alloc, &[], &[], &[], row),
-        "4" => any_agrees::<Fp<W>, Packed<Fp<W>, 4>>(alloc, &[], &[], &[], row),
-        "8" => any_agrees::<Fp<W>, Packed<Fp<W>, 8>>(alloc, &[], &[], &[], row),
-        "16" => any_agrees::<Fp<W>, Packed<Fp<W>, 16>>(alloc, &[], &[], &[], row),
+        "1" => at_blocks::<Fp<W>, 1>(alloc, &[], &[], &[], row),
+        "3" => at_lanes::<Fp<W>, 3>(alloc, &[], &[], &[], row),
+        "4" => at_blocks::<Fp<W>, 4>(alloc, &[], &[], &[], row),
+        "8" => at_blocks::<Fp<W>, 8>(alloc, &[], &[], &[], row),
+        "16" => at_blocks::<Fp<W>, 16>(alloc, &[], &[], &[], row),
         _ => Ok(None),
     }
 }
 
-/// `any_agrees` over the packings of a prime field in words of 64 bits with 1, 4 or 8 lanes.
+/// The same over a prime field in words of 64 bits.
 fn over_long<W: Form<u64>>(alloc: Global, row: Row<'_>) -> Result<Option<bool>, AllocError> {
     match row.lanes {
-        "1" => any_agrees::<Fp<W, u64>, Packed<Fp<W, u64>, 1>>(alloc, &[], &[], &[], row),
-        "4" => any_agrees::<Fp<W, u64>, Packed<Fp<W, u64>, 4>>(alloc, &[], &[], &[], row),
-        "8" => any_agrees::<Fp<W, u64>, Packed<Fp<W, u64>, 8>>(alloc, &[], &[], &[], row),
+        "1" => at_blocks::<Fp<W, u64>, 1>(alloc, &[], &[], &[], row),
+        "4" => at_blocks::<Fp<W, u64>, 4>(alloc, &[], &[], &[], row),
+        "8" => at_blocks::<Fp<W, u64>, 8>(alloc, &[], &[], &[], row),
         _ => Ok(None),
     }
 }

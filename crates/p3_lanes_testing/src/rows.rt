@@ -7,9 +7,9 @@ use std::alloc::{AllocError, Global};
 /// A row of a table.
 #[derive(Clone, Copy)]
 pub(crate) struct Row<'a> {
-    /// The name of the field.
+    /// The name of the field, or of the type of numbers.
     pub(crate) field: &'a str,
-    /// The number of lanes of a packing.
+    /// The number of lanes.
     pub(crate) lanes: &'a str,
     pub(crate) call: &'a str,
     pub(crate) arguments: &'a str,
