@@ -11,6 +11,7 @@ use p3_ext::extension::{
 use p3_products::vectors::embed_entries;
 use p3_ring::accumulate::{product_from, sum_from};
 use p3_ring::ring::{Algebra, PrimeCharacteristicRing};
+use p3_ring::sums::sum_of_products;
 use std::iter::{Product, Sum};
 use std::ops::{Add, AddAssign, Mul, MulAssign, Sub, SubAssign};
 
@@ -118,6 +119,12 @@ impl<F: ExtensionOverAlgebra<P, D, S>, const D: usize, S: ExtensionShape, P: Alg
     const BATCHED_LC_CHUNK: usize = 8;
 
     ghost BATCHED_LC_CHUNK = { 8 };
+
+    /// By the operators of packed extension values.
+    #[inline]
+    fn mixed_dot_product(a: &[Self], f: &[ExtField<F, D, S, F>]) -> Self {
+        sum_of_products(Self::constant(P::zero()), a, f)
+    }
 
     ghost chunk_length = { (3, lit< tt, refl) };
 

@@ -3,6 +3,7 @@ ghost use Rattle.std.specs.Prelude.{◌≡◌, ◌<◌, ℕ, get_or, replicate};
 use super::Vectorized;
 use p3_base::packed_traits::Inhabited;
 use p3_ring::ring::{Algebra, PrimeCharacteristicRing};
+use p3_ring::sums::sum_of_products;
 use std::ops::{Add, AddAssign, Mul, MulAssign, Sub, SubAssign};
 
 /// The scalar in each packing.
@@ -135,6 +136,13 @@ impl<F: PrimeCharacteristicRing, P: Inhabited + Algebra<F>, const N: usize> Alge
     const BATCHED_LC_CHUNK: usize = <P as Algebra<F>>::BATCHED_LC_CHUNK;
 
     ghost BATCHED_LC_CHUNK = { P.BATCHED_LC_CHUNK };
+
+    /// By the vectors' own operators.
+    #[inline]
+    fn mixed_dot_product(a: &[Self], f: &[F]) -> Self {
+        let zero = P::zero();
+        sum_of_products(Self::new([zero; N]), a, f)
+    }
 
     ghost chunk_length = { P.chunk_length };
 

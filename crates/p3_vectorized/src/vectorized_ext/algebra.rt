@@ -4,6 +4,7 @@ use super::VectorizedExt;
 use p3_base::field::Field;
 use p3_base::packed_traits::Inhabited;
 use p3_ring::ring::{Algebra, PrimeCharacteristicRing};
+use p3_ring::sums::sum_of_products;
 use std::ops::{Add, AddAssign, Mul, MulAssign, Sub, SubAssign};
 
 /// The extension value in each packing.
@@ -152,6 +153,13 @@ impl<F: Copy, EF: Field, PE: Inhabited + Algebra<EF>, const N: usize> Algebra<EF
     const BATCHED_LC_CHUNK: usize = <PE as Algebra<EF>>::BATCHED_LC_CHUNK;
 
     ghost BATCHED_LC_CHUNK = { PE.BATCHED_LC_CHUNK };
+
+    /// By the vectors' own operators.
+    #[inline]
+    fn mixed_dot_product(a: &[Self], f: &[EF]) -> Self {
+        let zero = PE::zero();
+        sum_of_products(Self::new([zero; N]), a, f)
+    }
 
     ghost chunk_length = { PE.chunk_length };
 

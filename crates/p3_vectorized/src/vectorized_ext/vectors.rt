@@ -4,6 +4,7 @@ use super::VectorizedExt;
 use crate::vectorized::Vectorized;
 use p3_base::packed_traits::Inhabited;
 use p3_ring::ring::{Algebra, PrimeCharacteristicRing};
+use p3_ring::sums::sum_of_products;
 use std::ops::{Add, AddAssign, Mul, MulAssign, Sub, SubAssign};
 
 /// Each packing of field values as a packing of extension values.
@@ -172,6 +173,13 @@ impl<
     const BATCHED_LC_CHUNK: usize = <PE as Algebra<P>>::BATCHED_LC_CHUNK;
 
     ghost BATCHED_LC_CHUNK = { PE.BATCHED_LC_CHUNK };
+
+    /// By the vectors' own operators.
+    #[inline]
+    fn mixed_dot_product(a: &[Self], f: &[Vectorized<F, P, N>]) -> Self {
+        let zero = PE::zero();
+        sum_of_products(Self::new([zero; N]), a, f)
+    }
 
     ghost chunk_length = { PE.chunk_length };
 
