@@ -1,8 +1,9 @@
 //! Calls that give lists of packings or go over slices by packings: powers, and slices that are scaled or
 //! added. Told by the rows of tables.
-use crate::rows::{Row, holds, value_at, values, word};
+use crate::rows::{Row, holds, value_at, values};
 use p3_base::field::Field;
 use p3_base::packed_traits::PackedField;
+use p3_ring::powers::BoundedPowers;
 use p3_ring::ring::PrimeCharacteristicRing;
 use p3_tools::helpers::{
     add_scaled_slice_in_place, par_add_scaled_slice_in_place, par_scale_slice_in_place,
@@ -26,31 +27,38 @@ pub(crate) fn are_powers<F: Field, P: PackedField<F>>(row: Row<'_>) -> Option<bo
     Some(true)
 }
 
+/// The powers of a row: the base, the start and the length.
+fn powers_of<F: Field>(row: Row<'_>) -> Option<BoundedPowers<F>> {
+    let base = value_at::<F>(row.argument(0), 0)?;
+    let start = value_at::<F>(row.argument(1), 0)?;
+    let length = row.argument(2).parse::<usize>().ok()?;
+    let powers = base.shifted_powers(start);
+    Some(powers.take(length))
+}
+
+/// Whether a list has the values of a text at the indices of another one.
+fn hold_at<F: Field>(terms: &[F], indices: &str, values: &str) -> bool {
+    let mut expected = values.split_ascii_whitespace();
+    for index in indices.split_terminator(',') {
+        let i = index.parse::<usize>().unwrap_or(usize::MAX);
+        let value = value_at::<F>(expected.next().unwrap_or(""), 0);
+        if i >= terms.len() || value != Some(terms[i]) {
+            return false;
+        }
+    }
+    expected.next().is_none()
+}
+
 /// Whether a list of powers has the row's length, and at the row's indices the row's values.
 pub(crate) fn are_taken<F: Field>(alloc: Global, row: Row<'_>) -> Result<Option<bool>, AllocError> {
-    let (Some(base), Some(start), Ok(length), Some((expected, terms))) = (
-        value_at::<F>(row.argument(0), 0),
-        value_at::<F>(row.argument(1), 0),
-        row.argument(2).parse::<usize>(),
-        row.answer.split_once('|'),
-    ) else {
+    let Some(powers) = powers_of::<F>(row) else {
         return Ok(None);
     };
-    let powers = base.shifted_powers(start);
-    let taken = powers.take(length).collect(alloc)?;
-    if expected.parse::<usize>() != Ok(taken.len()) {
-        return Ok(Some(false));
-    }
-    let mut term = 0;
-    for index in row.argument(3).split_terminator(',') {
-        let value = value_at::<F>(word(terms, term), 0);
-        match index.parse::<usize>() {
-            Ok(i) if i < taken.len() && Some(taken[i]) == value => {}
-            _ => return Ok(Some(false)),
-        }
-        term += 1;
-    }
-    Ok(Some(true))
+    let Some((length, values)) = row.answer.split_once('|') else {
+        return Ok(None);
+    };
+    let taken = powers.collect(alloc)?;
+    Ok(Some(length.parse::<usize>() == Ok(taken.len()) && hold_at(&taken, row.argument(3), values)))
 }
 
 /// Whether a slice is what the row says once it is scaled, under both names.
