@@ -1,5 +1,5 @@
 use borrow.Author.Count.{below_more}
-use Rattle.std.proofs.Common.{◌≡◌, ◌∙◌, refl}
+use Rattle.std.proofs.Common.{◌≡◌, ◌∙◌, arith, refl}
 use Rattle.std.proofs.lemmas.Option.{get_or_from_slice_get}
 use Rattle.p3_theory.specs.Lanes.Lanes.{lane}
 use Rattle.p3_lanes_testing.proofs.Units.{one_by_lanes}
@@ -14,4 +14,5 @@ loop-lane-preserved g c =
 
 pub returns : goal.returns
 returns g c t =
-    one_by_lanes g.P.PrimeCharacteristicRing.ops g.F.PrimeCharacteristicRing.ops g.P.PackedValue.lanes _ g.met.P.PackedField.keeps g.met.P.PackedField.lengths g.met.P.PackedField.same c.args.packing c.loop-lane.invariant
+    one_by_lanes g.P.PrimeCharacteristicRing.ops g.F.PrimeCharacteristicRing.ops g.P.PackedValue.lanes _ g.met.P.PackedField.keeps g.met.P.PackedField.lengths g.met.P.PackedField.same c.args.packing
+    (λ k h. c.loop-lane.invariant k (omega (arith, h, c.WIDTH-lane-end.ensures, c.loop-lane-test.false)))
