@@ -148,18 +148,6 @@ where
     Ok(told::<F, EF, PE>(folded::<PE>(call, &xs), answer))
 }
 
-/// Whether an operation of a packing and a value of another ring answers this.
-pub(crate) fn mixed_agree<F, EF, PE, T>(call: &str, left: &str, y: T, answer: &str) -> Option<bool>
-where
-    F: Field,
-    EF: Field + BasedVectorSpace<F>,
-    PE: ExtensionLanes<F, EF> + Algebra<T>,
-    T: PrimeCharacteristicRing,
-{
-    let x = packing::<F, EF, PE>(left);
-    told::<F, EF, PE>(mixed_operation::<PE, T>(call, x, y), answer)
-}
-
 /// Whether the dot product of packings and values of another ring is what a text says.
 pub(crate) fn mixed_lists_agree<F, EF, PE, T>(
     alloc: Global,
@@ -177,7 +165,7 @@ where
     Ok(told::<F, EF, PE>(mixed_product_of_lists::<PE, T>(&xs, ys), answer))
 }
 
-/// Whether a call on a packing and a packing of the base, an extension value or a scalar answers this.
+/// Whether a call on packings and packings of the base, extension values or a scalar answers this.
 pub(crate) fn mixed_calls_agree<F, EF, PE, P>(
     alloc: Global,
     call: &str,
@@ -191,38 +179,41 @@ where
     P: PackedField<F>,
 {
     let first = side(arguments, 0);
-    let mut words = call.split(' ');
-    let name = words.next().unwrap_or("");
-    let right = if name == "from" {
-        first
-    } else {
-        side(arguments, 1)
-    };
-    match words.next().unwrap_or("") {
-        "packing" if name == "mixed_dot_product" => {
-            let ys = base_packings::<F, P>(alloc, right)?;
+    let second = side(arguments, 1);
+    match call {
+        "mixed_dot_product packing" => {
+            let ys = base_packings::<F, P>(alloc, second)?;
             mixed_lists_agree::<F, EF, PE, P>(alloc, first, &ys, answer)
         }
-        "value" if name == "mixed_dot_product" => {
-            let ys = values::<F, EF>(alloc, right)?;
+        "mixed_dot_product value" => {
+            let ys = values::<F, EF>(alloc, second)?;
             mixed_lists_agree::<F, EF, PE, EF>(alloc, first, &ys, answer)
         }
-        "packing" => {
-            let y = base_packing::<F, P>(right);
-            Ok(mixed_agree::<F, EF, PE, P>(name, first, y, answer))
-        }
+        _ => Ok(told::<F, EF, PE>(mixed_result::<F, EF, PE, P>(call, first, second), answer)),
+    }
+}
+
+/// What an operation of a packing and a packing of the base, an extension value or a scalar gives, or the
+/// half of a packing.
+fn mixed_result<F, EF, PE, P>(call: &str, first: &str, second: &str) -> Option<PE>
+where
+    F: Field,
+    EF: Field + BasedVectorSpace<F>,
+    PE: ExtensionLanes<F, EF> + Algebra<EF> + Algebra<P>,
+    P: PackedField<F>,
+{
+    let x = packing::<F, EF, PE>(first);
+    let mut words = call.split(' ');
+    let name = words.next().unwrap_or("");
+    let right = if name == "from" { first } else { second };
+    match words.next().unwrap_or("") {
+        "packing" => mixed_operation::<PE, P>(name, x, base_packing::<F, P>(right)),
         "scalar" => {
             let y = P::broadcast(coefficient::<F>(right, 0));
-            Ok(mixed_agree::<F, EF, PE, P>(name, first, y, answer))
+            mixed_operation::<PE, P>(name, x, y)
         }
-        "value" => {
-            let y = value::<F, EF>(right);
-            Ok(mixed_agree::<F, EF, PE, EF>(name, first, y, answer))
-        }
-        _ if name == "halve" => {
-            let x = packing::<F, EF, PE>(first);
-            Ok(told::<F, EF, PE>(half::<PE, EF>(x), answer))
-        }
-        _ => Ok(None),
+        "value" => mixed_operation::<PE, EF>(name, x, value::<F, EF>(right)),
+        _ if name == "halve" => half::<PE, EF>(x),
+        _ => None,
     }
 }

@@ -19,7 +19,7 @@ use std::alloc::{AllocError, Global};
 pub(crate) fn vectors_agree<F, EF, PE, P, const N: usize>(
     alloc: Global,
     room: Option<VectorizedExt<F, EF, PE, N>>,
-    _base: Option<Vectorized<F, P, N>>,
+    base_room: Option<Vectorized<F, P, N>>,
     call: &str,
     arguments: &str,
     answer: &str,
@@ -37,21 +37,13 @@ where
         "extract" => {
             return Ok(lane_agrees::<F, EF, PE, N>(vector::<F, EF, PE, N>(first), second, answer));
         }
-        "dot_product" => dot_product::<F, EF, PE, N>(alloc, first, second)?,
-        "mixed_dot_product value" => {
-            let xs = vectors::<F, EF, PE, N>(alloc, first)?;
-            let ys = values::<F, EF>(alloc, second)?;
-            mixed_product_of_lists::<VectorizedExt<F, EF, PE, N>, EF>(&xs, &ys)
+        _ if call.contains("vectorized") => {
+            base_result::<F, EF, PE, P, N>(alloc, base_room, call, arguments)?
         }
-        "mixed_dot_product vectorized" => {
-            let xs = vectors::<F, EF, PE, N>(alloc, first)?;
-            let ys = base_vectors::<F, P, N>(alloc, second)?;
-            mixed_product_of_lists::<VectorizedExt<F, EF, PE, N>, Vectorized<F, P, N>>(&xs, &ys)
+        _ if call.contains("dot_product") => {
+            vector_product::<F, EF, PE, N>(alloc, call, first, second)?
         }
-        "from_vectorized_basis_coefficients" => {
-            of_coefficients::<F, EF, PE, P, N>(base_vectors::<F, P, N>(alloc, arguments)?)
-        }
-        _ => vector_operation::<F, EF, PE, P, N>(call, first, second),
+        _ => vector_result::<F, EF, PE, N>(call, first, second),
     };
     match given {
         Some(vector) => Ok(Some(vector_holds::<F, EF, PE, N>(&vector, answer))),
@@ -59,9 +51,8 @@ where
     }
 }
 
-/// What an operation of a vector and another one, an extension value or a vector of packings of the base
-/// gives.
-fn vector_operation<F, EF, PE, P, const N: usize>(
+/// What an operation of a vector and another one or an extension value gives, or the half of a vector.
+fn vector_result<F, EF, PE, const N: usize>(
     call: &str,
     first: &str,
     second: &str,
@@ -69,26 +60,78 @@ fn vector_operation<F, EF, PE, P, const N: usize>(
 where
     F: Field,
     EF: Field + BasedVectorSpace<F>,
-    PE: ExtensionLanes<F, EF> + Algebra<EF> + Algebra<P>,
-    P: PackedField<F>,
+    PE: ExtensionLanes<F, EF> + Algebra<EF>,
 {
     let x = vector::<F, EF, PE, N>(first);
     let mut words = call.split(' ');
     let name = words.next().unwrap_or("");
-    let right = if name == "from" { first } else { second };
     match words.next() {
-        Some("value") => {
-            let y = value::<F, EF>(right);
+        Some(_) => {
+            let y = value::<F, EF>(if name == "from" { first } else { second });
             mixed_operation::<VectorizedExt<F, EF, PE, N>, EF>(name, x, y)
         }
-        Some("vectorized") => {
-            let y = base_vector::<F, P, N>(right);
-            mixed_operation::<VectorizedExt<F, EF, PE, N>, Vectorized<F, P, N>>(name, x, y)
-        }
-        _ if name == "halve" => half::<VectorizedExt<F, EF, PE, N>, EF>(x),
-        _ => {
+        None if name == "halve" => half::<VectorizedExt<F, EF, PE, N>, EF>(x),
+        None => {
             let y = vector::<F, EF, PE, N>(second);
             operation::<VectorizedExt<F, EF, PE, N>>(name, x, y, second.parse::<u64>().ok())
+        }
+    }
+}
+
+/// The dot product of a list of vectors and one of vectors or of extension values, where they have the
+/// same length.
+fn vector_product<F, EF, PE, const N: usize>(
+    alloc: Global,
+    call: &str,
+    left: &str,
+    right: &str,
+) -> Result<Option<VectorizedExt<F, EF, PE, N>>, AllocError>
+where
+    F: Field,
+    EF: Field + BasedVectorSpace<F>,
+    PE: ExtensionLanes<F, EF> + Algebra<EF>,
+{
+    let xs = vectors::<F, EF, PE, N>(alloc, left)?;
+    if call == "mixed_dot_product value" {
+        let ys = values::<F, EF>(alloc, right)?;
+        Ok(mixed_product_of_lists::<VectorizedExt<F, EF, PE, N>, EF>(&xs, &ys))
+    } else {
+        let ys = vectors::<F, EF, PE, N>(alloc, right)?;
+        Ok(product_of_lists::<VectorizedExt<F, EF, PE, N>>(&xs, &ys))
+    }
+}
+
+/// What a call on vectors and vectors of packings of the base gives. That a vector is named tells that its
+/// type has room.
+fn base_result<F, EF, PE, P, const N: usize>(
+    alloc: Global,
+    _base_room: Option<Vectorized<F, P, N>>,
+    call: &str,
+    arguments: &str,
+) -> Result<Option<VectorizedExt<F, EF, PE, N>>, AllocError>
+where
+    F: Field,
+    EF: Field + BasedVectorSpace<F>,
+    PE: ExtensionLanes<F, EF> + Algebra<P> + BasedVectorSpace<P>,
+    P: PackedField<F>,
+{
+    let first = side(arguments, 0);
+    let second = side(arguments, 1);
+    match call {
+        "mixed_dot_product vectorized" => {
+            let xs = vectors::<F, EF, PE, N>(alloc, first)?;
+            let ys = base_vectors::<F, P, N>(alloc, second)?;
+            Ok(mixed_product_of_lists::<VectorizedExt<F, EF, PE, N>, Vectorized<F, P, N>>(&xs, &ys))
+        }
+        "from_vectorized_basis_coefficients" => {
+            let coefficients = base_vectors::<F, P, N>(alloc, arguments)?;
+            Ok(of_coefficients::<F, EF, PE, P, N>(coefficients))
+        }
+        _ => {
+            let x = vector::<F, EF, PE, N>(first);
+            let name = call.split(' ').next().unwrap_or("");
+            let y = base_vector::<F, P, N>(if name == "from" { first } else { second });
+            Ok(mixed_operation::<VectorizedExt<F, EF, PE, N>, Vectorized<F, P, N>>(name, x, y))
         }
     }
 }
@@ -106,22 +149,6 @@ where
 {
     let found = at_lane(&vector, lane.parse::<usize>().ok()?)?;
     Some(found == value::<F, EF>(answer))
-}
-
-/// The dot product of two lists of vectors, where they have the same length.
-fn dot_product<F, EF, PE, const N: usize>(
-    alloc: Global,
-    left: &str,
-    right: &str,
-) -> Result<Option<VectorizedExt<F, EF, PE, N>>, AllocError>
-where
-    F: Field,
-    EF: Field + BasedVectorSpace<F>,
-    PE: ExtensionLanes<F, EF>,
-{
-    let xs = vectors::<F, EF, PE, N>(alloc, left)?;
-    let ys = vectors::<F, EF, PE, N>(alloc, right)?;
-    Ok(product_of_lists::<VectorizedExt<F, EF, PE, N>>(&xs, &ys))
 }
 
 /// The vector whose packings have these coefficients, where there are as many as the dimension.
