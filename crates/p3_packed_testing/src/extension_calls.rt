@@ -148,14 +148,10 @@ fn columns_over<
     call: Call,
 ) -> Result<Option<bool>, AllocError> {
     let (_, count, name, arguments, answer) = call;
+    let rows: Vec<[ExtField<F, D, S, F>; 4]> = Vec::new(alloc);
+    let columns: Vec<[PackedExtField<F, D, S, P>; 4]> = Vec::new(alloc);
     counted_columns_agree::<F, ExtField<F, D, S, F>, PackedExtField<F, D, S, P>>(
-        alloc,
-        &[],
-        &[],
-        count,
-        name,
-        arguments,
-        answer,
+        alloc, &rows, &columns, count, name, arguments, answer,
     )
 }
 
