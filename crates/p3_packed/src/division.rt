@@ -94,6 +94,7 @@ impl<
 
     ghost div_gives = { λ x y r. (packed_ops P.ops (map ⟦<P as Algebra<F>>⟧.embed F.modulus)).mul r y ≡ x };
 
+    #[tactic(auto, using(crate::specs::Sizes::extension_fits))]
     #[inline]
     fn div(self, rhs: Self) -> Self {
         quotient::<F, D, S, P>(self, rhs)
