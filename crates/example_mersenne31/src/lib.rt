@@ -1,0 +1,7 @@
+//! A prime field of one's own: the residues modulo 2^31 - 1, with a reduction by shifts and sums.
+#![tactic(auto)]
+
+mod value;
+pub mod words;
+
+pub use value::Mersenne31;
