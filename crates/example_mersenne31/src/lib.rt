@@ -1,6 +1,9 @@
 //! A prime field of one's own: the residues modulo 2^31 - 1, with a reduction by shifts and sums.
 #![tactic(auto)]
 
+mod compare;
+mod field;
+mod ring;
 mod value;
 pub mod words;
 

@@ -1,9 +1,7 @@
 ghost use Rattle.std.specs.Prelude.{◌≡◌, ◌<◌, ◌+◌, ◌-◌, ◌*◌, ◌%◌, ◌==◌, ⊤};
 ghost use Rattle.example_mersenne31.specs.declared.words.TheConstants.{P};
 
-use crate::words::{
-    P, add_residues, multiply_residues, negate_residue, reduce, subtract_residues,
-};
+use crate::words::{P, add_residues, multiply_residues, negate_residue, reduce, subtract_residues};
 use std::alloc::AllocError;
 use std::ops::{Add, AddAssign, Mul, MulAssign, Neg, Sub, SubAssign};
 
