@@ -4,7 +4,10 @@
 mod compare;
 mod field;
 mod ring;
+mod streams;
 mod value;
 pub mod words;
+#[cfg(test)]
+mod worked_values;
 
 pub use value::Mersenne31;
