@@ -2,7 +2,10 @@
 #![tactic(auto)]
 
 mod compare;
+mod complex;
+mod cubic;
 mod field;
+mod over_packings;
 mod ring;
 mod streams;
 mod value;

@@ -51,7 +51,10 @@ fn integers(rt: HostRuntime) {
 fn powers(rt: HostRuntime) {
     let two = Mersenne31::new(2);
     assert_eq!(rt; two.exp_u64(31), Mersenne31::new(1));
-    assert_eq!(rt; Mersenne31::two_adic_generator(1), Mersenne31::new(2147483646));
+    assert_eq!(rt;
+        Mersenne31::two_adic_generator(1),
+        Mersenne31::new(2147483646)
+    );
     assert_eq!(rt; Mersenne31::two_adic_generator(0), Mersenne31::new(1));
 }
 
