@@ -1,10 +1,10 @@
 -- Two-adic generators of the extension by X^2 = -1, by the numbers of both coefficients.
 use Rattle.std.specs.Prelude.{ℕ, List, [], ◌∷◌, refl}
-use Rattle.p3_theory.specs.Rings.Ring.{Hom}
-use Rattle.p3_theory.specs.Polynomials.Polynomial.{binomial}
-use Rattle.p3_theory.specs.ResidueRings.Residues.{residues, of_keeps}
+use Rattle.p3_field.specs.Ring.{Hom}
+use Rattle.p3_field.specs.Polynomial.{binomial}
+use Rattle.p3_field.specs.Residues.{residues, of_keeps}
 use Rattle.p3_theory.specs.FrobeniusMaps.TableEntries.{binomial-along}
-use Rattle.p3_theory.specs.Roots.TwoAdicCoefficients.{AreExtensionGenerators, GeneratorEquations, coefficients-along, entry, equations_generate}
+use Rattle.p3_field.specs.TwoAdicCoefficients.{AreExtensionGenerators, GeneratorEquations, coefficients-along, entry, equations_generate}
 use Rattle.example_mersenne31.specs.Elements.{of, ops, is}
 use Rattle.example_mersenne31.specs.declared.words.TheConstants.{P}
 

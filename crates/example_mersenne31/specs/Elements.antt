@@ -3,8 +3,8 @@ use Rattle.std.specs.Prelude.{◌≡◌, ◌<◌, ◌%◌, ℕ, refl}
 use Rattle.std.proofs.Common.{ap, lit<, subst}
 use Rattle.std.proofs.Math.Nat.{mod-eq_of_lt, mod-lt}
 use Rattle.std.proofs.Math.Bridge.{le_prop}
-use Rattle.p3_theory.specs.Rings.Ring.{Ops}
-use Rattle.p3_theory.specs.ResidueRings.Residues.{IsResidues, residue_ops}
+use Rattle.p3_field.specs.Ring.{Ops}
+use Rattle.p3_field.specs.Residues.{IsResidues, residue_ops}
 use Rattle.example_mersenne31.specs.declared.value.Mersenne31.{Mersenne31}
 use Rattle.example_mersenne31.specs.declared.words.TheConstants.{P}
 

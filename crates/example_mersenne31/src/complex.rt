@@ -1,12 +1,12 @@
 //! The extension by X^2 = -1: the order is 3 modulo 4, so minus one has no root. Its generators of
 //! orders 2^k stand in a table.
 ghost use Rattle.std.specs.Prelude.{◌≡◌, ◌≤◌, ◌<◌, refl};
-ghost use Rattle.p3_theory.specs.Roots.TwoAdicCoefficients.{entry};
+ghost use Rattle.p3_field.specs.TwoAdicCoefficients.{entry};
 ghost use Rattle.example_mersenne31.specs.Elements.{of, is};
 ghost use Rattle.example_mersenne31.specs.ComplexGenerators.{generator_table, generators};
 
 use crate::value::Mersenne31;
-use p3_ext::extension::{ByteCountFits, Complex, ComplexExtendable, HasTwoAdicBinomialExtension};
+use p3_field::extension::{ByteCountFits, Complex, ComplexExtendable, HasTwoAdicBinomialExtension};
 
 /// The residues of the coefficients of the two-adic generators, a row for each number of bits.
 const GENERATORS: [[u32; 2]; 33] = [
@@ -59,7 +59,7 @@ fn generator_coefficient(bits: usize, i: usize) -> Mersenne31
 /// The complex values of a field element with 12 + X as their generator.
 impl ComplexExtendable for Mersenne31 {
     ghost use Rattle.std.specs.Prelude.{[], ◌∷◌, get_or};
-    ghost use Rattle.p3_ext.specs.Values.{value_of};
+    ghost use Rattle.p3_field.specs.Values.{value_of};
     ghost use Rattle.p3_bench_residues.specs.Halves.{two_has_inverse};
 
     ghost complex_generator_coefficient = { λ i. of (get_or (12 ∷ 1 ∷ []) i 0) };

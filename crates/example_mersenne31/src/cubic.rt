@@ -1,10 +1,10 @@
 //! The extension by X^3 = 5: three divides the order less one, and five is no cube.
 ghost use Rattle.std.specs.Prelude.{◌≡◌, refl};
-ghost use Rattle.p3_theory.specs.Polynomials.Polynomial.{quotient_mul, binomial};
+ghost use Rattle.p3_field.specs.Polynomial.{quotient_mul, binomial};
 ghost use Rattle.example_mersenne31.specs.Elements.{of, ops, is};
 
 use crate::value::Mersenne31;
-use p3_ext::extension::{
+use p3_field::extension::{
     Binomial, BinomiallyExtendable, ByteCountFits, ExtensionAlgebra, ExtensionProduct,
 };
 use p3_products::binomial_extension::ring_product;
@@ -20,7 +20,7 @@ impl ExtensionProduct<Mersenne31, 3, Binomial<Mersenne31>> for Mersenne31 {
 
 impl ExtensionAlgebra<Mersenne31, 3, Binomial<Mersenne31>> for Mersenne31 {
     ghost use Rattle.std.proofs.Common.{lit≤};
-    ghost use Rattle.p3_theory.specs.FrobeniusMaps.BinomialFrobenius.{binomial_is_monic};
+    ghost use Rattle.p3_field.specs.BinomialFrobenius.{binomial_is_monic};
 
     ghost modulus = { binomial ops 3 (of 5) };
 

@@ -1,16 +1,17 @@
 //! The field: inverses, division, and the laws of a field, a prime field and a two-adic field.
 ghost use Rattle.std.specs.Prelude.{◌≡◌, ◌≢◌, MatchOption, Some, refl};
 ghost use Rattle.std.specs.Fmt.{decimal};
-ghost use Rattle.p3_theory.specs.Rings.Ring.{Invertible, IsInverse};
+ghost use Rattle.p3_field.specs.Ring.{Invertible, IsInverse};
 ghost use Rattle.example_mersenne31.specs.Elements.{canon, of, ops, is, same_word};
 ghost use Rattle.example_mersenne31.specs.declared.words.TheConstants.{P};
 
 use crate::value::Mersenne31;
 use crate::words::P;
-use p3_base::field::{Field, PrimeField, PrimeField32, PrimeField64, TwoAdicField};
-use p3_base::packed_traits::{Inhabited, Packable};
 use p3_bench_residues::inverse::inverse_modulo;
-use p3_ring::ring::PrimeCharacteristicRing;
+use p3_field::{
+    Field, Inhabited, Packable, PrimeCharacteristicRing, PrimeField, PrimeField32, PrimeField64,
+    TwoAdicField,
+};
 use std::ops::{Div, DivAssign};
 
 /// An inverse of the value, and `None` exactly where it has none.
@@ -55,7 +56,7 @@ impl Inhabited for Mersenne31 {
 impl Packable for Mersenne31 {}
 
 impl Field for Mersenne31 {
-    ghost use Rattle.p3_theory.specs.Roots.ValueLists.{values_where_given, values-residues};
+    ghost use Rattle.p3_field.specs.ValueLists.{values_where_given, values-residues};
     ghost use Rattle.p3_bench_residues.specs.Inverses.{zero_is_not_one, same_where_equal};
 
     ghost text = { λ x. decimal (canon x) };
@@ -99,7 +100,7 @@ impl Field for Mersenne31 {
 }
 
 impl PrimeField for Mersenne31 {
-    ghost use Rattle.p3_theory.specs.ResidueRings.Residues.{are_residues};
+    ghost use Rattle.p3_field.specs.Residues.{are_residues};
 
     #[inline]
     fn as_canonical_biguint(&self) -> u128 {
@@ -157,7 +158,7 @@ impl PrimeField32 for Mersenne31 {
 
 /// The order less one is twice an odd number, so one and minus one are all there is.
 impl TwoAdicField for Mersenne31 {
-    ghost use Rattle.p3_theory.specs.Roots.TwoAdic.{repeated_squares};
+    ghost use Rattle.p3_field.specs.TwoAdic.{repeated_squares};
     ghost use Rattle.p3_theory.specs.ResidueRings.ResidueGenerators.{residue_generators, divides_residue_order};
 
     ghost two_adic = { repeated_squares ops 1 (of 2147483646) };

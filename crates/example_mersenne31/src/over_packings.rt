@@ -1,12 +1,12 @@
 //! Products of the extensions' values side by side: over any algebra of the field, as a packing.
 ghost use Rattle.std.specs.Prelude.{◌≡◌};
-ghost use Rattle.p3_theory.specs.Polynomials.Polynomial.{quotient_mul, binomial};
+ghost use Rattle.p3_field.specs.Polynomial.{quotient_mul, binomial};
 ghost use Rattle.example_mersenne31.specs.Elements.{of, ops};
 
 use crate::value::Mersenne31;
-use p3_ext::extension::{Binomial, ExtensionOverAlgebra, PackedProduct};
+use p3_field::Algebra;
+use p3_field::extension::{Binomial, ExtensionOverAlgebra, PackedProduct};
 use p3_products::binomial_extension::binomial_product;
-use p3_ring::ring::Algebra;
 
 impl<P: Algebra<Mersenne31>> PackedProduct<P, 2, Binomial<Mersenne31>> for Mersenne31 {
     ghost packed_product_gives = { λ a b r. r ≡ quotient_mul P.ops 2 (binomial P.ops 2 (P.embed (ops.neg ops.one))) a b };

@@ -5,14 +5,13 @@ ghost use Rattle.example_mersenne31.specs.declared.words.TheConstants.{P};
 
 use crate::value::Mersenne31;
 use crate::words::{P, halve_residue};
-use p3_integers::integers::integer::Integer;
-use p3_integers::integers::{IntegerQuotient, Quotient, QuotientMap};
-use p3_ring::accumulate::{product_from, sum_from};
-use p3_ring::ring::{PrimeCharacteristicRing, RingSums};
+use p3_field::integers::integer::Integer;
+use p3_field::integers::{IntegerQuotient, Quotient, QuotientMap};
+use p3_field::{PrimeCharacteristicRing, RingSums, product_from, sum_from};
 use std::iter::{Product, Sum};
 
 impl Quotient for Mersenne31 {
-    ghost use Rattle.p3_theory.specs.ResidueRings.Residues.{canon-below};
+    ghost use Rattle.p3_field.specs.Residues.{canon-below};
 
     ghost order = { P };
 
@@ -49,7 +48,7 @@ impl IntegerQuotient for Mersenne31 {
 }
 
 impl PrimeCharacteristicRing for Mersenne31 {
-    ghost use Rattle.p3_theory.specs.ResidueRings.Residues.{residue_laws, is_of, is_difference};
+    ghost use Rattle.p3_field.specs.Residues.{residue_laws, is_of, is_difference};
     ghost use Rattle.p3_bench_residues.specs.ResidueMultiples.{of_nat-order};
 
     type PrimeSubfield = Self;
@@ -98,7 +97,7 @@ impl PrimeCharacteristicRing for Mersenne31 {
 }
 
 impl Sum<Mersenne31> for Mersenne31 {
-    ghost use Rattle.p3_theory.specs.Rings.Operators.{sum_list};
+    ghost use Rattle.p3_field.specs.Operators.{sum_list};
 
     ghost sum_gives = { λ xs r. r ≡ sum_list ops xs };
 
@@ -109,7 +108,7 @@ impl Sum<Mersenne31> for Mersenne31 {
 }
 
 impl Product<Mersenne31> for Mersenne31 {
-    ghost use Rattle.p3_theory.specs.Rings.Operators.{product_list};
+    ghost use Rattle.p3_field.specs.Operators.{product_list};
 
     ghost product_gives = { λ xs r. r ≡ product_list ops xs };
 

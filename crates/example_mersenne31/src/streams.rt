@@ -4,12 +4,11 @@ ghost use Rattle.std.specs.Prelude.{refl};
 ghost use Rattle.example_mersenne31.specs.Elements.{canon, is};
 
 use crate::value::Mersenne31;
-use p3_ring::exponentiation::exp_1717986917;
-use p3_spaces::field_bounds::{FieldBounds, PrimeFieldBounds};
-use p3_spaces::field_bytes::PrimeField32Bytes;
-use p3_spaces::in_memory::InMemory;
-use p3_spaces::monomials::{InjectiveMonomial, PermutationMonomial};
-use p3_spaces::streams::RawDataSerializable;
+use p3_field::exponentiation::exp_1717986917;
+use p3_field::{
+    FieldBounds, InMemory, InjectiveMonomial, PermutationMonomial, PrimeField32Bytes,
+    PrimeFieldBounds, RawDataSerializable,
+};
 use std::array::IntoIter;
 
 impl RawDataSerializable for Mersenne31 {
@@ -52,7 +51,7 @@ impl PrimeFieldBounds for Mersenne31 {
 
 /// 5 * 1717986917 is one more than four times the order less one.
 impl InjectiveMonomial<5> for Mersenne31 {
-    ghost use Rattle.p3_theory.specs.Roots.Monomials.{residue_injective_power};
+    ghost use Rattle.p3_field.specs.Monomials.{residue_injective_power};
 
     ghost injective = { λ domain. residue_injective_power is domain 5 1717986917 (4, refl) };
 }

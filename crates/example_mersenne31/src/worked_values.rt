@@ -1,9 +1,12 @@
 //! Values worked by hand, from 2^31 = 1 alone.
 
 use crate::value::Mersenne31;
-use p3_base::field::{Field, PrimeField32, TwoAdicField};
-use p3_integers::integers::QuotientMap;
-use p3_ring::ring::PrimeCharacteristicRing;
+use p3_field::extension::{BinomialExtensionField, Complex, ComplexExtendable};
+use p3_field::integers::QuotientMap;
+use p3_field::{
+    Field, PermutationMonomial, PrimeCharacteristicRing, PrimeField32, RawDataSerializable,
+    TwoAdicField,
+};
 use std::test::Fail;
 
 /// 2^30 twice is 2^31, which is one; 2^16 * 2^16 is 2^32, which is two; -1 is 2^31 - 2.
@@ -62,5 +65,49 @@ fn powers(rt: HostRuntime) {
 fn texts(rt: HostRuntime) -> Result<(), Fail> {
     let text = format!(in rt.alloc(); "{}", Mersenne31::new(0) - Mersenne31::new(1))?;
     assert_eq!(rt; text.as_str(), "2147483646");
+    Ok(())
+}
+
+/// (1 + 2i)(3 + 4i) is 3 - 8 + 10i. (1 + i)(1 - i) is two, so the inverse of 1 + i is half of 1 - i,
+/// which is 2^30 - 2^30 i. The element of order four is -i.
+#[test]
+fn complex_values(rt: HostRuntime) {
+    let first = Complex::new_complex(Mersenne31::new(1), Mersenne31::new(2));
+    let second = Complex::new_complex(Mersenne31::new(3), Mersenne31::new(4));
+    let product = first * second;
+    assert_eq!(rt;
+        product.to_array(),
+        [-Mersenne31::new(5), Mersenne31::new(10)]
+    );
+    let one_and_i = Complex::new_complex(Mersenne31::new(1), Mersenne31::new(1));
+    let inverse = one_and_i.try_inverse();
+    let expected = Complex::new_complex(Mersenne31::new(1 << 30), Mersenne31::new((1 << 30) - 1));
+    assert_eq!(rt; inverse, Some(expected));
+    let fourth = Mersenne31::circle_two_adic_generator(2);
+    assert_eq!(rt;
+        fourth.to_array(),
+        [Mersenne31::new(0), -Mersenne31::new(1)]
+    );
+}
+
+/// X^2 * X^2 is X^4, which is 5 X.
+#[test]
+fn cubic_values(rt: HostRuntime) {
+    let zero = Mersenne31::new(0);
+    let one = Mersenne31::new(1);
+    let square = BinomialExtensionField::<Mersenne31, 3>::new([zero, zero, one]);
+    let expected = BinomialExtensionField::<Mersenne31, 3>::new([zero, Mersenne31::new(5), zero]);
+    assert_eq!(rt; square * square, expected);
+}
+
+/// 2^16 + 2 has the bytes 2, 0, 1, 0; two to the power 5 is 32.
+#[test]
+fn bytes_and_roots(rt: HostRuntime) -> Result<(), Fail> {
+    let bytes: Vec<u8> = Mersenne31::new((1 << 16) + 2)
+        .into_bytes()
+        .collect(rt.alloc())?;
+    assert_eq!(rt; bytes.as_slice(), [2, 0, 1, 0].as_slice());
+    let root = Mersenne31::new(32).injective_exp_root_n();
+    assert_eq!(rt; root, Mersenne31::new(2));
     Ok(())
 }

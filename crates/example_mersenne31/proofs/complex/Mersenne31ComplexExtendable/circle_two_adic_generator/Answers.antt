@@ -1,6 +1,6 @@
 use Rattle.std.specs.Prelude.{[], ◌∷◌}
 use Rattle.std.proofs.Common.{ap₂, ◌∙◌}
-use Rattle.p3_ext.specs.Values.{same_value}
+use Rattle.p3_field.specs.Values.{same_value}
 use Rattle.example_mersenne31.proofs.complex.Mersenne31ComplexExtendable.circle_two_adic_generator.Goals as goal
 
 pub returns : goal.returns

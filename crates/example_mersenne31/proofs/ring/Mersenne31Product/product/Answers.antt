@@ -1,5 +1,5 @@
-use Rattle.p3_theory.specs.Rings.Accumulation.{product_from_one}
-use Rattle.p3_theory.specs.ResidueRings.Residues.{is_of, residue_laws}
+use Rattle.p3_field.specs.Accumulation.{product_from_one}
+use Rattle.p3_field.specs.Residues.{is_of, residue_laws}
 use Rattle.example_mersenne31.specs.Elements.{is}
 use Rattle.example_mersenne31.proofs.ring.Mersenne31Product.product.Goals as goal
 

@@ -1,7 +1,7 @@
 use Rattle.std.specs.Prelude.{refl}
 use Rattle.std.proofs.Common.{◌∙◌, ap}
-use Rattle.p3_theory.specs.Rings.Powers.{power}
-use Rattle.p3_theory.specs.Roots.Monomials.{residue_power_undone, inverse_exponents_swap}
+use Rattle.p3_field.specs.Powers.{power}
+use Rattle.p3_field.specs.Monomials.{residue_power_undone, inverse_exponents_swap}
 use Rattle.example_mersenne31.specs.Elements.{ops, is}
 use Rattle.example_mersenne31.specs.declared.words.TheConstants.{P}
 use Rattle.example_mersenne31.proofs.streams.Mersenne31PermutationMonomial5.injective_exp_root_n.Goals as goal
