@@ -86,7 +86,7 @@ impl ComplexExtendable for Mersenne31 {
     ghost two_has_an_inverse = { two_has_inverse is refl };
 }
 
-/// Those up to 31 bits lie on the circle of the values of norm one.
+/// The rows for up to 31 bits are those of the circle; there is one more.
 impl HasTwoAdicBinomialExtension<2> for Mersenne31 {
     ghost ext_two_adic = { λ bits i. of (entry generator_table bits i) };
 

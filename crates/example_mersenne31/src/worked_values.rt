@@ -61,6 +61,17 @@ fn powers(rt: HostRuntime) {
     assert_eq!(rt; Mersenne31::two_adic_generator(0), Mersenne31::new(1));
 }
 
+/// The square of 2^16 is two, and minus one is no square, since the order is 3 modulo 4.
+#[test]
+fn square_roots(rt: HostRuntime) {
+    let root = Mersenne31::new(1 << 16);
+    let found = Mersenne31::new(2).try_sqrt();
+    assert!(rt; found == Some(root) || found == Some(-root));
+    let none = Mersenne31::new(2147483646).try_sqrt();
+    assert_eq!(rt; none, None);
+}
+
+/// -1 is 2^31 - 2.
 #[test]
 fn texts(rt: HostRuntime) -> Result<(), Fail> {
     let text = format!(in rt.alloc(); "{}", Mersenne31::new(0) - Mersenne31::new(1))?;
