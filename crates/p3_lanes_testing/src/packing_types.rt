@@ -11,13 +11,13 @@ use crate::vector_calls::counted_vectors_agree;
 use crate::vector_tables::VECTORS;
 use p3_bench_packed::lanes::{Lanes, LanesPow2};
 use p3_bench_packed::packed::Packed;
-use p3_bench_prime::baby_bear::BabyBearModulus;
+use p3_bench_prime::baby_bear::{BabyBear, BabyBearModulus};
 use p3_bench_prime::form::{Form, Plain};
 use p3_bench_prime::fp::Fp;
-use p3_bench_prime::goldilocks::GoldilocksForm;
+use p3_bench_prime::goldilocks::Goldilocks;
 use p3_bench_prime::koala_bear::KoalaBearModulus;
 use p3_bench_prime::montgomery::Montgomery;
-use p3_bench_prime::small::{M2, M15, M17, M31};
+use p3_bench_prime::small::{F17, F31, M2, M15, M17, M31};
 use p3_columns::unpacked_rows::UnpackedRows;
 use p3_vectorized::vectorized::Vectorized;
 use std::alloc::{AllocError, Global};
@@ -89,43 +89,46 @@ fn columns_over<W: Form<u32>>(alloc: Global, row: Row<'_>) -> Result<Option<bool
     }
 }
 
-/// The same of a call on vectors.
-fn vectors_over<W: Form<u32>>(alloc: Global, row: Row<'_>) -> Result<Option<bool>, AllocError> {
-    match row.lanes {
-        "4" => at_vectors::<Fp<W>, 4>(alloc, &[], &[], &[], row),
-        "8" => at_vectors::<Fp<W>, 8>(alloc, &[], &[], &[], row),
-        _ => Ok(None),
-    }
-}
-
-/// Whether a row's call has its answer over a prime field in words of 32 bits.
+/// Whether a row's call on packings or columns has its answer over a prime field in words of 32 bits.
 fn over<W: Form<u32>>(alloc: Global, row: Row<'_>) -> Result<Option<bool>, AllocError> {
     match row.shape() {
         Shape::Packing => lanes_over::<W>(alloc, row),
         Shape::Columns => columns_over::<W>(alloc, row),
-        Shape::Vector => vectors_over::<W>(alloc, row),
+        Shape::Vector => Ok(None),
     }
 }
 
-/// Whether a row's call on packings has its answer over a prime field in words of 64 bits.
-fn lanes_over_long<W: Form<u64>>(alloc: Global, row: Row<'_>) -> Result<Option<bool>, AllocError> {
-    match row.lanes {
-        "1" => at_blocks::<Fp<W, u64>, 1>(alloc, &[], row),
-        "4" => at_blocks::<Fp<W, u64>, 4>(alloc, &[], row),
-        "8" => at_blocks::<Fp<W, u64>, 8>(alloc, &[], row),
+/// Whether a row's call on packings or columns has its answer over Goldilocks.
+fn over_goldilocks(alloc: Global, row: Row<'_>) -> Result<Option<bool>, AllocError> {
+    match (row.shape(), row.lanes) {
+        (Shape::Packing, "1") => at_blocks::<Goldilocks, 1>(alloc, &[], row),
+        (Shape::Packing, "4") => at_blocks::<Goldilocks, 4>(alloc, &[], row),
+        (Shape::Packing, "8") => at_blocks::<Goldilocks, 8>(alloc, &[], row),
+        (Shape::Columns, "4") => {
+            at_columns::<Goldilocks, 4>(alloc, &[], &[], &[], &[], &[], &[], row)
+        }
         _ => Ok(None),
     }
 }
 
-/// The same of a call on columns or vectors.
-fn over_long<W: Form<u64>>(alloc: Global, row: Row<'_>) -> Result<Option<bool>, AllocError> {
-    match (row.shape(), row.lanes) {
-        (Shape::Packing, _) => lanes_over_long::<W>(alloc, row),
-        (Shape::Columns, "4") => {
-            at_columns::<Fp<W, u64>, 4>(alloc, &[], &[], &[], &[], &[], &[], row)
-        }
-        (Shape::Vector, "4") => at_vectors::<Fp<W, u64>, 4>(alloc, &[], &[], &[], row),
-        (Shape::Vector, "8") => at_vectors::<Fp<W, u64>, 8>(alloc, &[], &[], &[], row),
+/// Whether a row's call on vectors of packings of four lanes has its answer.
+fn vectors_of_four(alloc: Global, row: Row<'_>) -> Result<Option<bool>, AllocError> {
+    match row.field {
+        "f17" => at_vectors::<F17, 4>(alloc, &[], &[], &[], row),
+        "f31" => at_vectors::<F31, 4>(alloc, &[], &[], &[], row),
+        "bb" => at_vectors::<BabyBear, 4>(alloc, &[], &[], &[], row),
+        "gl" => at_vectors::<Goldilocks, 4>(alloc, &[], &[], &[], row),
+        _ => Ok(None),
+    }
+}
+
+/// The same of packings of eight lanes.
+fn vectors_of_eight(alloc: Global, row: Row<'_>) -> Result<Option<bool>, AllocError> {
+    match row.field {
+        "f17" => at_vectors::<F17, 8>(alloc, &[], &[], &[], row),
+        "f31" => at_vectors::<F31, 8>(alloc, &[], &[], &[], row),
+        "bb" => at_vectors::<BabyBear, 8>(alloc, &[], &[], &[], row),
+        "gl" => at_vectors::<Goldilocks, 8>(alloc, &[], &[], &[], row),
         _ => Ok(None),
     }
 }
@@ -141,11 +144,8 @@ fn powers_over_f17x2(alloc: Global, row: Row<'_>) -> Result<Option<bool>, AllocE
     }
 }
 
-/// Whether the call of a line has its answer; `Ok(None)` where the line can't be read or names no call.
-fn agrees(alloc: Global, line: &str) -> Result<Option<bool>, AllocError> {
-    let Some(row) = Row::read(line) else {
-        return Ok(None);
-    };
+/// Whether a row's call has its answer; `Ok(None)` where the row names no call.
+fn row_of_field_agrees(alloc: Global, row: Row<'_>) -> Result<Option<bool>, AllocError> {
     match row.field {
         "f2" => over::<Plain<M2>>(alloc, row),
         "f17" => over::<Plain<M17>>(alloc, row),
@@ -153,9 +153,21 @@ fn agrees(alloc: Global, line: &str) -> Result<Option<bool>, AllocError> {
         "z15" => over::<Plain<M15>>(alloc, row),
         "bb" => over::<Montgomery<BabyBearModulus>>(alloc, row),
         "kb" => over::<Plain<KoalaBearModulus>>(alloc, row),
-        "gl" => over_long::<GoldilocksForm>(alloc, row),
+        "gl" => over_goldilocks(alloc, row),
         "f17x2" => powers_over_f17x2(alloc, row),
         _ => Ok(None),
+    }
+}
+
+/// Whether the call of a line has its answer; `Ok(None)` where the line can't be read or names no call.
+fn agrees(alloc: Global, line: &str) -> Result<Option<bool>, AllocError> {
+    let Some(row) = Row::read(line) else {
+        return Ok(None);
+    };
+    match (row.shape(), row.lanes) {
+        (Shape::Vector, "4") => vectors_of_four(alloc, row),
+        (Shape::Vector, "8") => vectors_of_eight(alloc, row),
+        _ => row_of_field_agrees(alloc, row),
     }
 }
 
