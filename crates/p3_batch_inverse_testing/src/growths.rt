@@ -31,8 +31,7 @@ fn inverses_ask_for_memory_once(rt: HostRuntime) {
     let mut units = [F17::zero(); 2049];
     write_units(&mut units);
     for count in [
-        0usize, 1, 2, 3, 4, 5, 6, 7, 8, 9, 10, 11, 12, 13, 14, 15, 16, 17, 100, 1000, 1023, 1024,
-        1025, 1027, 2049,
+        0usize, 1, 2, 3, 4, 5, 9, 100, 1000, 1023, 1024, 1025, 1027, 2049,
     ] {
         let needed = if count == 0 { 0u64 } else { 1 };
         let x = &units[..count];
