@@ -1,6 +1,8 @@
--- Two as a unit goes along with a map that keeps the operations.
-use Rattle.std.specs.Prelude.{◌≡◌}
-use Rattle.std.proofs.Common.{ap, ap₂, sym, ◌∙◌}
+-- Units along a map that keeps the operations, and by lanes.
+use Rattle.std.specs.Prelude.{◌≡◌, ◌<◌, ℕ, List, length}
+use Rattle.std.proofs.Common.{ap, ap₂, subst, sym, ◌∙◌}
+use Rattle.std.proofs.lemmas.List.{ext_get_or}
+use Rattle.p3_theory.specs.Lanes.Lanes.{lane, KeepsLanes}
 use Rattle.p3_theory.specs.Rings.Ring.{Ops, Hom, Invertible}
 use Rattle.p3_theory.specs.Rings.Multiples.{two}
 
@@ -8,3 +10,10 @@ use Rattle.p3_theory.specs.Rings.Multiples.{two}
 pub two_along : {F P : Type 0} (Q : Ops F) (O : Ops P) (e : F → P) → Hom Q O e → (t : F) → t ≡ two Q → Invertible Q t → Invertible O (two O)
 two_along Q O e k t is i =
     (e i.0, ap (λ u. O.mul u (e i.0)) (sym (ap e is ∙ k.add Q.one Q.one ∙ ap₂ O.add k.one k.one)) ∙ sym (k.mul t i.0) ∙ ap e i.1 ∙ k.one)
+
+-- a packing whose lanes are one is one
+pub one_by_lanes : {P F : Type 0} (O : Ops P) (Q : Ops F) (lanes : P → List F) (w : ℕ) → KeepsLanes O Q lanes w → ((x : P) → length (lanes x) ≡ w)
+    → ((x y : P) → lanes x ≡ lanes y → x ≡ y) → (x : P) → ((k : ℕ) → k < w → lane Q lanes k x ≡ Q.one) → x ≡ O.one
+one_by_lanes O Q lanes w keeps long same x ones =
+    let below : (k : ℕ) → k < length (lanes x) → k < w = λ k b. subst (λ n. k < n) (long x) b in
+    same x O.one (ext_get_or Q.zero (lanes x) (lanes O.one) (long x ∙ sym (long O.one)) (λ k b. ones k (below k b) ∙ sym (keeps k (below k b)).one))

@@ -1,26 +1,19 @@
 //! Sums and differences modulo an order, on arrays and on the lanes of vectors.
 ghost use Rattle.std.specs.Prelude.{◌≡◌, ◌+◌, ◌-◌, ◌%◌, ◌^◌, ◌<◌, ◌≤◌};
 
+use crate::kernel_tables::{BLOCKS, SUMS, VECTOR_SUMS, WORKED_BLOCKS, WORKED_SUMS};
 use crate::numbers::{all_below, numbers};
-use crate::tables::{
-    EQUAL_DIFFERENCES, EQUAL_SUMS, PACKED_DIFFERENCES, PACKED_SUMS, Row, VECTOR_DIFFERENCES,
-    VECTOR_SUMS, WORKED_DIFFERENCES, WORKED_SUMS,
-};
+use crate::rows::Row;
+use crate::vector_blocks::blocks_agree;
 use p3_lanes::mod_arithmetic::{
     mm256_mod_add, mm256_mod_sub, mm512_mod_add, mm512_mod_sub, packed_mod_add, packed_mod_sub,
     uint32x4_mod_add, uint32x4_mod_sub,
 };
+use std::process::Abort;
 use std::simd::prelude::*;
 
 /// The greatest order that the calls take.
 const MOST: u32 = 0x8000_0000;
-
-/// Which of two calls a row is of.
-#[derive(Clone, Copy)]
-enum Operation {
-    Sum,
-    Difference,
-}
 
 /// The sum of two residues.
 fn sum_modulo(x: u32, y: u32, p: u32) -> u32
@@ -43,72 +36,75 @@ fn difference_modulo(x: u32, y: u32, p: u32) -> u32
 }
 
 /// Whether the call on arrays answers what the row says; none where a list has not WIDTH residues.
-fn on_arrays<const WIDTH: usize>(operation: Operation, row: Row) -> Option<bool>
+fn on_arrays<const WIDTH: usize>(row: Row<'_>) -> Option<bool>
     requires { WIDTH < 18 }
 {
-    let (_, p, left, right, answer) = row;
-    let a = numbers::<WIDTH>(left)?;
-    let b = numbers::<WIDTH>(right)?;
-    let wanted = numbers::<WIDTH>(answer)?;
+    let p = row.argument(0).parse::<u32>().ok()?;
+    let a = numbers::<WIDTH>(row.argument(1))?;
+    let b = numbers::<WIDTH>(row.argument(2))?;
+    let wanted = numbers::<WIDTH>(row.answer)?;
     if p > MOST || !all_below(&a, p) || !all_below(&b, p) {
         return None;
     }
     let mut res = [0; WIDTH];
-    match operation {
-        Operation::Sum => {
+    match row.call {
+        "packed_mod_add" => {
             packed_mod_add(&a, &b, &mut res, p, |x: u32, y: u32| -> u32 {
                 sum_modulo(x, y, p)
             });
         }
-        Operation::Difference => {
+        "packed_mod_sub" => {
             packed_mod_sub(&a, &b, &mut res, p, |x: u32, y: u32| -> u32 {
                 difference_modulo(x, y, p)
             });
         }
+        _ => return None,
     }
     Some(res == wanted)
 }
 
 /// Whether the call on vectors of four lanes answers what the row says.
-fn on_four_lanes(operation: Operation, row: Row) -> Option<bool> {
-    let (_, p, left, right, answer) = row;
-    let a = numbers::<4>(left)?;
-    let b = numbers::<4>(right)?;
-    let wanted = numbers::<4>(answer)?;
+fn on_four_lanes(row: Row<'_>) -> Option<bool> {
+    let p = row.argument(0).parse::<u32>().ok()?;
+    let a = numbers::<4>(row.argument(1))?;
+    let b = numbers::<4>(row.argument(2))?;
+    let wanted = numbers::<4>(row.answer)?;
     if p > MOST || !all_below(&a, p) || !all_below(&b, p) {
         return None;
     }
     let (x, y, orders) = (u32x4::from_array(a), u32x4::from_array(b), u32x4::splat(p));
-    let lanes = match operation {
-        Operation::Sum => uint32x4_mod_add(x, y, orders),
-        Operation::Difference => uint32x4_mod_sub(x, y, orders),
+    let lanes = match row.call {
+        "uint32x4_mod_add" => uint32x4_mod_add(x, y, orders),
+        "uint32x4_mod_sub" => uint32x4_mod_sub(x, y, orders),
+        _ => return None,
     };
     Some(lanes.to_array() == wanted)
 }
 
 /// Whether the call on vectors of eight lanes answers what the row says.
-fn on_eight_lanes(operation: Operation, row: Row) -> Option<bool> {
-    let (_, p, left, right, answer) = row;
-    let a = numbers::<8>(left)?;
-    let b = numbers::<8>(right)?;
-    let wanted = numbers::<8>(answer)?;
+fn on_eight_lanes(row: Row<'_>) -> Option<bool> {
+    let p = row.argument(0).parse::<u32>().ok()?;
+    let a = numbers::<8>(row.argument(1))?;
+    let b = numbers::<8>(row.argument(2))?;
+    let wanted = numbers::<8>(row.answer)?;
     if p > MOST || !all_below(&a, p) || !all_below(&b, p) {
         return None;
     }
     let (x, y, orders) = (u32x8::from_array(a), u32x8::from_array(b), u32x8::splat(p));
-    let lanes = match operation {
-        Operation::Sum => mm256_mod_add(x, y, orders),
-        Operation::Difference => mm256_mod_sub(x, y, orders),
+    let lanes = match row.call {
+        "mm256_mod_add" => mm256_mod_add(x, y, orders),
+        "mm256_mod_sub" => mm256_mod_sub(x, y, orders),
+        _ => return None,
     };
     Some(lanes.to_array() == wanted)
 }
 
 /// Whether the call on vectors of sixteen lanes answers what the row says.
-fn on_sixteen_lanes(operation: Operation, row: Row) -> Option<bool> {
-    let (_, p, left, right, answer) = row;
-    let a = numbers::<16>(left)?;
-    let b = numbers::<16>(right)?;
-    let wanted = numbers::<16>(answer)?;
+fn on_sixteen_lanes(row: Row<'_>) -> Option<bool> {
+    let p = row.argument(0).parse::<u32>().ok()?;
+    let a = numbers::<16>(row.argument(1))?;
+    let b = numbers::<16>(row.argument(2))?;
+    let wanted = numbers::<16>(row.answer)?;
     if p > MOST || !all_below(&a, p) || !all_below(&b, p) {
         return None;
     }
@@ -117,90 +113,87 @@ fn on_sixteen_lanes(operation: Operation, row: Row) -> Option<bool> {
         u32x16::from_array(b),
         u32x16::splat(p),
     );
-    let lanes = match operation {
-        Operation::Sum => mm512_mod_add(x, y, orders),
-        Operation::Difference => mm512_mod_sub(x, y, orders),
+    let lanes = match row.call {
+        "mm512_mod_add" => mm512_mod_add(x, y, orders),
+        "mm512_mod_sub" => mm512_mod_sub(x, y, orders),
+        _ => return None,
     };
     Some(lanes.to_array() == wanted)
 }
 
-/// Whether the call on vectors answers what the row says; none where no call has its width.
-fn on_vectors(operation: Operation, row: Row) -> Option<bool> {
-    match row.0 {
-        4 => on_four_lanes(operation, row),
-        8 => on_eight_lanes(operation, row),
-        16 => on_sixteen_lanes(operation, row),
+/// Whether the call on arrays of so many entries answers what the row says; none above width 17.
+fn on_width(width: usize, row: Row<'_>) -> Option<bool> {
+    match width {
+        0 => on_arrays::<0>(row),
+        1 => on_arrays::<1>(row),
+        2 => on_arrays::<2>(row),
+        3 => on_arrays::<3>(row),
+        4 => on_arrays::<4>(row),
+        5 => on_arrays::<5>(row),
+        6 => on_arrays::<6>(row),
+        7 => on_arrays::<7>(row),
+        8 => on_arrays::<8>(row),
+        9 => on_arrays::<9>(row),
+        10 => on_arrays::<10>(row),
+        11 => on_arrays::<11>(row),
+        12 => on_arrays::<12>(row),
+        13 => on_arrays::<13>(row),
+        14 => on_arrays::<14>(row),
+        15 => on_arrays::<15>(row),
+        16 => on_arrays::<16>(row),
+        17 => on_arrays::<17>(row),
         _ => None,
     }
 }
 
-/// Whether the call on arrays answers what the row says; none above width 17.
-fn on_width(operation: Operation, row: Row) -> Option<bool> {
-    match row.0 {
-        0 => on_arrays::<0>(operation, row),
-        1 => on_arrays::<1>(operation, row),
-        2 => on_arrays::<2>(operation, row),
-        3 => on_arrays::<3>(operation, row),
-        4 => on_arrays::<4>(operation, row),
-        5 => on_arrays::<5>(operation, row),
-        6 => on_arrays::<6>(operation, row),
-        7 => on_arrays::<7>(operation, row),
-        8 => on_arrays::<8>(operation, row),
-        9 => on_arrays::<9>(operation, row),
-        10 => on_arrays::<10>(operation, row),
-        11 => on_arrays::<11>(operation, row),
-        12 => on_arrays::<12>(operation, row),
-        13 => on_arrays::<13>(operation, row),
-        14 => on_arrays::<14>(operation, row),
-        15 => on_arrays::<15>(operation, row),
-        16 => on_arrays::<16>(operation, row),
-        17 => on_arrays::<17>(operation, row),
-        _ => None,
+/// Whether the call on arrays answers what the row says at its width, or at every width up to 17.
+fn on_widths(row: Row<'_>) -> Option<bool> {
+    if row.lanes != "every" {
+        return on_width(row.lanes.parse::<usize>().ok()?, row);
+    }
+    for width in 0..18usize {
+        if !on_width(width, row)? {
+            return Some(false);
+        }
+    }
+    Some(true)
+}
+
+/// Whether the call of a line answers what the line says; none where the line can't be read or names no
+/// call.
+fn agrees(line: &str) -> Option<bool> {
+    let row = Row::read(line)?;
+    match row.call {
+        "packed_mod_add" | "packed_mod_sub" => on_widths(row),
+        "uint32x4_mod_add" | "uint32x4_mod_sub" => on_four_lanes(row),
+        "mm256_mod_add" | "mm256_mod_sub" => on_eight_lanes(row),
+        "mm512_mod_add" | "mm512_mod_sub" => on_sixteen_lanes(row),
+        _ => blocks_agree(row),
+    }
+}
+
+/// Asserts that the call of each line answers what the line says.
+fn assert_table(rt: &impl Abort, table: &str) {
+    for line in table.lines() {
+        if !line.is_empty() {
+            assert_eq!(rt; agrees(line), Some(true), "{line}");
+        }
     }
 }
 
 #[test]
 fn sums_of_arrays(rt: HostRuntime) {
-    for row in WORKED_SUMS {
-        assert_eq!(rt; on_width(Operation::Sum, row), Some(true));
-    }
-    for row in PACKED_SUMS {
-        assert_eq!(rt; on_width(Operation::Sum, row), Some(true));
-    }
-    for (p, left, right, answer) in EQUAL_SUMS {
-        for width in 0..18usize {
-            let row = (width, p, left, right, answer);
-            assert_eq!(rt; on_width(Operation::Sum, row), Some(true));
-        }
-    }
-}
-
-#[test]
-fn differences_of_arrays(rt: HostRuntime) {
-    for row in WORKED_DIFFERENCES {
-        assert_eq!(rt; on_width(Operation::Difference, row), Some(true));
-    }
-    for row in PACKED_DIFFERENCES {
-        assert_eq!(rt; on_width(Operation::Difference, row), Some(true));
-    }
-    for (p, left, right, answer) in EQUAL_DIFFERENCES {
-        for width in 0..18usize {
-            let row = (width, p, left, right, answer);
-            assert_eq!(rt; on_width(Operation::Difference, row), Some(true));
-        }
-    }
+    assert_table(&rt, WORKED_SUMS);
+    assert_table(&rt, SUMS);
 }
 
 #[test]
 fn sums_of_vectors(rt: HostRuntime) {
-    for row in VECTOR_SUMS {
-        assert_eq!(rt; on_vectors(Operation::Sum, row), Some(true));
-    }
+    assert_table(&rt, VECTOR_SUMS);
 }
 
 #[test]
-fn differences_of_vectors(rt: HostRuntime) {
-    for row in VECTOR_DIFFERENCES {
-        assert_eq!(rt; on_vectors(Operation::Difference, row), Some(true));
-    }
+fn vectors_by_blocks(rt: HostRuntime) {
+    assert_table(&rt, WORKED_BLOCKS);
+    assert_table(&rt, BLOCKS);
 }

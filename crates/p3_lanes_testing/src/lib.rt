@@ -3,9 +3,13 @@
 #![tactic(auto)]
 
 #[cfg(test)]
+mod kernel_tables;
+#[cfg(test)]
 mod kernels;
 #[cfg(test)]
 mod numbers;
+#[cfg(test)]
+mod operations;
 #[cfg(test)]
 mod packing_blocks;
 #[cfg(test)]
@@ -17,6 +21,8 @@ mod packing_list_calls;
 #[cfg(test)]
 mod packing_list_tables;
 #[cfg(test)]
+mod packing_quotients;
+#[cfg(test)]
 mod packing_slices;
 #[cfg(test)]
 mod packing_sum_tables;
@@ -25,6 +31,14 @@ mod packing_sums;
 #[cfg(test)]
 mod packing_tables;
 #[cfg(test)]
-mod tables;
+mod packing_types;
+#[cfg(test)]
+mod power_lists;
+#[cfg(test)]
+mod rows;
 #[cfg(test)]
 mod vector_blocks;
+#[cfg(test)]
+mod vector_calls;
+#[cfg(test)]
+mod vector_tables;

@@ -1,34 +1,30 @@
-//! Columns of rows as packings, and back. Told by texts as in `packing_calls`.
+//! Columns of rows as packings, and back, told by the rows of tables.
 ghost use Rattle.std.specs.Prelude.{◌≡◌, length};
 
-use crate::packing_blocks::{holds, packing, value_at};
+use crate::rows::{Row, holds, packing, value_at, word};
 use p3_base::field::Field;
 use p3_base::packed_traits::{PackedField, PackedValue};
 use p3_columns::columns::{pack_columns, pack_columns_fn, unpack_into};
+use p3_columns::unpacked_rows::{UnpackedRows, unpack_iter};
 use p3_ring::ring::PrimeCharacteristicRing;
 use std::alloc::{AllocError, Global};
 
-/// The word at an index of a text.
-fn word(text: &str, index: usize) -> &str {
-    text.split_ascii_whitespace().nth(index).unwrap_or("")
-}
-
-/// The row of N values of a text, zero past its end.
-fn row<F: Field, const N: usize>(text: &str) -> [F; N] {
+/// The N values of a text, zero past its end.
+fn array<F: Field, const N: usize>(text: &str) -> [F; N] {
     std::array::from_fn(|c: usize| -> F { value_at::<F>(text, c).unwrap_or(F::zero()) })
 }
 
-/// The rows of N values of a text.
-fn rows<F: Field, const N: usize>(
+/// The arrays of N values of a text.
+fn arrays<F: Field, const N: usize>(
     alloc: Global,
-    _row: &[[F; N]],
+    _array: &[[F; N]],
     text: &str,
 ) -> Result<Vec<[F; N]>, AllocError> {
-    let mut rows = Vec::new(alloc);
+    let mut arrays = Vec::new(alloc);
     for word in text.split_ascii_whitespace() {
-        rows.push(row::<F, N>(word))?;
+        arrays.push(array::<F, N>(word))?;
     }
-    Ok(rows)
+    Ok(arrays)
 }
 
 /// The packings of a text.
@@ -49,39 +45,39 @@ fn all_hold<F: Field, P: PackedField<F>, const N: usize>(packings: [P; N], text:
 
 /// The packings of the columns of what a closure answers, the rows of a text.
 fn called_columns<F: Field, P: PackedField<F>, const N: usize>(
-    _row: &[[F; N]],
+    _array: &[[F; N]],
     text: &str,
 ) -> [P; N] {
-    pack_columns_fn::<P, [F; N], _, N>(|l: usize| -> [F; N] { row::<F, N>(word(text, l)) })
+    pack_columns_fn::<P, [F; N], _, N>(|l: usize| -> [F; N] { array::<F, N>(word(text, l)) })
 }
 
 /// Whether the columns of rows are the packings of a text, by both calls. Signatures name the arrays, of
 /// which it is known then that they have room.
 fn packed_agree<F: Field, P: PackedField<F>, const N: usize>(
     alloc: Global,
-    row: &[[F; N]],
+    array: &[[F; N]],
     _column: &[[P; N]],
-    text: &str,
-    answer: &str,
+    row: Row<'_>,
 ) -> Result<Option<bool>, AllocError> {
-    let rows = rows::<F, N>(alloc, row, text)?;
+    let rows = arrays::<F, N>(alloc, array, row.arguments)?;
     if rows.len() != P::WIDTH {
         return Ok(None);
     }
     let packed: [P; N] = pack_columns::<P, N>(&rows);
-    let called: [P; N] = called_columns::<F, P, N>(row, text);
-    Ok(Some(all_hold::<F, P, N>(packed, answer) && all_hold::<F, P, N>(called, answer)))
+    let called: [P; N] = called_columns::<F, P, N>(array, row.arguments);
+    Ok(Some(all_hold::<F, P, N>(packed, row.answer) && all_hold::<F, P, N>(called, row.answer)))
 }
 
-/// Whether the rows of packings are those of a text.
+/// Whether the rows of packings are those of a text, written to a slice and one after the other.
 fn unpacked_agree<F: Field, P: PackedField<F>, const N: usize>(
     alloc: Global,
-    row: &[[F; N]],
+    array: &[[F; N]],
+    _rows: &[UnpackedRows<P, N>],
     packed: [P; N],
     answer: &str,
 ) -> Result<Option<bool>, AllocError> {
-    let mut unpacked = rows::<F, N>(alloc, row, answer)?;
-    let expected = rows::<F, N>(alloc, row, answer)?;
+    let mut unpacked = arrays::<F, N>(alloc, array, answer)?;
+    let expected = arrays::<F, N>(alloc, array, answer)?;
     if unpacked.len() != P::WIDTH {
         return Ok(None);
     }
@@ -89,21 +85,28 @@ fn unpacked_agree<F: Field, P: PackedField<F>, const N: usize>(
         unpacked[l] = std::array::from_fn(|c: usize| -> F { F::from_usize(c) });
     }
     unpack_into::<P, N>(&packed, &mut unpacked);
-    Ok(Some(unpacked.as_slice() == expected.as_slice()))
+    let rows = unpack_iter::<P, N>(packed);
+    let mut read: Vec<[F; N]> = Vec::new(alloc);
+    for row in rows {
+        read.push(row)?;
+    }
+    Ok(Some(unpacked.as_slice() == expected.as_slice() && read.as_slice() == expected.as_slice()))
 }
 
 /// Whether packing columns, or unpacking them, gives the packings or rows of a text.
-pub(crate) fn columns_agree<F: Field, P: PackedField<F>, const N: usize>(
+fn columns_agree<F: Field, P: PackedField<F>, const N: usize>(
     alloc: Global,
-    row: &[[F; N]],
+    array: &[[F; N]],
     column: &[[P; N]],
-    call: &str,
-    text: &str,
-    answer: &str,
+    rows: &[UnpackedRows<P, N>],
+    row: Row<'_>,
 ) -> Result<Option<bool>, AllocError> {
-    match call {
-        "pack_columns" => packed_agree::<F, P, N>(alloc, row, column, text, answer),
-        "unpack_into" => unpacked_agree::<F, P, N>(alloc, row, columns::<F, P, N>(text), answer),
+    match word(row.call, 0) {
+        "pack_columns" => packed_agree::<F, P, N>(alloc, array, column, row),
+        "unpack_into" => {
+            let packed = columns::<F, P, N>(row.arguments);
+            unpacked_agree::<F, P, N>(alloc, array, rows, packed, row.answer)
+        }
         _ => Ok(None),
     }
 }
@@ -111,18 +114,19 @@ pub(crate) fn columns_agree<F: Field, P: PackedField<F>, const N: usize>(
 /// `columns_agree` at the number of columns, the call's second word.
 pub(crate) fn counted_columns_agree<F: Field, P: PackedField<F>>(
     alloc: Global,
-    _rows: &[[F; 8]],
+    _arrays: &[[F; 8]],
     _columns: &[[P; 8]],
-    call: &str,
-    text: &str,
-    answer: &str,
+    one: &[UnpackedRows<P, 1>],
+    two: &[UnpackedRows<P, 2>],
+    three: &[UnpackedRows<P, 3>],
+    five: &[UnpackedRows<P, 5>],
+    row: Row<'_>,
 ) -> Result<Option<bool>, AllocError> {
-    let name = word(call, 0);
-    match word(call, 1) {
-        "1" => columns_agree::<F, P, 1>(alloc, &[], &[], name, text, answer),
-        "2" => columns_agree::<F, P, 2>(alloc, &[], &[], name, text, answer),
-        "3" => columns_agree::<F, P, 3>(alloc, &[], &[], name, text, answer),
-        "5" => columns_agree::<F, P, 5>(alloc, &[], &[], name, text, answer),
+    match word(row.call, 1) {
+        "1" => columns_agree::<F, P, 1>(alloc, &[], &[], one, row),
+        "2" => columns_agree::<F, P, 2>(alloc, &[], &[], two, row),
+        "3" => columns_agree::<F, P, 3>(alloc, &[], &[], three, row),
+        "5" => columns_agree::<F, P, 5>(alloc, &[], &[], five, row),
         _ => Ok(None),
     }
 }

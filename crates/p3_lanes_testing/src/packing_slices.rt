@@ -1,12 +1,11 @@
 //! Slices of every length from 0 to 17 that are scaled, added and written by packings, against plain loops.
 ghost use Rattle.std.specs.Prelude.{◌≤◌, ◌+◌, ◌*◌, IfSome};
 
-use crate::packing_blocks::value_at;
-use crate::packing_list_calls::entries;
+use crate::rows::{Row, packing, value_at, values};
 use p3_base::field::Field;
 use p3_base::packed_traits::{PackedField, PackedValue};
 use p3_ring::ring::PrimeCharacteristicRing;
-use p3_tools::helpers::{add_scaled_slice_in_place, scale_slice_in_place_single_core};
+use p3_tools::helpers::{add_scaled_slice_in_place, add_slices, scale_slice_in_place_single_core};
 use std::alloc::{AllocError, Global};
 
 /// So many values, the multiples of a number.
@@ -43,24 +42,24 @@ fn sums_of_length<F: Field, P: PackedField<F>>(
     let mut scaled: Vec<F> = multiples(alloc, length, 11)?;
     let mut added: Vec<F> = multiples(alloc, length, 5)?;
     let mut sums: Vec<F> = multiples(alloc, length, 5)?;
+    let mut packed_sums: Vec<F> = multiples(alloc, length, 5)?;
     scale_slice_in_place_single_core::<F, P>(&mut scaled, s);
-    if added.len() != right.len() || sums.len() != right.len() {
+    if added.len() != right.len() || sums.len() != right.len() || packed_sums.len() != right.len() {
         return Ok(false);
     }
     add_scaled_slice_in_place::<F, P>(&mut added, &right, s);
     F::add_slices(&mut sums, &right);
+    add_slices::<F, P>(&mut packed_sums, &right);
     Ok(
         are_sums(&scaled, &zeros, &right, s)
             && are_sums(&added, &left, &right, s)
-            && are_sums(&sums, &left, &right, F::one()),
+            && are_sums(&sums, &left, &right, F::one())
+            && packed_sums.as_slice() == sums.as_slice(),
     )
 }
 
 /// The number of a group that lies whole in so many values.
-pub(crate) fn group_within<F: Field, P: PackedField<F>>(
-    length: usize,
-    group: usize,
-) -> Option<usize>
+fn group_within<F: Field, P: PackedField<F>>(length: usize, group: usize) -> Option<usize>
     ensures { IfSome result (λ i. i * P.WIDTH + P.WIDTH ≤ length) }
 {
     let start = group.checked_mul(P::WIDTH)?;
@@ -113,9 +112,9 @@ fn blocks_of_length<F: Field, P: PackedField<F>>(
 /// Whether slices of all lengths up to 17 are scaled, added and written as by plain loops.
 pub(crate) fn lengths_agree<F: Field, P: PackedField<F>>(
     alloc: Global,
-    factor: &str,
+    row: Row<'_>,
 ) -> Result<Option<bool>, AllocError> {
-    let Some(s) = value_at::<F>(factor, 0) else {
+    let Some(s) = value_at::<F>(row.arguments, 0) else {
         return Ok(None);
     };
     for length in 0..18usize {
@@ -126,19 +125,47 @@ pub(crate) fn lengths_agree<F: Field, P: PackedField<F>>(
     Ok(Some(true))
 }
 
-/// Whether a slice is what a text says once another one is added to it.
-pub(crate) fn slices_agree<F: Field>(
+/// Whether a slice is what the row says once another one is added to it, entry by entry and by packings.
+pub(crate) fn slices_agree<F: Field, P: PackedField<F>>(
     alloc: Global,
-    slices: &str,
-    text: &str,
+    row: Row<'_>,
 ) -> Result<Option<bool>, AllocError> {
-    let mut sides = slices.split('|');
-    let mut sums: Vec<F> = entries(alloc, sides.next().unwrap_or(""))?;
-    let other: Vec<F> = entries(alloc, sides.next().unwrap_or(""))?;
-    let expected: Vec<F> = entries(alloc, text)?;
-    if sums.len() != other.len() {
+    let mut first: Vec<F> = values(alloc, row.argument(0))?;
+    let mut second: Vec<F> = values(alloc, row.argument(0))?;
+    let other: Vec<F> = values(alloc, row.argument(1))?;
+    let expected: Vec<F> = values(alloc, row.answer)?;
+    if first.len() != other.len() || second.len() != other.len() {
         return Ok(None);
     }
-    F::add_slices(&mut sums, &other);
-    Ok(Some(sums.as_slice() == expected.as_slice()))
+    F::add_slices(&mut first, &other);
+    add_slices::<F, P>(&mut second, &other);
+    Ok(Some(first.as_slice() == expected.as_slice() && second.as_slice() == expected.as_slice()))
+}
+
+/// The group of a slice at an index; `Ok(None)` where the slice has none.
+pub(crate) fn loaded<F: Field, P: PackedField<F>>(
+    alloc: Global,
+    slice: &str,
+    index: &str,
+) -> Result<Option<P>, AllocError> {
+    let slice: Vec<F> = values(alloc, slice)?;
+    match group_within::<F, P>(slice.len(), index.parse::<usize>().unwrap_or(usize::MAX)) {
+        Some(i) => Ok(Some(P::load_block(&slice, i))),
+        None => Ok(None),
+    }
+}
+
+/// Whether the slice is what the row says once the packing is written to the group at an index.
+pub(crate) fn stored<F: Field, P: PackedField<F>>(
+    alloc: Global,
+    row: Row<'_>,
+) -> Result<Option<bool>, AllocError> {
+    let mut slice: Vec<F> = values(alloc, row.argument(1))?;
+    let index = row.argument(2).parse::<usize>().unwrap_or(usize::MAX);
+    match group_within::<F, P>(slice.len(), index) {
+        Some(i) => packing::<F, P>(row.argument(0)).store_block(&mut slice, i),
+        None => return Ok(None),
+    }
+    let expected: Vec<F> = values(alloc, row.answer)?;
+    Ok(Some(slice.as_slice() == expected.as_slice()))
 }

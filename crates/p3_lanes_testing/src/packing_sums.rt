@@ -1,27 +1,12 @@
-//! Sums of products of lists of packings. Told by texts as in `packing_calls`.
-ghost use Rattle.std.specs.Prelude.{◌≡◌, ◌<◌, length, IsTrue};
-ghost use Rattle.p3_theory.specs.Rings.Ring.{Invertible};
+//! Sums of products of lists of packings, told by the rows of tables.
+ghost use Rattle.std.specs.Prelude.{◌≡◌, ◌<◌, length};
 
-use crate::packing_blocks::{holds, packing, value_at};
+use crate::rows::{Row, holds, packing, packings, value_at, word};
 use p3_base::field::Field;
 use p3_base::packed_traits::{PackedField, PackedValue};
 use p3_ring::ring::{Algebra, PrimeCharacteristicRing};
 use p3_spaces::columnwise::{AsRow, coeffwise_dot_product, generic_batched_columnwise_dot_product};
 use std::alloc::{AllocError, Global};
-
-/// The word at an index of a text.
-fn word(text: &str, index: usize) -> &str {
-    text.split_ascii_whitespace().nth(index).unwrap_or("")
-}
-
-/// The packings of a text.
-fn packings<F: Field, P: PackedField<F>>(alloc: Global, text: &str) -> Result<Vec<P>, AllocError> {
-    let mut packings = Vec::new(alloc);
-    for word in text.split_ascii_whitespace() {
-        packings.push(packing::<F, P>(word))?;
-    }
-    Ok(packings)
-}
 
 /// Whether eight packings hold the values of a text, word by word.
 fn all_hold<F: Field, P: PackedField<F>>(packings: [P; 8], text: &str) -> bool {
@@ -59,23 +44,17 @@ fn sums<F: Field, P: PackedField<F>>(degree: usize, pairs: Vec<(Vec<P>, P)>) -> 
     Some(coeffwise_dot_product::<F, P, Vec<P>, _>(degree, pairs.into_iter()))
 }
 
-/// Whether the sums of products coefficient by coefficient are those of a text. The arguments are the
-/// degree, and then by turns the coefficients and the packing that they go with. The empty slice names
-/// the array of the sums, of which it is known then that it has room.
+/// Whether the sums of products coefficient by coefficient are the row's. The arguments are the degree,
+/// and then by turns the coefficients and the packing that they go with. The empty slice names the array
+/// of the sums, of which it is known then that it has room.
 pub(crate) fn sums_agree<F: Field, P: PackedField<F>>(
     alloc: Global,
     _room: &[[P; 8]],
-    arguments: &str,
-    text: &str,
+    row: Row<'_>,
 ) -> Result<Option<bool>, AllocError> {
-    let degree = arguments
-        .split('|')
-        .next()
-        .unwrap_or("")
-        .parse::<usize>()
-        .unwrap_or(9);
-    match sums::<F, P>(degree, pairs::<F, P>(alloc, arguments)?) {
-        Some(sums) => Ok(Some(all_hold::<F, P>(sums, text))),
+    let degree = row.argument(0).parse::<usize>().unwrap_or(9);
+    match sums::<F, P>(degree, pairs::<F, P>(alloc, row.arguments)?) {
+        Some(sums) => Ok(Some(all_hold::<F, P>(sums, row.answer))),
         None => Ok(None),
     }
 }
@@ -158,19 +137,17 @@ fn same<F: Field, P: PackedField<F>>(left: &[P], right: &[P]) -> bool {
     true
 }
 
-/// Whether the accumulators are what a text says once the products are added. The arguments are the
-/// accumulators, and then by turns a row and its N scales.
-pub(crate) fn columnwise_agree<F: Field, P: PackedField<F>, const N: usize>(
+/// Whether the accumulators are what the row says once the products are added. The arguments are the
+/// accumulators, and then by turns a row of packings and its N scales.
+fn columnwise_agree<F: Field, P: PackedField<F>, const N: usize>(
     alloc: Global,
-    arguments: &str,
-    text: &str,
+    row: Row<'_>,
 ) -> Result<Option<bool>, AllocError>
     requires { 0 < N }
 {
-    let start = arguments.split('|').next().unwrap_or("");
-    let mut accumulators: Vec<P> = listed::<F, P>(alloc, start)?;
-    let wanted: Vec<P> = listed::<F, P>(alloc, text)?;
-    let Some(items) = items::<F, P, N>(alloc, arguments)? else {
+    let mut accumulators: Vec<P> = listed::<F, P>(alloc, row.argument(0))?;
+    let wanted: Vec<P> = listed::<F, P>(alloc, row.answer)?;
+    let Some(items) = items::<F, P, N>(alloc, row.arguments)? else {
         return Ok(None);
     };
     generic_batched_columnwise_dot_product::<P, P, Vec<P>, Scales<P, N>, _, N>(
@@ -183,34 +160,12 @@ pub(crate) fn columnwise_agree<F: Field, P: PackedField<F>, const N: usize>(
 /// `columnwise_agree` at the number of scales, the call's second word.
 pub(crate) fn counted_columnwise_agree<F: Field, P: PackedField<F>>(
     alloc: Global,
-    call: &str,
-    arguments: &str,
-    text: &str,
+    row: Row<'_>,
 ) -> Result<Option<bool>, AllocError> {
-    match word(call, 1) {
-        "2" => columnwise_agree::<F, P, 2>(alloc, arguments, text),
-        "3" => columnwise_agree::<F, P, 3>(alloc, arguments, text),
-        "4" => columnwise_agree::<F, P, 4>(alloc, arguments, text),
+    match word(row.call, 1) {
+        "2" => columnwise_agree::<F, P, 2>(alloc, row),
+        "3" => columnwise_agree::<F, P, 3>(alloc, row),
+        "4" => columnwise_agree::<F, P, 4>(alloc, row),
         _ => Ok(None),
     }
-}
-
-/// Whether a value has an inverse.
-fn has_inverse<F: Field>(value: F) -> bool
-    ensures { IsTrue result → Invertible F.ops value }
-{
-    match value.try_inverse() {
-        Some(_) => true,
-        None => false,
-    }
-}
-
-/// Whether the half of a packing is what a text says; none where two has no inverse.
-pub(crate) fn is_half<F: Field, P: PackedField<F>>(value: &str, text: &str) -> Option<bool> {
-    let two = F::two();
-    if !has_inverse(two) {
-        return None;
-    }
-    let half = packing::<F, P>(value).halve();
-    Some(holds::<F, P>(&half, text))
 }

@@ -1,0 +1,102 @@
+//! Lists of powers of a prime field's values and of extension values, told by the rows of tables.
+use crate::rows::Row;
+use p3_base::field::Field;
+use p3_bench_prime::binomial_constants::BinomialConstants;
+use p3_bench_prime::form::Form;
+use p3_bench_prime::fp::Fp;
+use p3_ext::extension::{Binomial, ExtField};
+use p3_ring::powers::BoundedPowers;
+use p3_ring::ring::PrimeCharacteristicRing;
+use std::alloc::{AllocError, Global};
+
+/// The value whose coefficients a word has, at this generator.
+fn value_of<F: Field>(word: &str, generator: F) -> Option<F> {
+    let mut value = F::zero();
+    let mut power = F::one();
+    for part in word.split(',') {
+        value += F::from_u64(part.parse::<u64>().ok()?) * power;
+        power *= generator;
+    }
+    Some(value)
+}
+
+/// The powers of a row: the base, the start and the length.
+fn powers_of<F: Field>(row: Row<'_>, generator: F) -> Option<BoundedPowers<F>> {
+    let base = value_of(row.argument(0), generator)?;
+    let start = value_of(row.argument(1), generator)?;
+    let length = row.argument(2).parse::<usize>().ok()?;
+    let powers = base.shifted_powers(start);
+    Some(powers.take(length))
+}
+
+/// Whether a list has the values of a text at the indices of another one.
+fn hold_at<F: Field>(terms: &[F], indices: &str, values: &str, generator: F) -> bool {
+    let mut expected = values.split_ascii_whitespace();
+    for index in indices.split_terminator(',') {
+        let i = index.parse::<usize>().unwrap_or(usize::MAX);
+        let value = value_of(expected.next().unwrap_or(""), generator);
+        if i >= terms.len() || value != Some(terms[i]) {
+            return false;
+        }
+    }
+    expected.next().is_none()
+}
+
+/// Whether a list of powers has the row's length, and at the row's indices the row's values. Coefficients
+/// are those of the powers of a generator.
+pub(crate) fn are_taken<F: Field>(
+    alloc: Global,
+    generator: F,
+    row: Row<'_>,
+) -> Result<Option<bool>, AllocError> {
+    let Some(powers) = powers_of(row, generator) else {
+        return Ok(None);
+    };
+    let Some((length, values)) = row.answer.split_once('|') else {
+        return Ok(None);
+    };
+    let taken = powers.collect(alloc)?;
+    Ok(Some(
+        length.parse::<usize>() == Ok(taken.len())
+            && hold_at(&taken, row.argument(3), values, generator),
+    ))
+}
+
+/// Lists of powers over the extension of degree D by a binomial, implemented once for all fields: a call
+/// at a marker's own name passes the field's constants alone.
+pub(crate) trait ExtensionPowers<const D: usize>: Form<u32> {
+    /// What stands in a list. Of an associated type it is known that its values have room.
+    type Value: Copy;
+
+    /// The value X.
+    fn generator() -> Self::Value;
+
+    /// `are_taken` at this generator.
+    fn extension_powers_agree(
+        alloc: Global,
+        generator: Self::Value,
+        row: Row<'_>,
+    ) -> Result<Option<bool>, AllocError>;
+}
+
+impl<W: BinomialConstants<D>, const D: usize> ExtensionPowers<D> for W {
+    type Value = ExtField<Fp<W>, D, Binomial<Fp<W>>, Fp<W>>;
+
+    fn generator() -> ExtField<Fp<W>, D, Binomial<Fp<W>>, Fp<W>> {
+        ExtField::new(std::array::from_fn(|i: usize| -> Fp<W> {
+            if i == 1 {
+                Fp::<W>::one()
+            } else {
+                Fp::<W>::zero()
+            }
+        }))
+    }
+
+    fn extension_powers_agree(
+        alloc: Global,
+        generator: ExtField<Fp<W>, D, Binomial<Fp<W>>, Fp<W>>,
+        row: Row<'_>,
+    ) -> Result<Option<bool>, AllocError> {
+        are_taken(alloc, generator, row)
+    }
+}

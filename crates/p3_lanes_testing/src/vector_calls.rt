@@ -1,0 +1,117 @@
+//! Calls on vectors of packings, told by the rows of tables.
+use crate::operations::{mixed_product, operation, product};
+use crate::rows::{Row, value_at, values};
+use p3_base::field::Field;
+use p3_base::packed_traits::{PackedField, PackedValue};
+use p3_ring::ring::PrimeCharacteristicRing;
+use p3_vectorized::vectorized::Vectorized;
+use std::alloc::{AllocError, Global};
+
+/// The packing whose lanes stand in a text behind those of `index` packings, zero past its end.
+fn part<F: Field, P: PackedField<F>>(text: &str, index: usize) -> P {
+    let start = index.saturating_mul(P::WIDTH);
+    P::from_fn(|lane: usize| -> F {
+        value_at::<F>(text, start.saturating_add(lane)).unwrap_or(F::zero())
+    })
+}
+
+/// The vector with the values of a text, zero past its end.
+fn vector<F: Field, P: PackedField<F>, const N: usize>(text: &str) -> Vectorized<F, P, N> {
+    Vectorized::new(std::array::from_fn(|i: usize| -> P { part::<F, P>(text, i) }))
+}
+
+/// The vectors of a text.
+fn vectors<F: Field, P: PackedField<F>, const N: usize>(
+    alloc: Global,
+    _vector: &[Vectorized<F, P, N>],
+    text: &str,
+) -> Result<Vec<Vectorized<F, P, N>>, AllocError> {
+    let mut vectors = Vec::new(alloc);
+    for word in text.split_ascii_whitespace() {
+        vectors.push(vector::<F, P, N>(word))?;
+    }
+    Ok(vectors)
+}
+
+/// Whether the lanes of a vector are the values of a text.
+fn vector_holds<F: Field, P: PackedField<F>, const N: usize>(
+    vector: Vectorized<F, P, N>,
+    text: &str,
+) -> bool {
+    let packings = vector.0;
+    let mut lanes = text.split_terminator(',');
+    for i in 0..N {
+        let packing = packings[i];
+        for lane in 0..P::WIDTH {
+            let word = lanes.next().unwrap_or("");
+            if value_at::<F>(word, 0) != Some(packing.extract(lane)) {
+                return false;
+            }
+        }
+    }
+    lanes.next().is_none()
+}
+
+/// What the row's call answers; `Ok(None)` where the row names no call.
+fn answered<F: Field, P: PackedField<F>, const N: usize>(
+    alloc: Global,
+    vector_room: &[Vectorized<F, P, N>],
+    call: &str,
+    row: Row<'_>,
+) -> Result<Option<Vectorized<F, P, N>>, AllocError> {
+    let (first, second) = (row.argument(0), row.argument(1));
+    match call {
+        "dot_product" => {
+            let xs = vectors::<F, P, N>(alloc, vector_room, first)?;
+            let ys = vectors::<F, P, N>(alloc, vector_room, second)?;
+            Ok(Some(product(&xs, &ys)))
+        }
+        "mixed_dot_product" => {
+            let xs = vectors::<F, P, N>(alloc, vector_room, first)?;
+            let scalars: Vec<F> = values(alloc, second)?;
+            Ok(Some(mixed_product(&xs, &scalars)))
+        }
+        _ => Ok(operation::<F, Vectorized<F, P, N>>(
+            call,
+            vector::<F, P, N>(first),
+            vector::<F, P, N>(second),
+            F::zero(),
+            value_at::<F>(second, 0).unwrap_or(F::zero()),
+            second,
+        )),
+    }
+}
+
+/// Whether a call on vectors of N packings has the row's answer.
+fn vectors_agree<F: Field, P: PackedField<F>, const N: usize>(
+    alloc: Global,
+    vector: &[Vectorized<F, P, N>],
+    call: &str,
+    row: Row<'_>,
+) -> Result<Option<bool>, AllocError> {
+    match answered::<F, P, N>(alloc, vector, call, row)? {
+        Some(x) => Ok(Some(vector_holds::<F, P, N>(x, row.answer))),
+        None => Ok(None),
+    }
+}
+
+/// `vectors_agree` at the number of packings, the call's second word. The slices are empty: where a
+/// signature names a type, it is known that its values have room.
+pub(crate) fn counted_vectors_agree<F: Field, P: PackedField<F>>(
+    alloc: Global,
+    one: &[Vectorized<F, P, 1>],
+    three: &[Vectorized<F, P, 3>],
+    four: &[Vectorized<F, P, 4>],
+    row: Row<'_>,
+) -> Result<Option<bool>, AllocError> {
+    if let Some(call) = row.call.strip_prefix("vectorized 1 ") {
+        return vectors_agree::<F, P, 1>(alloc, one, call, row);
+    }
+    if let Some(call) = row.call.strip_prefix("vectorized 3 ") {
+        return vectors_agree::<F, P, 3>(alloc, three, call, row);
+    }
+    if let Some(call) = row.call.strip_prefix("vectorized 4 ") {
+        return vectors_agree::<F, P, 4>(alloc, four, call, row);
+    }
+    Ok(None)
+}
