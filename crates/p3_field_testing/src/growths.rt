@@ -1,213 +1,264 @@
-//! Calls that answer a vector: with ample memory, and with the growth that they ask for refused.
+//! Calls that answer a vector: with ample memory, and with the growths that they ask for refused.
 
+use crate::prime_values::{is_list, values};
 use crate::refusing::Refusing;
 use p3_bench_prime::extensions::F17x2;
 use p3_bench_prime::small::F17;
-use p3_field::extension::HasFrobenius;
-use p3_field::{AlgebraIdentity, BasedVectorSpace, PrimeCharacteristicRing};
-use std::alloc::{AllocError, Allocator};
+use p3_field::extension::{ExtField, ExtensionShape, FrobeniusExtendable, HasFrobenius};
+use p3_field::{
+    AlgebraIdentity, BasedVectorSpace, InMemory, PrimeCharacteristicRing, PrimeField64,
+};
+use std::alloc::{AllocError, Allocator, Global};
+use std::process::Abort;
 use std::test::Fail;
 
 /// The elements three and five, in room that is asked for once.
-fn three_and_five<A: Allocator + Copy>(alloc: A) -> Result<Vec<F17, A>, AllocError> {
-    Vec::from_slice(alloc, &[F17::new(3), F17::new(5)])
+fn three_and_five<F: PrimeField64, A: Allocator + Copy>(alloc: A) -> Result<Vec<F, A>, AllocError> {
+    let mut values = Vec::with_capacity(alloc, 2)?;
+    values.push(F::from_u64(3))?;
+    values.push(F::from_u64(5))?;
+    Ok(values)
 }
 
-/// Asserts that a call which asks for memory once gives the vector, or `Err` where the growth is
-/// refused, and keeps no block.
-macro_rules! assert_growths {
-    ($rt:ident, $heap:ident, $call:expr, $expected:expr, $needed:expr) => {
-        for passing in 0..=$needed {
-            let $heap = Refusing::after($rt.alloc(), passing);
-            match $call {
-                Ok(values) => {
-                    assert_eq!($rt; passing, $needed);
-                    assert_eq!($rt; values.as_slice(), $expected.as_slice());
-                }
-                Err(_) => assert_eq!($rt; $heap.growths(), passing + 1),
-            }
-            assert_eq!($rt; $heap.blocks(), 0);
+/// The powers or zeros that a call makes, so many of them.
+fn items_made<F: PrimeField64 + InMemory, A: Allocator + Copy>(
+    alloc: A,
+    call: &str,
+    count: usize,
+) -> Result<Vec<F, A>, AllocError> {
+    let three = F::from_u64(3);
+    match call {
+        "zero_vec" => F::zero_vec_in(alloc, count),
+        "collect_n" => three.powers().collect_n_in(alloc, count),
+        "take" => three.powers().take(count).collect_in(alloc),
+        "shifted collect_n" => three.shifted_powers(F::two()).collect_n_in(alloc, count),
+        "shifted take" => three.shifted_powers(F::two()).take(count).collect_in(alloc),
+        _ => Err(AllocError),
+    }
+}
+
+/// Zeros or three and five.
+fn given<F: PrimeField64, A: Allocator + Copy>(
+    alloc: A,
+    call: &str,
+    count: usize,
+) -> Result<Vec<F, A>, AllocError> {
+    match call {
+        "flattened zeros" | "reconstituted zeros" => F::zero_vec_in(alloc, count),
+        _ => three_and_five(alloc),
+    }
+}
+
+/// The values of the base as an algebra over itself that have these coefficients.
+fn reconstituted<F: PrimeField64 + InMemory, A: Allocator + Copy>(
+    alloc: A,
+    coefficients: Vec<F, A>,
+) -> Result<Vec<F, A>, AllocError> {
+    let dimension = <F as BasedVectorSpace<F>>::DIMENSION;
+    if coefficients.len().checked_rem(dimension) != Some(0) {
+        return Err(AllocError);
+    }
+    <F as BasedVectorSpace<F>>::reconstitute_from_base_in(alloc, coefficients)
+}
+
+/// The vector that a call makes, of so many items where the call takes their number. Coefficients, and
+/// values of coefficients, ask for one growth more, that of the list that is handed over.
+fn made<F: PrimeField64 + InMemory, A: Allocator + Copy>(
+    alloc: A,
+    call: &str,
+    count: usize,
+) -> Result<Vec<F, A>, AllocError> {
+    match call {
+        "flattened zeros" | "flattened" => {
+            let values = given(alloc, call, count)?;
+            <F as BasedVectorSpace<F>>::flatten_to_base_in(alloc, values)
         }
+        "reconstituted zeros" | "reconstituted" => {
+            let coefficients = given(alloc, call, count)?;
+            reconstituted(alloc, coefficients)
+        }
+        _ => items_made(alloc, call, count),
+    }
+}
+
+/// Whether there are so many values, and those of a text where one is told.
+fn are_items<F: PrimeField64>(values: &[F], count: usize, items: Option<&str>) -> bool {
+    match items {
+        Some(text) => values.len() == count && is_list(text, values),
+        None => values.len() == count,
+    }
+}
+
+/// Whether a call gives its items where as many growths pass as it needs, or is refused at the first growth
+/// that doesn't pass, and keeps no block.
+fn grows<F: PrimeField64 + InMemory>(
+    alloc: Global,
+    passing: u64,
+    call: &str,
+    count: usize,
+    items: Option<&str>,
+    needed: u64,
+) -> bool {
+    let heap = Refusing::after(alloc, passing);
+    let is_right = match made::<F, &Refusing<Global>>(&heap, call, count) {
+        Ok(values) => passing == needed && are_items(&values, count, items),
+        Err(_) => passing < needed && heap.growths() == passing + 1,
     };
+    is_right && heap.blocks() == 0
+}
+
+/// Asserts that a call gives so many items, and those of a text where one is told, where so many growths
+/// pass, and no fewer, and that it keeps no block.
+fn assert_growths<F: PrimeField64 + InMemory>(
+    rt: &(impl Abort + AllocGlobal),
+    call: &str,
+    count: usize,
+    items: Option<&str>,
+    needed: u64,
+) {
+    for passing in 0..=needed {
+        assert!(rt;
+            grows::<F>(rt.alloc(), passing, call, count, items, needed),
+            "{call}"
+        );
+    }
 }
 
 /// The lengths at which growths are counted.
 const LENGTHS: [usize; 6] = [0, 1, 2, 9, 100, 1000];
 
-/// Asserts that a call whose answer has so many items gives them where so many growths pass, and no
-/// fewer, and keeps no block.
-macro_rules! assert_growths_of_length {
-    ($rt:ident, $heap:ident, $call:expr, $length:expr, $needed:expr) => {
-        for passing in 0..=$needed {
-            let $heap = Refusing::after($rt.alloc(), passing);
-            match $call {
-                Ok(values) => {
-                    assert_eq!($rt; passing, $needed);
-                    assert_eq!($rt; values.len(), $length);
-                }
-                Err(_) => assert_eq!($rt; $heap.growths(), passing + 1),
-            }
-            assert_eq!($rt; $heap.blocks(), 0);
-        }
-    };
-}
+/// The calls that take a number of items, each with the growths that it asks for where there are items.
+const COUNTED: [(&str, u64); 5] = [
+    ("zero_vec", 1),
+    ("collect_n", 1),
+    ("take", 1),
+    ("flattened zeros", 2),
+    ("reconstituted zeros", 2),
+];
 
-/// So many zeros, flattened: the growth of the zeros, and that of the call.
-fn flattened_zeros<A: Allocator + Copy>(
-    alloc: A,
-    length: usize,
-) -> Result<Vec<F17, A>, AllocError> {
-    let values = F17::zero_vec_in(alloc, length)?;
-    <F17 as BasedVectorSpace<F17>>::flatten_to_base_in(alloc, values)
-}
+/// Calls, the number of their items, the items and the growths that are needed.
+const CALLS: [(&str, usize, &str, u64); 7] = [
+    ("zero_vec", 2, "0,0", 1),
+    ("zero_vec", 0, "", 0),
+    ("shifted collect_n", 4, "2,6,1,3", 1),
+    ("shifted take", 4, "2,6,1,3", 1),
+    ("collect_n", 0, "", 0),
+    ("flattened", 2, "3,5", 2),
+    ("reconstituted", 2, "3,5", 2),
+];
 
-/// So many zeros, put together of their coefficients.
-fn reconstituted_zeros<A: Allocator + Copy>(
-    alloc: A,
-    length: usize,
-) -> Result<Vec<F17, A>, AllocError> {
-    let coefficients = F17::zero_vec_in(alloc, length)?;
-    <F17 as BasedVectorSpace<F17>>::reconstitute_from_base_in(alloc, coefficients)
-}
-
-#[test]
-fn growths_at_each_length(rt: HostRuntime) {
+/// Asserts the growths of all calls.
+fn assert_all_growths<F: PrimeField64 + InMemory>(rt: &(impl Abort + AllocGlobal)) {
     for n in LENGTHS {
-        let once = if n == 0 { 0u64 } else { 1 };
-        assert_growths_of_length!(rt, heap, F17::zero_vec_in(&heap, n), n, once);
-        assert_growths_of_length!(
-            rt,
-            heap,
-            F17::new(3).powers().collect_n_in(&heap, n),
-            n,
-            once
-        );
-        assert_growths_of_length!(
-            rt,
-            heap,
-            F17::new(3).powers().take(n).collect_in(&heap),
-            n,
-            once
-        );
-        assert_growths_of_length!(rt, heap, flattened_zeros(&heap, n), n, 2 * once);
-        assert_growths_of_length!(rt, heap, reconstituted_zeros(&heap, n), n, 2 * once);
+        for (call, needed) in COUNTED {
+            assert_growths::<F>(rt, call, n, None, if n == 0 { 0 } else { needed });
+        }
+    }
+    for (call, count, items, needed) in CALLS {
+        assert_growths::<F>(rt, call, count, Some(items), needed);
     }
 }
 
 #[test]
-fn zeros(rt: HostRuntime) {
-    let zero = F17::zero();
-    assert_growths!(rt, heap, F17::zero_vec_in(&heap, 2), [zero, zero], 1u64);
+fn growths_of_calls(rt: HostRuntime) {
+    assert_all_growths::<F17>(&rt);
+}
+
+/// Whether a name as an algebra is made where one growth passes, and refused where none does, and no block
+/// is kept.
+fn name_grows<F: PrimeCharacteristicRing, T: AlgebraIdentity<F>>(
+    alloc: Global,
+    passing: u64,
+    expected: &[u8],
+) -> bool {
+    let heap = Refusing::after(alloc, passing);
+    let is_right = match <T as AlgebraIdentity<F>>::algebra_id_in(&heap) {
+        Ok(name) => passing == 1 && name.as_slice() == expected,
+        Err(_) => passing == 0 && heap.growths() == 1,
+    };
+    is_right && heap.blocks() == 0
+}
+
+/// The calls of an extension, implemented once for all of them: a call at a type's name passes what its
+/// base owes once.
+trait ExtensionGrowths: Copy {
+    /// The images under the Frobenius map.
+    fn orbit_in<A: Allocator + Copy>(self, alloc: A) -> Result<Vec<Self, A>, AllocError>;
+}
+
+impl<F: FrobeniusExtendable<D, S>, const D: usize, S: ExtensionShape> ExtensionGrowths
+    for ExtField<F, D, S, F> {
+    fn orbit_in<A: Allocator + Copy>(self, alloc: A) -> Result<Vec<Self, A>, AllocError> {
+        HasFrobenius::<F>::galois_orbit_in(self, alloc)
+    }
+}
+
+/// Whether a value's images are made where one growth passes, and refused where none does, and no block is
+/// kept.
+fn orbit_grows<T: ExtensionGrowths + PartialEq>(
+    alloc: Global,
+    passing: u64,
+    value: T,
+    images: &[T],
+) -> bool {
+    let heap = Refusing::after(alloc, passing);
+    let is_right = match value.orbit_in(&heap) {
+        Ok(found) => passing == 1 && found.as_slice() == images,
+        Err(_) => passing == 0 && heap.growths() == 1,
+    };
+    is_right && heap.blocks() == 0
 }
 
 #[test]
-fn no_zeros(rt: HostRuntime) {
-    let none: [F17; 0] = [];
-    assert_growths!(rt, heap, F17::zero_vec_in(&heap, 0), none, 0u64);
+fn growths_of_names(rt: HostRuntime) {
+    for passing in 0..2u64 {
+        assert!(rt; name_grows::<F17, F17>(rt.alloc(), passing, b"p3-scalar-basis-v1"));
+        assert!(rt; name_grows::<F17, F17x2>(rt.alloc(), passing, b"bench:f17x2"));
+    }
 }
 
 #[test]
-fn powers(rt: HostRuntime) {
-    let start = F17::new(2);
-    let expected = [start, F17::new(6), F17::new(1), F17::new(3)];
-    assert_growths!(
-        rt,
-        heap,
-        F17::new(3).shifted_powers(start).collect_n_in(&heap, 4),
-        expected,
-        1u64
-    );
-    assert_growths!(
-        rt,
-        heap,
-        F17::new(3).shifted_powers(start).take(4).collect_in(&heap),
-        expected,
-        1u64
-    );
+fn growths_of_an_orbit(rt: HostRuntime) {
+    let value = F17x2::new([F17::new(1), F17::new(2)]);
+    let image = F17x2::new([F17::new(1), F17::new(15)]);
+    for passing in 0..2u64 {
+        assert!(rt; orbit_grows(rt.alloc(), passing, value, &[value, image]));
+    }
 }
 
-#[test]
-fn no_powers(rt: HostRuntime) {
-    let none: [F17; 0] = [];
-    assert_growths!(
-        rt,
-        heap,
-        F17::new(3).powers().collect_n_in(&heap, 0),
-        none,
-        0u64
-    );
+/// Zeros and powers with ample memory.
+fn assert_ample<F: PrimeField64 + InMemory>(rt: &(impl Abort + AllocGlobal)) -> Result<(), Fail> {
+    let three = F::from_u64(3);
+    assert!(rt; is_list("0,0", &F::zero_vec(rt.alloc(), 2)?));
+    let powers = three.shifted_powers(F::two()).collect_n(rt.alloc(), 4)?;
+    assert!(rt; is_list("2,6,1,3", &powers));
+    let bounded = three.shifted_powers(F::two()).take(4).collect(rt.alloc())?;
+    assert!(rt; is_list("2,6,1,3", &bounded));
+    Ok(())
 }
 
-/// The coefficients of the elements three and five.
-fn flattened<A: Allocator + Copy>(alloc: A) -> Result<Vec<F17, A>, AllocError> {
-    let values = three_and_five(alloc)?;
-    <F17 as BasedVectorSpace<F17>>::flatten_to_base_in(alloc, values)
+/// Values of the base as an algebra over itself, which are put together again of their coefficients.
+fn there_and_back<F: PrimeField64 + InMemory>(
+    alloc: Global,
+    given: Vec<F>,
+) -> Result<Vec<F>, AllocError> {
+    let flat = <F as BasedVectorSpace<F>>::flatten_to_base(alloc, given)?;
+    reconstituted(alloc, flat)
 }
 
-/// The elements whose coefficients are three and five.
-fn reconstituted<A: Allocator + Copy>(alloc: A) -> Result<Vec<F17, A>, AllocError> {
-    let coefficients = three_and_five(alloc)?;
-    <F17 as BasedVectorSpace<F17>>::reconstitute_from_base_in(alloc, coefficients)
-}
-
-#[test]
-fn coefficients(rt: HostRuntime) {
-    let expected = [F17::new(3), F17::new(5)];
-    assert_growths!(rt, heap, flattened(&heap), expected, 2u64);
-    assert_growths!(rt, heap, reconstituted(&heap), expected, 2u64);
-}
-
-#[test]
-fn identities(rt: HostRuntime) {
-    assert_growths!(
-        rt,
-        heap,
-        <F17 as AlgebraIdentity<F17>>::algebra_id_in(&heap),
-        b"p3-scalar-basis-v1",
-        1u64
-    );
+/// Coefficients and the name as an algebra, with ample memory.
+fn assert_ample_algebra<F: PrimeField64 + InMemory>(
+    rt: &(impl Abort + AllocGlobal),
+) -> Result<(), Fail> {
+    let given = values(rt.alloc(), "2,6,1,3")?;
+    assert!(rt; is_list::<F>("2,6,1,3", &there_and_back(rt.alloc(), given)?));
+    let id = <F as AlgebraIdentity<F>>::algebra_id(rt.alloc())?;
+    assert!(rt; id.as_slice() == b"p3-scalar-basis-v1".as_slice());
+    Ok(())
 }
 
 #[test]
 fn ample_memory(rt: HostRuntime) -> Result<(), Fail> {
-    let zeros = F17::zero_vec(rt.alloc(), 2)?;
-    assert_eq!(rt; zeros.as_slice(), [F17::zero(), F17::zero()].as_slice());
-    let powers = F17::new(3)
-        .shifted_powers(F17::new(2))
-        .collect_n(rt.alloc(), 4)?;
-    let expected = [F17::new(2), F17::new(6), F17::new(1), F17::new(3)];
-    assert_eq!(rt; powers.as_slice(), expected.as_slice());
-    let bounded = F17::new(3)
-        .shifted_powers(F17::new(2))
-        .take(4)
-        .collect(rt.alloc())?;
-    assert_eq!(rt; bounded.as_slice(), expected.as_slice());
-    let flat = <F17 as BasedVectorSpace<F17>>::flatten_to_base(rt.alloc(), powers)?;
-    let values = <F17 as BasedVectorSpace<F17>>::reconstitute_from_base(rt.alloc(), flat)?;
-    assert_eq!(rt; values.as_slice(), expected.as_slice());
-    let id = <F17 as AlgebraIdentity<F17>>::algebra_id(rt.alloc())?;
-    assert_eq!(rt; id.as_slice(), b"p3-scalar-basis-v1".as_slice());
-    Ok(())
-}
-
-/// The images of 1 + 2 X under the Frobenius map of the extension by X^2 = 3.
-fn orbit<A: Allocator + Copy>(alloc: A) -> Result<Vec<F17x2, A>, AllocError> {
-    let value = F17x2::new([F17::new(1), F17::new(2)]);
-    HasFrobenius::<F17>::galois_orbit_in(value, alloc)
-}
-
-#[test]
-fn calls_of_an_extension(rt: HostRuntime) {
-    let images = [
-        F17x2::new([F17::new(1), F17::new(2)]),
-        F17x2::new([F17::new(1), F17::new(15)]),
-    ];
-    assert_growths!(rt, heap, orbit(&heap), images, 1u64);
-    assert_growths!(
-        rt,
-        heap,
-        <F17x2 as AlgebraIdentity<F17>>::algebra_id_in(&heap),
-        b"bench:f17x2",
-        1u64
-    );
+    assert_ample::<F17>(&rt)?;
+    assert_ample_algebra::<F17>(&rt)
 }

@@ -1,16 +1,20 @@
-//! Worked values of the exponentiation chains and the helpers.
+//! Worked values of the exponentiation chains and the helpers, generic over the field.
 
+use crate::prime_values::{is_list, values};
 use p3_bench_prime::baby_bear::BabyBear;
 use p3_bench_prime::small::F17;
 use p3_field::exponentiation::{
     exp_1420470955, exp_1717986917, exp_1725656503, exp_10540996611094048183,
 };
 use p3_field::{
-    HornerIter, PrimeCharacteristicRing, PrimeField64, RingSums, add_scaled_slice_in_place,
-    cyclic_subgroup_coset_known_order, cyclic_subgroup_known_order, dot_product, field_to_array,
-    halve_u32, halve_u64, par_add_scaled_slice_in_place, par_scale_slice_in_place,
-    scale_slice_in_place_single_core,
+    HornerIter, Packable, PrimeCharacteristicRing, PrimeField64, RingSums,
+    add_scaled_slice_in_place, cyclic_subgroup_coset_known_order, cyclic_subgroup_known_order,
+    dot_product, field_to_array, halve_u32, halve_u64, par_add_scaled_slice_in_place,
+    par_scale_slice_in_place, scale_slice_in_place_single_core,
 };
+use std::alloc::{AllocError, Global};
+use std::process::Abort;
+use std::test::Fail;
 
 /// The four fixed powers of a residue, the sum of a cyclic subgroup of order 4, and the product of
 /// three items of its coset.
@@ -40,46 +44,78 @@ fn powers_and_subgroups_of_order_17(rt: HostRuntime) {
     assert_eq!(rt; halve_u64::<17>(5), 11);
 }
 
-#[test]
-fn polynomials_at_a_point(rt: HostRuntime) {
-    let coefficients = [3, 5, 7, 11, 13];
-    let value: BabyBear = coefficients
-        .iter()
-        .map(|c| BabyBear::from_u32(*c))
-        .horner(BabyBear::new(4));
-    assert_eq!(rt; value, BabyBear::new(4167));
-    let coefficients = [BabyBear::new(2), BabyBear::new(3), BabyBear::new(5)];
-    let value = coefficients
-        .iter()
-        .copied()
-        .horner_acc(BabyBear::new(73), BabyBear::new(6));
-    assert_eq!(rt; value, BabyBear::new(15968));
+/// The value of a polynomial at six, after a sum that stands for what follows it.
+fn value_after<F: PrimeField64>(coefficients: &[F], sum: F) -> F {
+    coefficients.iter().copied().horner_acc(sum, F::from_u64(6))
+}
+
+/// The sum of the products of two lists, as far as the shorter one goes.
+fn sum_in_pairs<F: PrimeField64 + RingSums>(left: &[F], right: &[F]) -> F {
+    dot_product(left.iter().copied(), right.iter().copied())
+}
+
+/// Whether the slice is the first text after three times another is added to it, and the second after it
+/// is added once more.
+fn are_sums<F: PrimeField64 + Packable>(
+    slice: &mut [F],
+    other: &[F],
+    once: &str,
+    twice: &str,
+) -> bool {
+    if slice.len() != other.len() {
+        return false;
+    }
+    add_scaled_slice_in_place::<F, F>(slice, other, F::from_u64(3));
+    let is_once = is_list(once, slice);
+    par_add_scaled_slice_in_place::<F, F>(slice, other, F::from_u64(3));
+    is_once && is_list(twice, slice)
+}
+
+/// Whether the slice is the first text after it is multiplied by three, and the second after that once
+/// more.
+fn are_multiples<F: PrimeField64 + Packable>(slice: &mut [F], once: &str, twice: &str) -> bool {
+    scale_slice_in_place_single_core::<F, F>(slice, F::from_u64(3));
+    let is_once = is_list(once, slice);
+    par_scale_slice_in_place::<F, F>(slice, F::from_u64(3));
+    is_once && is_list(twice, slice)
+}
+
+/// Asserts an array of a value and zeros.
+fn assert_array<F: PrimeField64>(rt: &impl Abort, array: [F; 4]) {
+    assert!(rt; is_list("9,0,0,0", &array));
+}
+
+/// Whether the calls that change a slice make what is worked for them.
+fn slices_agree<F: PrimeField64 + Packable>(alloc: Global) -> Result<bool, AllocError> {
+    let mut slice: Vec<F> = values(alloc, "1,2")?;
+    let other: Vec<F> = values(alloc, "10,20")?;
+    Ok(
+        are_sums(&mut slice, &other, "31,62", "61,122")
+            && are_multiples(&mut slice, "183,366", "549,1098"),
+    )
+}
+
+/// Whether the value of a polynomial is what is worked for it.
+fn value_agrees<F: PrimeField64>(alloc: Global) -> Result<bool, AllocError> {
+    let coefficients: Vec<F> = values(alloc, "2,3,5")?;
+    Ok(value_after(&coefficients, F::from_u64(73)).as_canonical_u64() == 15968)
+}
+
+/// Whether the sum of products is what is worked for it.
+fn sum_agrees<F: PrimeField64 + RingSums>(alloc: Global) -> Result<bool, AllocError> {
+    let left: Vec<F> = values(alloc, "2,4")?;
+    let right: Vec<F> = values(alloc, "3,5,7")?;
+    Ok(sum_in_pairs(&left, &right).as_canonical_u64() == 26)
+}
+
+/// Whether all of them are.
+fn helpers_agree<F: PrimeField64 + RingSums + Packable>(alloc: Global) -> Result<bool, AllocError> {
+    Ok(slices_agree::<F>(alloc)? && value_agrees::<F>(alloc)? && sum_agrees::<F>(alloc)?)
 }
 
 #[test]
-fn slices_in_place(rt: HostRuntime) {
-    let other = [BabyBear::new(10), BabyBear::new(20)];
-    let scale = BabyBear::new(3);
-    let mut slice = [BabyBear::new(1), BabyBear::new(2)];
-    add_scaled_slice_in_place::<BabyBear, BabyBear>(&mut slice, &other, scale);
-    assert_eq!(rt; slice, [BabyBear::new(31), BabyBear::new(62)]);
-    par_add_scaled_slice_in_place::<BabyBear, BabyBear>(&mut slice, &other, scale);
-    assert_eq!(rt; slice, [BabyBear::new(61), BabyBear::new(122)]);
-    scale_slice_in_place_single_core::<BabyBear, BabyBear>(&mut slice, scale);
-    assert_eq!(rt; slice, [BabyBear::new(183), BabyBear::new(366)]);
-    par_scale_slice_in_place::<BabyBear, BabyBear>(&mut slice, scale);
-    assert_eq!(rt; slice, [BabyBear::new(549), BabyBear::new(1098)]);
-}
-
-#[test]
-fn arrays_and_sums(rt: HostRuntime) {
-    let zero = BabyBear::zero();
-    assert_eq!(rt;
-        field_to_array::<BabyBear, 4>(BabyBear::new(9)),
-        [BabyBear::new(9), zero, zero, zero]
-    );
-    let left = [BabyBear::new(2), BabyBear::new(4)];
-    let right = [BabyBear::new(3), BabyBear::new(5), BabyBear::new(7)];
-    let sum: BabyBear = dot_product(left.iter().copied(), right.iter().copied());
-    assert_eq!(rt; sum, BabyBear::new(26));
+fn helpers(rt: HostRuntime) -> Result<(), Fail> {
+    assert_array(&rt, field_to_array::<BabyBear, 4>(BabyBear::new(9)));
+    assert!(rt; helpers_agree::<BabyBear>(rt.alloc())?);
+    Ok(())
 }
