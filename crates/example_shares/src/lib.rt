@@ -1,0 +1,2 @@
+//! Shamir's secret sharing over every field of the library.
+#![tactic(auto)]
