@@ -8,7 +8,7 @@ use Rattle.p3_theory.specs.Polynomials.Polynomial.{at}
 use Rattle.p3_theory.specs.Polynomials.HornerFold.{eval-cons}
 use Rattle.p3_theory.specs.Lists.PairedLists.{zip_with}
 use Rattle.p3_theory.specs.RingSolver.Reify.{by_laws, reads, yes}
-use Rattle.example_shares.specs.Shares.{value_at}
+use Rattle.example_shares.specs.Secrets.{value_at}
 
 module _ {A : Type 0} (O : Ops A) where
   open O use {zero as 𝟎, one as 𝟏, add as ◌⊕◌, mul as ◌⊗◌, neg}

@@ -1,2 +1,4 @@
-pub mod Shares
+pub mod Secrets
 pub mod Lagrange
+pub mod Denominators
+pub mod ShareLists
