@@ -8,7 +8,7 @@ use Rattle.p3_theory.specs.Polynomials.Polynomial.{at}
 use Rattle.p3_theory.specs.Polynomials.HornerFold.{eval-cons}
 use Rattle.p3_theory.specs.Lists.PairedLists.{zip_with}
 use Rattle.p3_theory.specs.RingSolver.Reify.{by_laws, reads, yes}
-use Rattle.example_shares.specs.Secrets.{value_at}
+use Rattle.example_shares.specs.Secrets.{value_at, IsSecret}
 
 module _ {A : Type 0} (O : Ops A) where
   open O use {zero as 𝟎, one as 𝟏, add as ◌⊕◌, mul as ◌⊗◌, neg}
@@ -233,3 +233,7 @@ module _ {A : Type 0} (R : Ring A) where
 
       join : (y z : A) → neg (a ⊗ y) ⊕ z ⊗ 𝟏 ≡ less 𝟎 a ⊗ y ⊕ z ⊗ 𝟏
       join y z = by_laws R.ops R.laws (a ∷ y ∷ z ∷ []) (search reads depth 99 fits 99999) (search reads depth 99 fits 99999) yes
+
+  -- so the formula is the secret
+  pub secret : (xs ys ws : List A) (s : A) → AreWeights R.ops xs ws → s ≡ L xs ys ws → IsSecret R.ops xs ys s
+  secret xs ys ws s h e c le told = e ∙ ap (λ l. L xs l ws) told ∙ interpolates xs ws h c le ∙ value-zero c

@@ -3,4 +3,5 @@
 #![tactic(auto)]
 
 pub mod lagrange;
+pub mod recovery;
 pub mod shares;

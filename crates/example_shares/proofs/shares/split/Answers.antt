@@ -16,7 +16,7 @@ pushed o c i old new share e point value at told =
     let more : points new ≡ points old ++ (share.point ∷ []) = ap points e ∙ map-append (λ s. s.point) old (share ∷ []) in (
       more ∙ tabulate-more i (λ k. of_nat o (suc k)) (points old) share.point at (point ∙ ap (of_nat o) (add-one i)),
       ap values e ∙ map-append (λ s. s.value) old (share ∷ []) ∙ ap₂ (λ l v. l ++ (v ∷ [])) told value
-      ∙ sym (map-append (value_at o c) (points old) (share.point ∷ [])) ∙ sym (ap (map (value_at o c)) more),
+          ∙ sym (map-append (value_at o c) (points old) (share.point ∷ [])) ∙ sym (ap (map (value_at o c)) more),
     )
 
 pub loop-i-preserved : goal.loop-i-preserved
