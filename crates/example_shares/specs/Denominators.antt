@@ -1,9 +1,8 @@
 -- The products of differences that Lagrange's formula divides by.
-use Rattle.std.specs.Prelude.{◌↔◌}
 use Rattle.std.proofs.Common.{◌≡◌, ◌≢◌, ◌<◌, ◌≤◌, ◌+◌, ◌-◌, ℕ, zero, suc, List, [], ◌∷◌, ◌++◌, length, get_or, take, drop, refl, sym, ap, ap₂, subst, ◌∙◌, inl, inr, add-one, arith}
 use Rattle.std.proofs.lemmas.Bool.{cases_eq}
-use Rattle.std.proofs.lemmas.List.{get_or_default, get_or_append_left, get_or-append_right, length-append}
-use Rattle.p3_theory.specs.Rings.Ring.{Ops, Ring, Invertible, subtract}
+use Rattle.std.proofs.lemmas.List.{get_or_append_left, get_or-append_right}
+use Rattle.p3_theory.specs.Rings.Ring.{Ops, Ring, Invertible}
 use Rattle.p3_theory.specs.Rings.Operators.{product_list}
 use Rattle.p3_theory.specs.RingSolver.Reify.{by_laws, reads, yes}
 use Rattle.example_shares.specs.Secrets.{AreApart}

@@ -1,5 +1,5 @@
 -- Lagrange's formula at zero, over every commutative ring.
-use Rattle.std.proofs.Common.{◌≡◌, ◌<◌, ◌≤◌, ◌+◌, ℕ, zero, suc, List, [], ◌∷◌, ◌++◌, length, map, get_or, take, drop, refl, sym, ap, ap₂, subst, ◌∙◌, arith}
+use Rattle.std.proofs.Common.{◌≡◌, ◌≤◌, suc, List, [], ◌∷◌, length, map, refl, sym, ap, ap₂, subst, ◌∙◌, arith}
 use mathlib.Core.Path.{fun_ext}
 use Rattle.p3_theory.specs.Rings.Ring.{Ops, Ring, subtract}
 use Rattle.p3_theory.specs.Rings.Operators.{product_list}

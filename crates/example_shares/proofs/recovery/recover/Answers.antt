@@ -1,4 +1,4 @@
-use Rattle.std.proofs.Common.{◌≡◌, take, ap, ◌∙◌}
+use Rattle.std.proofs.Common.{take, ap, ◌∙◌}
 use Rattle.p3_theory.specs.Rings.Ring.{ring_of}
 use Rattle.example_shares.specs.Lagrange.{lagrange, secret}
 use Rattle.example_shares.specs.ShareLists.{points, values}
