@@ -3,5 +3,6 @@
 #![tactic(auto)]
 
 pub mod lagrange;
+pub mod lines;
 pub mod recovery;
 pub mod shares;
