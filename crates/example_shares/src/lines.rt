@@ -1,8 +1,10 @@
 //! Lines of words: `split K N SECRET C1 .. C(K-1)` and `recover X1 Y1 .. XK YK`, over a prime field.
+ghost use Rattle.std.specs.Prelude.{◌≡◌, ◌↔◌, ◌<◌, map, IfOk, IsOk};
+ghost use Rattle.p3_theory.specs.Rings.Multiples.{of_nat};
 
 use crate::recovery::{RecoverError, recover};
 use crate::shares::{Share, split};
-use p3_base::field::PrimeField32;
+use p3_base::field::PrimeField64;
 use std::alloc::{AllocError, Global};
 use std::error::Error;
 use std::fmt;
@@ -47,10 +49,10 @@ impl From<AllocError> for LineError {
 }
 
 /// The numbers that follow the first word of a line.
-fn numbers(alloc: Global, line: &str) -> Result<Vec<u32>, LineError> {
+fn numbers(alloc: Global, line: &str) -> Result<Vec<u64>, LineError> {
     let mut numbers = Vec::new(alloc);
     for word in line.split_whitespace().skip(1) {
-        let Ok(number) = word.parse::<u32>() else {
+        let Ok(number) = word.parse::<u64>() else {
             return Err(LineError::BadNumber);
         };
         if numbers.push(number).is_err() {
@@ -61,16 +63,21 @@ fn numbers(alloc: Global, line: &str) -> Result<Vec<u32>, LineError> {
 }
 
 /// The value of a number below the order.
-fn value<F: PrimeField32>(number: u32) -> Result<F, LineError> {
-    if number < F::ORDER_U32 {
-        Ok(F::from_u32(number))
+fn value<F: PrimeField64>(number: u64) -> Result<F, LineError>
+    ensures below { IsOk result ↔ (number < F.order) }
+    ensures value { IfOk result (λ x. x ≡ of_nat F.ops number) }
+{
+    if number < F::ORDER_U64 {
+        Ok(F::from_u64(number))
     } else {
         Err(LineError::BadNumber)
     }
 }
 
 /// The values of numbers below the order.
-fn values<F: PrimeField32>(alloc: Global, numbers: &[u32]) -> Result<Vec<F>, LineError> {
+fn values<F: PrimeField64>(alloc: Global, numbers: &[u64]) -> Result<Vec<F>, LineError>
+    ensures { IfOk result (λ xs. xs.items ≡ map (of_nat F.ops) numbers.now) }
+{
     let mut values = Vec::with_capacity(alloc, numbers.len())?;
     for number in numbers {
         let value = value::<F>(*number)?;
@@ -82,12 +89,12 @@ fn values<F: PrimeField32>(alloc: Global, numbers: &[u32]) -> Result<Vec<F>, Lin
 }
 
 /// The shares as lines, each a point and the value there.
-fn split_text<F: PrimeField32>(alloc: Global, numbers: &[u32]) -> Result<String, LineError> {
-    if numbers.len() < 3 || numbers.len() - 2 != numbers[0] as usize {
+fn split_text<F: PrimeField64>(alloc: Global, numbers: &[u64]) -> Result<String, LineError> {
+    if numbers.len() < 3 || (numbers.len() - 2) as u64 != numbers[0] {
         return Err(LineError::WordCount);
     }
     let count = numbers[1];
-    if count < numbers[0] || F::ORDER_U32 <= count {
+    if count < numbers[0] || F::ORDER_U64 <= count {
         return Err(LineError::BadThreshold);
     }
     let coefficients = values::<F>(alloc, &numbers[2..])?;
@@ -104,7 +111,7 @@ fn split_text<F: PrimeField32>(alloc: Global, numbers: &[u32]) -> Result<String,
 }
 
 /// The secret as a line.
-fn recover_text<F: PrimeField32>(alloc: Global, numbers: &[u32]) -> Result<String, LineError> {
+fn recover_text<F: PrimeField64>(alloc: Global, numbers: &[u64]) -> Result<String, LineError> {
     if numbers.is_empty() || numbers.len() % 2 != 0 {
         return Err(LineError::WordCount);
     }
@@ -124,7 +131,7 @@ fn recover_text<F: PrimeField32>(alloc: Global, numbers: &[u32]) -> Result<Strin
 }
 
 /// What a line asks for: the shares, a line each, or the secret.
-pub fn answer<F: PrimeField32>(alloc: Global, line: &str) -> Result<String, LineError> {
+pub fn answer<F: PrimeField64>(alloc: Global, line: &str) -> Result<String, LineError> {
     let numbers = numbers(alloc, line)?;
     match line.split_whitespace().next() {
         Some(word) => {
