@@ -21,22 +21,23 @@ fn all_answered<F: PrimeField64>(alloc: Global, rows: &[(&str, Option<&str>)]) -
     true
 }
 
-/// Why two shares with these points don't recover a secret at this threshold.
+/// Why shares with these points don't recover a secret at this threshold.
 fn refusal<F: PrimeField64>(
     alloc: Global,
     threshold: usize,
-    first: u64,
-    second: u64,
+    points: &[u64],
 ) -> Option<RecoverError> {
-    let one = Share {
-        point: F::from_u64(first),
-        value: F::one(),
-    };
-    let other = Share {
-        point: F::from_u64(second),
-        value: F::one(),
-    };
-    recover(alloc, threshold, &[one, other]).err()
+    let mut shares = Vec::new(alloc);
+    for point in points {
+        let share = Share {
+            point: F::from_u64(*point),
+            value: F::one(),
+        };
+        if shares.push(share).is_err() {
+            return Some(RecoverError::OutOfMemory);
+        }
+    }
+    recover(alloc, threshold, &shares).err()
 }
 
 /// 5 + 3 X + 7 X^2 modulo 17 has the values 15, 5, 9, 10 and 8 at 1 to 5.
@@ -66,9 +67,9 @@ fn needs_differences_with_inverses(rt: HostRuntime) {
 
 #[test]
 fn says_why(rt: HostRuntime) {
-    let refused = refusal::<F17>(rt.alloc(), 3, 1, 2);
+    let refused = refusal::<F17>(rt.alloc(), 3, &[1, 2]);
     assert!(rt; refused == Some(RecoverError::TooFewShares));
-    let refused = refusal::<F17>(rt.alloc(), 2, 1, 18);
+    let refused = refusal::<F17>(rt.alloc(), 2, &[1, 18]);
     assert!(rt; refused == Some(RecoverError::NoInverse));
     assert!(rt; answer::<F17>(rt.alloc(), "combine 1 2").err() == Some(LineError::UnknownCommand));
     assert!(rt; answer::<F17>(rt.alloc(), "split 2 3 5").err() == Some(LineError::WordCount));
