@@ -1,0 +1,4 @@
+pub mod Secrets
+pub mod Lagrange
+pub mod Denominators
+pub mod ShareLists
