@@ -78,14 +78,14 @@ fn growths_at_each_length(rt: HostRuntime) {
         assert_growths_of_length!(
             rt,
             heap,
-            F17::new(3).powers().collect_n_in(&heap, n),
+            F17::new(3).powers().collect_n_in::<F17, _>(&heap, n),
             n,
             once
         );
         assert_growths_of_length!(
             rt,
             heap,
-            F17::new(3).powers().take(n).collect_in(&heap),
+            F17::new(3).powers().take(n).collect_in::<F17, _>(&heap),
             n,
             once
         );
@@ -113,14 +113,14 @@ fn powers(rt: HostRuntime) {
     assert_growths!(
         rt,
         heap,
-        F17::new(3).shifted_powers(start).collect_n_in(&heap, 4),
+        F17::new(3).shifted_powers(start).collect_n_in::<F17, _>(&heap, 4),
         expected,
         1u64
     );
     assert_growths!(
         rt,
         heap,
-        F17::new(3).shifted_powers(start).take(4).collect_in(&heap),
+        F17::new(3).shifted_powers(start).take(4).collect_in::<F17, _>(&heap),
         expected,
         1u64
     );
@@ -132,7 +132,7 @@ fn no_powers(rt: HostRuntime) {
     assert_growths!(
         rt,
         heap,
-        F17::new(3).powers().collect_n_in(&heap, 0),
+        F17::new(3).powers().collect_n_in::<F17, _>(&heap, 0),
         none,
         0u64
     );
