@@ -1,138 +1,158 @@
-//! The calls of extensions against rows of coefficients, over every type that has them.
+//! The calls of extensions against the lines of tables, over every type that has them. A line is the
+//! call, its arguments and its answer, with semicolons between them. Arguments stand between bars, and
+//! the values of a list between spaces; the coefficients of a value between commas.
 ghost use Rattle.std.specs.Prelude.{◌<◌, IsSome};
 
-use crate::extension_tables::Table;
-use crate::square_root_tables::Root;
-use crate::values::{Canonical, OfRow, Tabled, TwoAdicTabled};
+use crate::values::{Canonical, OfText, Tabled, TwoAdicTabled};
 use p3_field::RawDataSerializable;
 use p3_field::extension::BinomiallyExtendable;
+use p3_field_testing::texts::{lists, parts, sides};
+use std::alloc::{AllocError, Global};
 use std::process::Abort;
 use std::test::Fail;
 
-/// Asserts the squares, products, inverses and elements of the base of a table.
-fn assert_arithmetic<T: Tabled>(rt: &impl Abort, table: &Table<T::Row>) {
-    for entry in table.squares {
-        let (x, square) = *entry;
-        assert!(rt; T::of(x).squared().row() == square);
-    }
-    for entry in table.products {
-        let (x, y, product) = *entry;
-        assert!(rt; T::of(x).times(T::of(y)).row() == product);
-    }
-    for entry in table.inverses {
-        let (x, inverse) = *entry;
-        let answer = match T::of(x).inverse() {
-            Some(y) => Some(y.row()),
-            None => None,
-        };
-        assert_eq!(rt; answer, inverse);
-    }
-    for entry in table.base_values {
-        let (x, base) = *entry;
-        assert!(rt; T::of(x).base_value() == base);
+/// Whether the text is of the value, or says that there is none.
+fn is_answer<T: Tabled>(found: Option<T>, answer: &str) -> bool {
+    match found {
+        Some(x) => x.stands_in(answer),
+        None => answer == "None",
     }
 }
 
-/// Asserts the images under the Frobenius map, the orbits and the texts of a table.
-fn assert_maps<T: Tabled>(
-    rt: &(impl Abort + AllocGlobal),
-    table: &Table<T::Row>,
-) -> Result<(), Fail> {
-    for entry in table.images {
-        let (x, image) = *entry;
-        assert!(rt; T::of(x).image().row() == image);
-    }
-    for entry in table.repeated {
-        let (x, count, image) = *entry;
-        assert!(rt; T::of(x).image_after(count).row() == image);
-    }
-    for entry in table.orbits {
-        let (x, orbit) = *entry;
-        let answer = T::of(x).orbit(rt.alloc())?;
-        assert!(rt; answer.len() == orbit.len());
-        for i in 0..orbit.len() {
-            assert!(rt; answer[i].row() == orbit[i]);
+/// Whether the text is of the root that a search answers, or says that there is none, and after a space
+/// of its turns.
+fn is_counted<T: Tabled>(found: (Option<T>, u32), answer: &str) -> bool {
+    let (root, turns) = found;
+    let (text, count) = sides(answer, ' ');
+    is_answer(root, text) && count.parse::<u32>().ok() == Some(turns)
+}
+
+/// Whether the text is of the images under the Frobenius map taken 0 times and more.
+fn is_orbit<T: Tabled>(alloc: Global, x: T, answer: &str) -> Result<bool, AllocError> {
+    let orbit = x.orbit(alloc)?;
+    let mut words = answer.split(' ');
+    for image in orbit.iter() {
+        if !image.stands_in(words.next().unwrap_or("")) {
+            return Ok(false);
         }
     }
-    for entry in table.texts {
-        let (x, text) = *entry;
-        let answer = T::of(x).text(rt.alloc())?;
-        assert!(rt; answer.as_str() == text);
-    }
-    Ok(())
+    Ok(words.next().is_none())
 }
 
-/// Asserts that each row has values and the words of their bytes.
-pub fn assert_streams<T: RawDataSerializable + OfRow>(
-    rt: &(impl Abort + AllocGlobal),
-    rows: &[(&[T::Entries], &[u64])],
-) -> Result<(), Fail> {
-    for entry in rows {
-        let (items, words) = *entry;
-        let values = items.iter().map(|x| T::of_row(*x));
-        let stream: Vec<u64> = T::into_u64_stream(values).collect(rt.alloc())?;
-        assert!(rt; stream.as_slice() == words);
-    }
-    Ok(())
-}
-
-/// The answer of a search by canonical coefficients.
-fn in_row<T: Tabled>(answer: (Option<T>, u32)) -> (Option<T::Row>, u32) {
-    let (root, turns) = answer;
-    match root {
-        Some(r) => (Some(r.row()), turns),
-        None => (None, turns),
+/// What an operation on a value gives, and on a second value or a count.
+fn operation<T: Tabled>(call: &str, x: T, second: &str) -> Option<T> {
+    match call {
+        "square" => Some(x.squared()),
+        "mul" => Some(x.times(T::of(second)?)),
+        "pseudo_inv" => Some(x.inverse_or_zero()),
+        "frobenius" => Some(x.image()),
+        "repeated_frobenius" => Some(x.image_after(second.parse::<usize>().ok()?)),
+        _ => None,
     }
 }
 
-/// Asserts of an extension what a table says, and that each row of roots has a value, the root
-/// that is answered, if one is, and the turns.
-pub fn assert_extension<T: Tabled>(
-    rt: &(impl Abort + AllocGlobal),
-    table: &Table<T::Row>,
-    roots: &[Root<T::Row>],
-) -> Result<(), Fail>
+/// Whether the call has this answer; `Ok(None)` where a text can't be read, or names no call.
+fn agrees<T: Tabled>(
+    alloc: Global,
+    call: &str,
+    arguments: &str,
+    answer: &str,
+) -> Result<Option<bool>, AllocError>
     requires { IsSome T.Tabled.size }
 {
-    for entry in roots {
-        let (x, root, turns) = *entry;
-        assert_eq!(rt; in_row(T::of(x).counted()), (root, turns), "{x:?}");
+    let (first, second) = sides(arguments, '|');
+    let Some(x) = T::of(first) else {
+        return Ok(None);
+    };
+    let agrees = match call {
+        "galois_orbit" => is_orbit(alloc, x, answer)?,
+        "Display" => x.text(alloc)?.as_str() == answer,
+        "as_base" => match x.base_value() {
+            Some(number) => lists(answer, &[number]),
+            None => answer == "None",
+        },
+        "try_inverse" => is_answer(x.inverse(), answer),
+        "counted" => is_counted(x.counted(), answer),
+        _ => match operation(call, x, second) {
+            Some(y) => y.stands_in(answer),
+            None => return Ok(None),
+        },
+    };
+    Ok(Some(agrees))
+}
+
+/// Asserts the lines of a table.
+pub fn assert_calls<T: Tabled>(rt: &(impl Abort + AllocGlobal), table: &str) -> Result<(), Fail>
+    requires { IsSome T.Tabled.size }
+{
+    for line in table.lines() {
+        let (call, arguments, answer) = parts(line);
+        let agrees = agrees::<T>(rt.alloc(), call, arguments, answer)?;
+        assert_eq!(rt; agrees, Some(true), "{line}");
     }
-    assert_arithmetic::<T>(rt, table);
-    assert_maps::<T>(rt, table)
+    Ok(())
+}
+
+/// Whether a call of two-adic fields has this answer.
+fn two_adic_agrees<T: TwoAdicTabled>(call: &str, argument: &str, answer: &str) -> Option<bool>
+    requires { IsSome T.Tabled.size }
+{
+    match call {
+        "TWO_ADICITY" => Some(answer.parse::<usize>().ok()? == T::two_adicity()),
+        "two_adic_generator" => {
+            Some(is_answer(T::generator(argument.parse::<usize>().ok()?), answer))
+        }
+        "two_adic_counted" => Some(is_counted(T::of(argument)?.two_adic_counted(), answer)),
+        _ => None,
+    }
 }
 
 /// Asserts the two-adicity of an extension, its two-adic generators, each after its bits, and the
 /// roots of the search by the greatest of them.
-pub fn assert_two_adic<T: TwoAdicTabled>(
-    rt: &impl Abort,
-    two_adicity: usize,
-    generators: &[(usize, T::Row)],
-    roots: &[Root<T::Row>],
-)
+pub fn assert_two_adic<T: TwoAdicTabled>(rt: &impl Abort, table: &str)
     requires { IsSome T.Tabled.size }
 {
-    assert!(rt; T::two_adicity() == two_adicity);
-    for entry in generators {
-        let (bits, generator) = *entry;
-        match T::generator(bits) {
-            Some(g) => assert!(rt; g.row() == generator),
-            None => assert!(rt; false),
-        }
-    }
-    assert!(rt; T::generator(64).is_none());
-    for entry in roots {
-        let (x, root, turns) = *entry;
-        assert_eq!(rt; in_row(T::of(x).two_adic_counted()), (root, turns), "{x:?}");
+    for line in table.lines() {
+        let (call, argument, answer) = parts(line);
+        assert_eq!(rt;
+            two_adic_agrees::<T>(call, argument, answer),
+            Some(true),
+            "{line}"
+        );
     }
 }
 
-/// Asserts inverses, or zeros where there is none.
-pub fn assert_inverses_or_zero<T: Tabled>(rt: &impl Abort, rows: &[(T::Row, T::Row)]) {
-    for entry in rows {
-        let (x, inverse) = *entry;
-        assert!(rt; T::of(x).inverse_or_zero().row() == inverse);
+/// The values of a text, where each of its words is read.
+fn values<T: OfText>(alloc: Global, text: &str) -> Result<Option<Vec<T>>, AllocError> {
+    let mut values = Vec::new(alloc);
+    for word in text.split_ascii_whitespace() {
+        match T::of_text(word) {
+            Some(x) => values.push(x)?,
+            None => return Ok(None),
+        }
     }
+    Ok(Some(values))
+}
+
+/// Asserts that each line has values and the words of their bytes.
+pub fn assert_streams<T: RawDataSerializable + OfText>(
+    rt: &(impl Abort + AllocGlobal),
+    table: &str,
+) -> Result<(), Fail> {
+    for line in table.lines() {
+        let (call, arguments, answer) = parts(line);
+        assert!(rt; call == "into_u64_stream");
+        match values::<T>(rt.alloc(), arguments)? {
+            Some(items) => {
+                let stream: Vec<u64> = T::into_u64_stream(items.iter().copied()).collect(
+                    rt.alloc(),
+                )?;
+                assert!(rt; lists(answer, &stream), "{line}");
+            }
+            None => assert!(rt; false, "{line}"),
+        }
+    }
+    Ok(())
 }
 
 /// W, the root, and the generator candidate's coefficients at 1 and X, as canonical values.

@@ -1,9 +1,8 @@
-//! Order, hash and default of extension values, and calls on lists of them, at one type.
+//! Order, hash and default of extension values, at one type.
 
-use p3_bench_prime::extensions::{F17x2, F17x4};
+use p3_bench_prime::extensions::F17x4;
 use p3_bench_prime::small::F17;
-use p3_field::{BasedVectorSpace, Packable, PrimeField64};
-use std::alloc::{AllocError, Global};
+use p3_field::{AlgebraIdentity, Packable, PrimeField64};
 use std::collections::hash_map::DefaultHasher;
 use std::hash::{Hash, Hasher};
 use std::test::Fail;
@@ -40,36 +39,7 @@ fn values_of_one_type(rt: HostRuntime) -> Result<(), Fail> {
     assert!(rt; !text.is_empty());
     let pair = F17x4::new_array([residues([1, 2, 3, 4]), residues([5, 6, 7, 8])]);
     assert!(rt; pair[1] == y);
-    let values = Vec::from_slice(rt.alloc(), &[x, y])?;
-    let flat: Vec<F17> = F17x4::flatten_to_base(rt.alloc(), values)?;
-    assert!(rt; flat.as_slice() == residues([1, 2, 3, 4, 5, 6, 7, 8]).as_slice());
-    let back: Vec<F17x4> = F17x4::reconstitute_from_base(rt.alloc(), flat)?;
-    assert!(rt; back.as_slice() == [x, y].as_slice());
-    Ok(())
-}
-
-/// The text of `a + b X`, written by hand.
-fn line_text(alloc: Global, a: u32, b: u32) -> Result<String, AllocError> {
-    match (a, b) {
-        (_, 0) => format!(in alloc; "{a}"),
-        (0, 1) => format!(in alloc; "X"),
-        (0, _) => format!(in alloc; "{b} X"),
-        (_, 1) => format!(in alloc; "{a} + X"),
-        _ => format!(in alloc; "{a} + {b} X"),
-    }
-}
-
-/// The text of every value of one extension, whatever the formatter is told of its form and width.
-#[test]
-fn texts_of_every_value(rt: HostRuntime) -> Result<(), Fail> {
-    for a in 0..17u32 {
-        for b in 0..17u32 {
-            let x = F17x2::new(residues([a, b]));
-            let text = line_text(rt.alloc(), a, b)?;
-            assert!(rt; format!(in rt.alloc(); "{x}")?.as_str() == text.as_str());
-            assert!(rt; format!(in rt.alloc(); "{x:#}")?.as_str() == text.as_str());
-            assert!(rt; format!(in rt.alloc(); "{x:>8}")?.as_str() == text.as_str());
-        }
-    }
+    let name: Vec<u8> = <F17 as AlgebraIdentity<F17>>::algebra_id(rt.alloc())?;
+    assert!(rt; name.as_slice() == b"p3-scalar-basis-v1".as_slice());
     Ok(())
 }

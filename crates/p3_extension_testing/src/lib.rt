@@ -7,10 +7,6 @@ mod calls;
 #[cfg(test)]
 mod complex_values;
 #[cfg(test)]
-mod extension_root_tables;
-#[cfg(test)]
-mod extension_rows;
-#[cfg(test)]
 mod extension_tables;
 #[cfg(test)]
 mod extension_values;
@@ -23,12 +19,10 @@ mod powers;
 #[cfg(test)]
 mod slices;
 #[cfg(test)]
-mod square_root_tables;
-#[cfg(test)]
 mod square_roots;
 #[cfg(test)]
 mod tower_values;
 #[cfg(test)]
-mod trinomial_tables;
-#[cfg(test)]
 mod values;
+#[cfg(test)]
+mod worked;

@@ -4,11 +4,9 @@
 ghost use Rattle.std.specs.Prelude.{IsSome, Some};
 ghost use Rattle.p3_ext.specs.Orders.{extension_size};
 
-use crate::calls;
-use crate::extension_tables::Table;
-use crate::square_root_tables::Root;
+use crate::{calls, worked};
 use p3_bench_prime::binomial_constants::BinomialConstants;
-use p3_bench_prime::form::Form;
+use p3_bench_prime::form::{Form, ShortForm};
 use p3_bench_prime::fp::Fp;
 use p3_bench_prime::two_adic_constants::{TwoAdicBinomialConstants, TwoAdicTrinomialConstants};
 use p3_field::extension::{
@@ -23,139 +21,68 @@ pub trait BinomialCalls<const D: usize>: Form<u32> {
     /// W, the root, and the generator candidate's coefficients at 1 and X.
     fn constants() -> [u64; 4];
 
-    /// Asserts inverses, or zeros where there is none.
-    fn assert_inverses_or_zero(rt: &impl Abort, rows: &[([u64; D], [u64; D])]);
-
-    /// Asserts what a table says, and the rows of roots.
-    fn assert_extension(
-        rt: &(impl Abort + AllocGlobal),
-        table: &Table<[u64; D]>,
-        roots: &[Root<[u64; D]>],
-    ) -> Result<(), Fail>
+    /// Asserts the lines of a table.
+    fn assert_calls(rt: &(impl Abort + AllocGlobal), table: &str) -> Result<(), Fail>
         requires { IsSome (extension_size (Some Self.ORDER) D) };
+
+    /// Asserts worked lines.
+    fn assert_worked(rt: &(impl Abort + AllocGlobal), table: &str) -> Result<(), Fail>;
 }
 
-impl<W: BinomialConstants<D>, const D: usize> BinomialCalls<D> for W {
+impl<W: BinomialConstants<D> + ShortForm, const D: usize> BinomialCalls<D> for W {
     fn constants() -> [u64; 4] {
         calls::constants::<Fp<W>, D>()
     }
 
-    fn assert_inverses_or_zero(rt: &impl Abort, rows: &[([u64; D], [u64; D])]) {
-        calls::assert_inverses_or_zero::<BinomialExtensionField<Fp<W>, D>>(rt, rows)
+    fn assert_calls(rt: &(impl Abort + AllocGlobal), table: &str) -> Result<(), Fail> {
+        calls::assert_calls::<BinomialExtensionField<Fp<W>, D>>(rt, table)
     }
 
-    fn assert_extension(
-        rt: &(impl Abort + AllocGlobal),
-        table: &Table<[u64; D]>,
-        roots: &[Root<[u64; D]>],
-    ) -> Result<(), Fail> {
-        calls::assert_extension::<BinomialExtensionField<Fp<W>, D>>(rt, table, roots)
+    fn assert_worked(rt: &(impl Abort + AllocGlobal), table: &str) -> Result<(), Fail> {
+        worked::assert_worked::<BinomialExtensionField<Fp<W>, D>>(rt, table)
     }
 }
 
 /// The calls at the extension of degree D by a binomial that has two-adic generators.
 pub trait TwoAdicBinomialCalls<const D: usize>: Form<u32> {
     /// Asserts the two-adicity, two-adic generators and roots by the greatest of them.
-    fn assert_two_adic(
-        rt: &impl Abort,
-        two_adicity: usize,
-        generators: &[(usize, [u64; D])],
-        roots: &[Root<[u64; D]>],
-    )
+    fn assert_two_adic(rt: &impl Abort, table: &str)
         requires { IsSome (extension_size (Some Self.ORDER) D) };
 }
 
 impl<W: TwoAdicBinomialConstants<D>, const D: usize> TwoAdicBinomialCalls<D> for W {
-    fn assert_two_adic(
-        rt: &impl Abort,
-        two_adicity: usize,
-        generators: &[(usize, [u64; D])],
-        roots: &[Root<[u64; D]>],
-    ) {
-        calls::assert_two_adic::<BinomialExtensionField<Fp<W>, D>>(
-            rt,
-            two_adicity,
-            generators,
-            roots,
-        )
+    fn assert_two_adic(rt: &impl Abort, table: &str) {
+        calls::assert_two_adic::<BinomialExtensionField<Fp<W>, D>>(rt, table)
     }
 }
 
 /// The calls at the extension of degree D by a trinomial S that has two-adic generators.
 pub trait TrinomialCalls<const D: usize, S>: Form<u32> {
-    /// Asserts inverses, or zeros where there is none.
-    fn assert_inverses_or_zero(rt: &impl Abort, rows: &[([u64; D], [u64; D])]);
-
-    /// Asserts the two-adicity, two-adic generators and roots by the greatest of them.
-    fn assert_two_adic(
-        rt: &impl Abort,
-        two_adicity: usize,
-        generators: &[(usize, [u64; D])],
-        roots: &[Root<[u64; D]>],
-    )
+    /// Asserts the lines of a table.
+    fn assert_calls(rt: &(impl Abort + AllocGlobal), table: &str) -> Result<(), Fail>
         requires { IsSome (extension_size (Some Self.ORDER) D) };
 
-    /// Asserts what a table says, and the rows of roots.
-    fn assert_extension(
-        rt: &(impl Abort + AllocGlobal),
-        table: &Table<[u64; D]>,
-        roots: &[Root<[u64; D]>],
-    ) -> Result<(), Fail>
+    /// Asserts the two-adicity, two-adic generators and roots by the greatest of them.
+    fn assert_two_adic(rt: &impl Abort, table: &str)
         requires { IsSome (extension_size (Some Self.ORDER) D) };
 }
 
 impl<W: TwoAdicTrinomialConstants<3, CubicTrinomial>> TrinomialCalls<3, CubicTrinomial> for W {
-    fn assert_inverses_or_zero(rt: &impl Abort, rows: &[([u64; 3], [u64; 3])]) {
-        calls::assert_inverses_or_zero::<CubicTrinomialExtensionField<Fp<W>>>(rt, rows)
+    fn assert_calls(rt: &(impl Abort + AllocGlobal), table: &str) -> Result<(), Fail> {
+        calls::assert_calls::<CubicTrinomialExtensionField<Fp<W>>>(rt, table)
     }
 
-    fn assert_two_adic(
-        rt: &impl Abort,
-        two_adicity: usize,
-        generators: &[(usize, [u64; 3])],
-        roots: &[Root<[u64; 3]>],
-    ) {
-        calls::assert_two_adic::<CubicTrinomialExtensionField<Fp<W>>>(
-            rt,
-            two_adicity,
-            generators,
-            roots,
-        )
-    }
-
-    fn assert_extension(
-        rt: &(impl Abort + AllocGlobal),
-        table: &Table<[u64; 3]>,
-        roots: &[Root<[u64; 3]>],
-    ) -> Result<(), Fail> {
-        calls::assert_extension::<CubicTrinomialExtensionField<Fp<W>>>(rt, table, roots)
+    fn assert_two_adic(rt: &impl Abort, table: &str) {
+        calls::assert_two_adic::<CubicTrinomialExtensionField<Fp<W>>>(rt, table)
     }
 }
 
 impl<W: TwoAdicTrinomialConstants<5, QuinticTrinomial>> TrinomialCalls<5, QuinticTrinomial> for W {
-    fn assert_inverses_or_zero(rt: &impl Abort, rows: &[([u64; 5], [u64; 5])]) {
-        calls::assert_inverses_or_zero::<QuinticTrinomialExtensionField<Fp<W>>>(rt, rows)
+    fn assert_calls(rt: &(impl Abort + AllocGlobal), table: &str) -> Result<(), Fail> {
+        calls::assert_calls::<QuinticTrinomialExtensionField<Fp<W>>>(rt, table)
     }
 
-    fn assert_two_adic(
-        rt: &impl Abort,
-        two_adicity: usize,
-        generators: &[(usize, [u64; 5])],
-        roots: &[Root<[u64; 5]>],
-    ) {
-        calls::assert_two_adic::<QuinticTrinomialExtensionField<Fp<W>>>(
-            rt,
-            two_adicity,
-            generators,
-            roots,
-        )
-    }
-
-    fn assert_extension(
-        rt: &(impl Abort + AllocGlobal),
-        table: &Table<[u64; 5]>,
-        roots: &[Root<[u64; 5]>],
-    ) -> Result<(), Fail> {
-        calls::assert_extension::<QuinticTrinomialExtensionField<Fp<W>>>(rt, table, roots)
+    fn assert_two_adic(rt: &impl Abort, table: &str) {
+        calls::assert_two_adic::<QuinticTrinomialExtensionField<Fp<W>>>(rt, table)
     }
 }

@@ -1,9 +1,13 @@
 //! Powers that permute a field.
 
-use p3_bench_prime::baby_bear::BabyBear;
-use p3_bench_prime::goldilocks::Goldilocks;
-use p3_bench_prime::koala_bear::KoalaBear;
-use p3_bench_prime::small::{F17, F31};
+use p3_bench_prime::baby_bear::BabyBearModulus;
+use p3_bench_prime::form::{Plain, Word};
+use p3_bench_prime::fp::Fp;
+use p3_bench_prime::goldilocks::GoldilocksForm;
+use p3_bench_prime::koala_bear::KoalaBearModulus;
+use p3_bench_prime::montgomery::Montgomery;
+use p3_bench_prime::monomials::MonomialConstants;
+use p3_bench_prime::small::{M17, M31};
 use p3_field::{PermutationMonomial, PrimeField64};
 
 /// The power N of a number's residue, and the number whose power N is the residue of a second one.
@@ -14,11 +18,22 @@ fn powers_of<F: PermutationMonomial<N> + PrimeField64, const N: u64>(x: u64, y: 
     ]
 }
 
+/// `powers_of` at the residues of a form.
+fn powers_at<W: MonomialConstants<T, N>, T: Word, const N: u64>(x: u64, y: u64) -> [u64; 2] {
+    powers_of::<Fp<W, T>, N>(x, y)
+}
+
 #[test]
 fn powers_that_permute(rt: HostRuntime) {
-    assert_eq!(rt; powers_of::<F17, 3>(2, 8), [8, 2]);
-    assert_eq!(rt; powers_of::<F31, 7>(3, 17), [17, 3]);
-    assert_eq!(rt; powers_of::<BabyBear, 7>(3, 2187), [2187, 3]);
-    assert_eq!(rt; powers_of::<KoalaBear, 3>(5, 125), [125, 5]);
-    assert_eq!(rt; powers_of::<Goldilocks, 7>(3, 2187), [2187, 3]);
+    assert_eq!(rt; powers_at::<Plain<M17>, u32, 3>(2, 8), [8, 2]);
+    assert_eq!(rt; powers_at::<Plain<M31>, u32, 7>(3, 17), [17, 3]);
+    assert_eq!(rt;
+        powers_at::<Montgomery<BabyBearModulus>, u32, 7>(3, 2187),
+        [2187, 3]
+    );
+    assert_eq!(rt;
+        powers_at::<Plain<KoalaBearModulus>, u32, 3>(5, 125),
+        [125, 5]
+    );
+    assert_eq!(rt; powers_at::<GoldilocksForm, u64, 7>(3, 2187), [2187, 3]);
 }

@@ -1,15 +1,17 @@
-//! Counted square roots: worked examples by hand, and the values of `square_root_tables`.
+//! Counted square roots over prime fields: worked examples by hand, and values of the original Rust crate
+//! over fields written for the purpose, checked by a second program. A line is a number, and after a
+//! semicolon the root that is answered, if one is, and the turns of the search.
 ghost use Rattle.std.specs.Prelude.{IsSome};
 ghost use Rattle.std.proofs.Common.{lit<};
 
-use crate::square_root_tables as tables;
-use crate::square_root_tables::Root;
-use p3_bench_prime::form::{Modulus, Plain};
+use p3_bench_prime::form::{Form, Modulus, Plain};
 use p3_bench_prime::fp::Fp;
-use p3_bench_prime::small::{F2, F17, F17b, F31, Z15};
+use p3_bench_prime::small::{M2, M15, M17, M17b, M31};
+use p3_bench_prime::two_adic::TwoAdicConstants;
 use p3_field::{
     PrimeField64, TwoAdicField, tonelli_shanks_counted, tonelli_shanks_two_adic_counted,
 };
+use p3_field_testing::texts::sides;
 use std::process::Abort;
 
 /// The marker of the order 4, at which two times two is zero.
@@ -51,55 +53,56 @@ fn two_adic_counted<F: TwoAdicField + PrimeField64>(x: u64) -> (Option<u64>, u32
     }
 }
 
-/// Asserts that each row has a value, the root that is answered, if one is, and the turns.
-fn assert_roots<F: PrimeField64>(rt: &impl Abort, rows: &[Root<u64>])
-    requires { IsSome F.size }
-{
-    for row in rows {
-        let (x, root, turns) = *row;
-        assert_eq!(rt; counted::<F>(x), (root, turns), "{x}");
+/// The root and the turns of a text; none where it can't be read.
+fn answer(text: &str) -> Option<(Option<u64>, u32)> {
+    let (root, turns) = sides(text, ' ');
+    let turns = turns.parse::<u32>().ok()?;
+    if root == "None" {
+        Some((None, turns))
+    } else {
+        Some((Some(root.parse::<u64>().ok()?), turns))
+    }
+}
+
+/// Asserts that each line has a number, the root that is answered, if one is, and the turns.
+fn assert_roots<W: Form<u32>>(rt: &impl Abort, table: &str) {
+    for line in table.lines() {
+        let (number, found) = sides(line, ';');
+        match number.parse::<u64>() {
+            Ok(x) => assert_eq!(rt; Some(counted::<Fp<W>>(x)), answer(found), "{line}"),
+            Err(_) => assert!(rt; false, "{line}"),
+        }
     }
 }
 
 /// The same of the search by the greatest two-adic generator.
-fn assert_two_adic_roots<F: TwoAdicField + PrimeField64>(rt: &impl Abort, rows: &[Root<u64>])
-    requires { IsSome F.size }
-{
-    for row in rows {
-        let (x, root, turns) = *row;
-        assert_eq!(rt; two_adic_counted::<F>(x), (root, turns), "{x}");
+fn assert_two_adic_roots<W: TwoAdicConstants<u32>>(rt: &impl Abort, table: &str) {
+    for line in table.lines() {
+        let (number, found) = sides(line, ';');
+        match number.parse::<u64>() {
+            Ok(x) => assert_eq!(rt; Some(two_adic_counted::<Fp<W>>(x)), answer(found), "{line}"),
+            Err(_) => assert!(rt; false, "{line}"),
+        }
     }
 }
 
 #[test]
 fn residues(rt: HostRuntime) {
-    assert_eq!(rt; counted::<F17>(13), (Some(8), 3));
-    assert_eq!(rt; counted::<F17>(3), (None, 4));
-    assert_eq!(rt; counted::<F17>(0), (Some(0), 0));
-    assert_eq!(rt; counted::<F17>(2), (Some(6), 3));
-    assert_eq!(rt; counted::<F17b>(16), (Some(4), 1));
-    assert_eq!(rt; counted::<F31>(2), (Some(8), 0));
-    assert_eq!(rt; counted::<F31>(3), (None, 1));
-    assert_eq!(rt; counted::<F2>(1), (Some(1), 0));
+    assert_roots::<Plain<M17>>(&rt, "13;8 3\n3;None 4\n0;0 0\n2;6 3\n1;1 0\n11;None 4");
+    assert_roots::<Plain<M17b>>(&rt, "16;4 1");
+    assert_roots::<Plain<M31>>(&rt, "2;8 0\n3;None 1\n4;2 0\n14;18 0\n24;None 1");
+    assert_roots::<Plain<M2>>(&rt, "1;1 0");
 }
 
 #[test]
 fn residues_of_composite_orders(rt: HostRuntime) {
-    assert_eq!(rt; counted::<Z15>(4), (None, 1));
-    assert_eq!(rt; counted::<Fp<Plain<M4>>>(2), (None, 0));
-    assert_eq!(rt; counted::<Fp<Plain<M4>>>(3), (None, 0));
+    assert_roots::<Plain<M15>>(&rt, "4;None 1\n3;None 1\n13;None 1");
+    assert_roots::<Plain<M4>>(&rt, "2;None 0\n3;None 0");
 }
 
 #[test]
-fn residues_of_tables(rt: HostRuntime) {
-    assert_roots::<F17>(&rt, tables::F17);
-    assert_roots::<F31>(&rt, tables::F31);
-    assert_roots::<Z15>(&rt, tables::Z15);
-}
-
-#[test]
-fn two_adic_residues_of_tables(rt: HostRuntime) {
-    assert_two_adic_roots::<F17>(&rt, tables::F17_TWO_ADIC);
-    assert_two_adic_roots::<F31>(&rt, tables::F31_TWO_ADIC);
-    assert_two_adic_roots::<Z15>(&rt, tables::Z15_TWO_ADIC);
+fn two_adic_residues(rt: HostRuntime) {
+    assert_two_adic_roots::<Plain<M17>>(&rt, "2;6 3\n12;None 4");
+    assert_two_adic_roots::<Plain<M31>>(&rt, "5;25 0\n15;None 1\n25;5 0");
+    assert_two_adic_roots::<Plain<M15>>(&rt, "4;None 1\n14;None 1");
 }

@@ -10,8 +10,8 @@ use p3_field::{
     ExtensionField, Field, PrimeCharacteristicRing, PrimeField64, TwoAdicField,
     tonelli_shanks_counted, tonelli_shanks_two_adic_counted,
 };
+use p3_field_testing::texts::{entries, number_at};
 use std::alloc::{AllocError, Global};
-use std::fmt::Debug;
 
 /// A residue's canonical value alone: `PrimeField64` has all integer maps among its bounds, which each
 /// call at a type's own name would pass.
@@ -25,24 +25,23 @@ impl<W: Form<T>, T: Word> Canonical for Fp<W, T> {
     }
 }
 
-/// A type of values that are made of rows of canonical coefficients. It asks for less of the base than
-/// `Tabled`, whose bounds a call for bytes would pass.
-pub trait OfRow: Copy {
-    type Entries: Copy;
-
-    /// The value with these canonical coefficients.
-    fn of_row(row: Self::Entries) -> Self;
+/// A type of values that texts list. It asks for less of the base than `Tabled`, whose bounds a call for
+/// bytes would pass.
+pub trait OfText: Copy {
+    /// The value whose canonical coefficients a text lists, where it lists as many.
+    fn of_text(text: &str) -> Option<Self>;
 }
 
-impl<W: ShortForm, const D: usize, S: Copy> OfRow for ExtField<Fp<W>, D, S, Fp<W>> {
-    type Entries = [u64; D];
-
-    fn of_row(row: [u64; D]) -> Self {
+impl<W: ShortForm, const D: usize, S: Copy> OfText for ExtField<Fp<W>, D, S, Fp<W>> {
+    fn of_text(text: &str) -> Option<Self> {
+        if entries(text) != D {
+            return None;
+        }
         let mut coefficients = [Fp::<W>::zero(); D];
         for i in 0..D {
-            coefficients[i] = Fp::<W>::from_u64(row[i]);
+            coefficients[i] = Fp::<W>::from_u64(number_at(text, i)?);
         }
-        ExtField::<Fp<W>, D, S, Fp<W>>::new(coefficients)
+        Some(ExtField::<Fp<W>, D, S, Fp<W>>::new(coefficients))
     }
 }
 
@@ -50,16 +49,14 @@ impl<W: ShortForm, const D: usize, S: Copy> OfRow for ExtField<Fp<W>, D, S, Fp<W
 /// tables have, since a bound by the whole field trait meets the step limit at each type, and room
 /// for a value is known of a type and not of a shape and a base.
 pub trait Tabled: Copy {
-    type Row: Copy + PartialEq + Debug;
-
     /// How many values there are, where that is given.
     ghost size: { Option ℕ };
 
-    /// The value with these canonical coefficients.
-    fn of(row: Self::Row) -> Self;
+    /// The value whose canonical coefficients a text lists, where it lists as many.
+    fn of(text: &str) -> Option<Self>;
 
-    /// The canonical coefficients.
-    fn row(&self) -> Self::Row;
+    /// Whether a text lists the canonical coefficients.
+    fn stands_in(&self, text: &str) -> bool;
 
     fn squared(&self) -> Self;
 
@@ -101,25 +98,27 @@ impl<F: FrobeniusExtendable<D, S> + Canonical, const D: usize, S: ExtensionShape
     for ExtField<F, D, S, F> {
     ghost use Rattle.p3_ext.specs.Orders.{extension_size};
 
-    type Row = [u64; D];
-
     ghost size = { extension_size F.size D };
 
-    fn of(row: [u64; D]) -> Self {
+    fn of(text: &str) -> Option<Self> {
+        if entries(text) != D {
+            return None;
+        }
         let mut coefficients = [F::zero(); D];
         for i in 0..D {
-            coefficients[i] = F::from_u64(row[i]);
+            coefficients[i] = F::from_u64(number_at(text, i)?);
         }
-        ExtField::<F, D, S, F>::new(coefficients)
+        Some(ExtField::<F, D, S, F>::new(coefficients))
     }
 
-    fn row(&self) -> [u64; D] {
-        let mut row = [0; D];
+    fn stands_in(&self, text: &str) -> bool {
         for i in 0..D {
             let c = self.value[i];
-            row[i] = c.canonical();
+            if number_at(text, i) != Some(c.canonical()) {
+                return false;
+            }
         }
-        row
+        entries(text) == D
     }
 
     fn squared(&self) -> Self {

@@ -1,110 +1,126 @@
-//! Cosets of prime fields against rows, generic over the field.
+//! Cosets of prime fields against lines, generic over the field. A line is the call, its arguments with
+//! bars between them, and its answer; the first two arguments are the shift and the log size.
 
+use crate::texts::{entries, lists, parts};
 use p3_field::coset::TwoAdicMultiplicativeCoset;
 use p3_field::{PrimeField64, RingSums, TwoAdicField};
-use std::alloc::Global;
+use std::alloc::{AllocError, Global};
 use std::process::Abort;
 use std::test::Fail;
 
-/// Values of the calls on the cosets of one field.
-pub struct CosetTable {
-    /// A shift and a log size that make no coset.
-    pub refused: &'static [(u64, usize)],
-    /// A shift, a log size, an element and whether the coset contains it.
-    pub members: &'static [(u64, usize, u64, bool)],
-    /// A shift, a log size, an index and the item there.
-    pub elements: &'static [(u64, usize, usize, u64)],
-    /// A shift, a log size and the items.
-    pub cosets: &'static [(u64, usize, &'static [u64])],
-    /// A shift, a log size, the inverse of the shift, the generator, and the sum and product of the
-    /// items.
-    pub worked: &'static [(u64, usize, [u64; 4])],
-}
-
-/// The coset of a shift's number and a log size, which there is.
-fn coset_of<F: TwoAdicField + PrimeField64>(
-    rt: &impl Abort,
-    shift: u64,
-    log_size: usize,
-) -> TwoAdicMultiplicativeCoset<F> {
-    TwoAdicMultiplicativeCoset::new(F::from_u64(shift), log_size).expect(rt, "a coset")
-}
-
-/// Asserts which smaller cosets and which powers of a coset there are, up to five bits.
-fn assert_smaller<F: TwoAdicField + PrimeField64>(
-    rt: &impl Abort,
+/// Whether just the smaller cosets and the powers up to five bits are there that a log size has.
+fn are_smaller<F: TwoAdicField + PrimeField64>(
     coset: TwoAdicMultiplicativeCoset<F>,
     log_size: usize,
-) {
+) -> bool {
     for bits in 0..6 {
-        match coset.shrink_coset(bits) {
+        let is_smaller = match coset.shrink_coset(bits) {
             Some(smaller) => {
-                assert!(rt; smaller.shift() == coset.shift());
-                assert!(rt; smaller.log_size() + bits == log_size);
+                smaller.shift() == coset.shift() && smaller.log_size() + bits == log_size
             }
-            None => assert!(rt; bits > log_size),
-        }
-        match coset.exp_power_of_2(bits) {
+            None => bits > log_size,
+        };
+        let is_power = match coset.exp_power_of_2(bits) {
             Some(powers) => {
-                assert!(rt; powers.shift() == coset.shift().exp_power_of_2(bits));
-                assert!(rt; powers.log_size() + bits == log_size);
+                powers.shift() == coset.shift().exp_power_of_2(bits)
+                    && powers.log_size() + bits == log_size
             }
-            None => assert!(rt; bits > log_size),
+            None => bits > log_size,
+        };
+        if !is_smaller || !is_power {
+            return false;
         }
     }
+    true
 }
 
-/// Asserts the worked rows of a table, and which cosets it says are refused.
-fn assert_worked<F: TwoAdicField + PrimeField64 + RingSums>(rt: &impl Abort, table: &CosetTable) {
-    for row in table.refused {
-        let (shift, log_size) = *row;
-        assert!(rt; TwoAdicMultiplicativeCoset::new(F::from_u64(shift), log_size).is_none());
+/// Whether the text lists the inverse of the shift, the generator, and the sum and the product of the
+/// items, and the coset has its size and its smaller cosets.
+fn has_parts<F: TwoAdicField + PrimeField64 + RingSums>(
+    coset: TwoAdicMultiplicativeCoset<F>,
+    shift: u64,
+    log_size: usize,
+    answer: &str,
+) -> bool {
+    if coset.log_size() >= 64 || log_size >= 64 {
+        return false;
     }
-    for row in table.worked {
-        let (shift, log_size, expected) = *row;
-        let coset: TwoAdicMultiplicativeCoset<F> = coset_of(rt, shift, log_size);
-        assert!(rt; coset.log_size() < 64);
-        assert!(rt; log_size < 64);
-        assert!(rt; coset.size() == 1 << log_size);
-        assert!(rt; coset.shift().as_canonical_u64() == shift);
-        let sum: F = (&coset).into_iter().sum();
-        let product: F = coset.into_iter().product();
-        let answer = [
-            coset.shift_inverse().as_canonical_u64(),
-            coset.subgroup_generator().as_canonical_u64(),
-            sum.as_canonical_u64(),
-            product.as_canonical_u64(),
-        ];
-        assert_eq!(rt; answer, expected, "{shift}");
-        assert_smaller(rt, coset, log_size);
+    if coset.size() != 1 << log_size || coset.shift().as_canonical_u64() != shift {
+        return false;
     }
+    let sum: F = (&coset).into_iter().sum();
+    let product: F = coset.into_iter().product();
+    let found = [
+        coset.shift_inverse().as_canonical_u64(),
+        coset.subgroup_generator().as_canonical_u64(),
+        sum.as_canonical_u64(),
+        product.as_canonical_u64(),
+    ];
+    lists(answer, &found) && are_smaller(coset, log_size)
 }
 
-/// Asserts what a table says of the cosets of a field.
-pub fn assert_cosets<F: TwoAdicField + PrimeField64 + RingSums>(
-    rt: &impl Abort,
+/// Whether the text lists the items of the coset.
+fn has_items<F: TwoAdicField + PrimeField64>(
     alloc: Global,
-    table: &CosetTable,
+    coset: TwoAdicMultiplicativeCoset<F>,
+    answer: &str,
+) -> Result<bool, AllocError> {
+    if coset.log_size() >= 64 || coset.iter().len() != entries(answer) {
+        return Ok(false);
+    }
+    let items: Vec<u64> = coset.iter().map(|x| x.as_canonical_u64()).collect(alloc)?;
+    Ok(lists(answer, &items))
+}
+
+/// Whether the text is of the item at an index.
+fn has_element<F: TwoAdicField + PrimeField64>(
+    coset: TwoAdicMultiplicativeCoset<F>,
+    index: usize,
+    answer: &str,
+) -> bool {
+    coset.log_size() < 64 && lists(answer, &[coset.element(index).as_canonical_u64()])
+}
+
+/// Whether the call has this answer; `Ok(None)` where a text can't be read, or names no call.
+fn agrees<F: TwoAdicField + PrimeField64 + RingSums>(
+    alloc: Global,
+    call: &str,
+    arguments: &str,
+    answer: &str,
+) -> Result<Option<bool>, AllocError> {
+    let mut sides = arguments.split('|');
+    let Ok(shift) = sides.next().unwrap_or("").parse::<u64>() else {
+        return Ok(None);
+    };
+    let Ok(log_size) = sides.next().unwrap_or("").parse::<usize>() else {
+        return Ok(None);
+    };
+    let third = sides
+        .next()
+        .unwrap_or("0")
+        .parse::<u64>()
+        .unwrap_or(u64::MAX);
+    let Some(coset) = TwoAdicMultiplicativeCoset::<F>::new(F::from_u64(shift), log_size) else {
+        return Ok(Some(call == "coset" && answer == "None"));
+    };
+    match call {
+        "coset contains" => { Ok(Some(coset.contains(F::from_u64(third)) == (answer == "true"))) }
+        "coset element" => Ok(Some(has_element(coset, third as usize, answer))),
+        "coset iter" => Ok(Some(has_items(alloc, coset, answer)?)),
+        "coset sizes, sum and product" => { Ok(Some(has_parts(coset, shift, log_size, answer))) }
+        _ => Ok(None),
+    }
+}
+
+/// Asserts the lines of a table.
+pub fn assert_cosets<F: TwoAdicField + PrimeField64 + RingSums>(
+    rt: &(impl Abort + AllocGlobal),
+    table: &str,
 ) -> Result<(), Fail> {
-    assert_worked::<F>(rt, table);
-    for row in table.members {
-        let (shift, log_size, element, contained) = *row;
-        let coset: TwoAdicMultiplicativeCoset<F> = coset_of(rt, shift, log_size);
-        assert!(rt; coset.contains(F::from_u64(element)) == contained);
-    }
-    for row in table.elements {
-        let (shift, log_size, index, element) = *row;
-        let coset: TwoAdicMultiplicativeCoset<F> = coset_of(rt, shift, log_size);
-        assert!(rt; coset.log_size() < 64);
-        assert!(rt; coset.element(index).as_canonical_u64() == element);
-    }
-    for row in table.cosets {
-        let (shift, log_size, expected) = *row;
-        let coset: TwoAdicMultiplicativeCoset<F> = coset_of(rt, shift, log_size);
-        assert!(rt; coset.log_size() < 64);
-        assert!(rt; coset.iter().len() == expected.len());
-        let items: Vec<u64> = coset.iter().map(|x| x.as_canonical_u64()).collect(alloc)?;
-        assert!(rt; items.as_slice() == expected);
+    for line in table.lines() {
+        let (call, arguments, answer) = parts(line);
+        let agrees = agrees::<F>(rt.alloc(), call, arguments, answer)?;
+        assert_eq!(rt; agrees, Some(true), "{line}");
     }
     Ok(())
 }

@@ -1,20 +1,23 @@
 //! Tests of rings and prime fields: worked rows and outside values as tables, and calls whose
-//! growths are refused. The allocator that refuses them is open to the tests of other crates.
+//! growths are refused. The allocator that refuses them, and what reads lines of tables, are open to the
+//! tests of other crates.
 #![tactic(auto)]
 
 #[cfg(test)]
 mod byte_streams;
 #[cfg(test)]
-mod coset_tables;
-#[cfg(test)]
 mod cosets;
 #[cfg(test)]
 mod growths;
+#[cfg(test)]
+mod prime_tables;
 #[cfg(test)]
 mod prime_types;
 #[cfg(test)]
 mod prime_values;
 pub mod refusing;
+#[cfg(test)]
+mod residues;
 #[cfg(test)]
 mod ring_values;
 #[cfg(test)]
@@ -23,7 +26,6 @@ mod step_runs;
 mod stored_words;
 #[cfg(test)]
 mod stream_values;
+pub mod texts;
 #[cfg(test)]
 mod tool_values;
-#[cfg(test)]
-mod vector_tables;

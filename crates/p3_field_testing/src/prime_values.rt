@@ -1,174 +1,191 @@
-//! Calls on prime fields against numbers, generic over the field. A check pays for what a type asks
-//! for at each call that names the type, so a test names it in one call.
+//! Calls on prime fields against lines, generic over the field. A check pays for what a type asks for at
+//! each call that names the type, so a test names it in few calls. A line is the call, its arguments and
+//! its answer, with semicolons between them; arguments stand between bars, the entries of a list between
+//! commas.
 ghost use Rattle.p3_theory.specs.Rings.Ring.{Invertible};
 ghost use Rattle.p3_theory.specs.Rings.Multiples.{two};
 
-use crate::cosets::{CosetTable, assert_cosets};
+use crate::texts::{entries, lists, number_at, parts, sides};
 use p3_field::{HornerIter, PrimeField64, RawDataSerializable, RingSums, TwoAdicField};
+use std::alloc::{AllocError, Global};
 use std::process::Abort;
 use std::test::Fail;
 
-/// Coefficients, a point and the value there.
-pub type Polynomial = (&'static [u64], u64, u64);
-
-/// What is tested of a prime type, by numbers.
-pub struct PrimeTable {
-    pub generator: u64,
-    pub order: u64,
-    pub bits: usize,
-    pub two_adicity: usize,
-    /// The dot products of the first 0, 1, 3, 4, 5 and 17 of seventeen minus ones with themselves.
-    pub dots: [u64; 6],
-    /// Bits and the two-adic generator for them.
-    pub generators: &'static [(usize, u64)],
-    /// Two numbers and the sum, difference, product and quotient of their residues.
-    pub results: &'static [(u64, u64, [u64; 4])],
-    /// Numbers and the sum and product of their residues.
-    pub totals: &'static [(&'static [u64], [u64; 2])],
+/// The values of a text.
+pub fn values<F: PrimeField64>(alloc: Global, text: &str) -> Result<Vec<F>, AllocError> {
+    let mut values = Vec::new(alloc);
+    for word in text.split(',') {
+        if let Ok(number) = word.parse::<u64>() {
+            values.push(F::from_u64(number))?;
+        }
+    }
+    Ok(values)
 }
 
-/// The canonical values of the sum, difference, product and quotient; the quotient is 0 where
-/// there is none.
-fn results<F: PrimeField64>(x: F, y: F) -> [u64; 4] {
-    let quotient = match y.try_inverse() {
+/// Whether the text is of these values.
+pub fn is_list<F: PrimeField64>(text: &str, values: &[F]) -> bool {
+    for i in 0..values.len() {
+        if number_at(text, i) != Some(values[i].as_canonical_u64()) {
+            return false;
+        }
+    }
+    entries(text) == values.len()
+}
+
+/// A constant of the field by its name.
+fn constant<F: TwoAdicField + PrimeField64>(name: &str) -> Option<u64> {
+    match name {
+        "generator" => Some(F::generator().as_canonical_u64()),
+        "order" if F::order() == Some(F::ORDER_U64 as u128) => Some(F::ORDER_U64),
+        "ORDER_U64" => Some(F::ORDER_U64),
+        "bits" => Some(F::bits() as u64),
+        "TWO_ADICITY" => Some(F::TWO_ADICITY as u64),
+        _ => None,
+    }
+}
+
+/// The quotient of two values, zero where there is none.
+fn quotient<F: PrimeField64>(x: F, y: F) -> F {
+    match y.try_inverse() {
         Some(_) => x / y,
         None => F::zero(),
+    }
+}
+
+/// What a call on numbers answers.
+fn operation<F: TwoAdicField + PrimeField64>(call: &str, first: &str, second: &str) -> Option<F> {
+    match call {
+        "from_int i8" => return Some(F::from_i8(first.parse::<i8>().ok()?)),
+        "from_int u128" => return Some(F::from_u128(first.parse::<u128>().ok()?)),
+        _ => {}
+    }
+    let number = first.parse::<u64>().ok()?;
+    let x = F::from_u64(number);
+    match call {
+        "try_inverse" => return x.try_inverse(),
+        "two_adic_generator" if number <= F::TWO_ADICITY as u64 => {
+            return Some(F::two_adic_generator(number as usize));
+        }
+        _ => {}
+    }
+    let number = second.parse::<u64>().ok()?;
+    let y = F::from_u64(number);
+    match call {
+        "add" => Some(x + y),
+        "sub" => Some(x - y),
+        "mul" => Some(x * y),
+        "div" => Some(quotient(x, y)),
+        "exp_u64" => Some(x.exp_u64(number)),
+        _ => None,
+    }
+}
+
+/// What a call on a list answers.
+fn of_list<F: PrimeField64 + RingSums>(
+    alloc: Global,
+    call: &str,
+    first: &str,
+    second: &str,
+) -> Result<Option<F>, AllocError> {
+    let list: Vec<F> = values(alloc, first)?;
+    let terms = list.iter().copied();
+    match call {
+        "sum" => Ok(Some(terms.sum())),
+        "product" => Ok(Some(terms.product())),
+        "horner" => match second.parse::<u64>() {
+            Ok(x) => Ok(Some(terms.horner(F::from_u64(x)))),
+            Err(_) => Ok(None),
+        },
+        _ => Ok(None),
+    }
+}
+
+/// The product of so many minus ones with themselves, up to seventeen.
+fn dot_of_minus_ones<F: PrimeField64>(alloc: Global, count: &str) -> Result<Option<F>, AllocError> {
+    let Ok(count) = count.parse::<usize>() else {
+        return Ok(None);
     };
-    [
-        (x + y).as_canonical_u64(),
-        (x - y).as_canonical_u64(),
-        (x * y).as_canonical_u64(),
-        quotient.as_canonical_u64(),
-    ]
+    let mut values = Vec::new(alloc);
+    for _ in 0..count.min(17) {
+        values.push(F::neg_one())?;
+    }
+    Ok(Some(F::dot_product(&values, &values)))
 }
 
-/// Asserts the arithmetic of a table.
-fn assert_arithmetic<F: PrimeField64 + RingSums>(rt: &impl Abort, table: &PrimeTable) {
-    for row in table.results {
-        let (x, y, expected) = *row;
-        assert_eq!(rt; results(F::from_u64(x), F::from_u64(y)), expected);
+/// Whether the call has this answer; `Ok(None)` where a text can't be read, or names no call.
+fn agrees<F: TwoAdicField + PrimeField64 + RingSums>(
+    alloc: Global,
+    call: &str,
+    arguments: &str,
+    answer: &str,
+) -> Result<Option<bool>, AllocError> {
+    if let Some(number) = constant::<F>(call) {
+        return Ok(Some(lists(answer, &[number])));
     }
-    for row in table.totals {
-        let (numbers, expected) = *row;
-        let sum: F = numbers.iter().map(|x| F::from_u64(*x)).sum();
-        let product: F = numbers.iter().map(|x| F::from_u64(*x)).product();
-        assert!(rt; [sum.as_canonical_u64(), product.as_canonical_u64()] == expected);
-    }
-}
-
-/// Asserts that each polynomial has the value at the point.
-fn assert_polynomials<F: PrimeField64>(rt: &impl Abort, rows: &[Polynomial]) {
-    for row in rows {
-        let (coefficients, x, value) = *row;
-        let sum: F = coefficients
-            .iter()
-            .map(|c| F::from_u64(*c))
-            .horner(F::from_u64(x));
-        assert!(rt; sum.as_canonical_u64() == value);
+    let (first, second) = sides(arguments, '|');
+    let found: Option<F> = match call {
+        "sum" | "product" | "horner" => of_list(alloc, call, first, second)?,
+        "dot_product of minus ones" => dot_of_minus_ones(alloc, first)?,
+        _ => operation(call, first, second),
+    };
+    match found {
+        Some(x) => Ok(Some(lists(answer, &[x.as_canonical_u64()]))),
+        None => Ok(None),
     }
 }
 
-/// Asserts the constants and the two-adic generators of a table.
-fn assert_constants<F: TwoAdicField + PrimeField64>(rt: &impl Abort, table: &PrimeTable) {
-    assert!(rt; F::generator().as_canonical_u64() == table.generator);
-    assert!(rt; F::order() == Some(table.order as u128));
-    assert!(rt; F::ORDER_U64 == table.order);
-    assert!(rt; F::bits() == table.bits);
-    assert!(rt; F::TWO_ADICITY == table.two_adicity);
-    for row in table.generators {
-        let (bits, generator) = *row;
-        assert!(rt; bits <= F::TWO_ADICITY);
-        assert!(rt; F::two_adic_generator(bits).as_canonical_u64() == generator);
-    }
-}
-
-/// Asserts the dot products of the first 0, 1, 3, 4, 5 and 17 of the values with themselves.
-fn assert_dots<F: PrimeField64>(rt: &impl Abort, values: &[F], dots: [u64; 6]) {
-    for (i, count) in [0usize, 1, 3, 4, 5, 17].into_iter().enumerate() {
-        assert!(rt; count <= values.len());
-        let first = &values[..count];
-        assert!(rt; F::dot_product(first, first).as_canonical_u64() == dots[i]);
-    }
-}
-
-/// Asserts what a table says of a prime type, of which seventeen minus ones are given.
-pub fn assert_prime<F: TwoAdicField + PrimeField64 + RingSums>(
+/// Asserts the lines of a table.
+pub fn assert_calls<F: TwoAdicField + PrimeField64 + RingSums>(
     rt: &(impl Abort + AllocGlobal),
-    table: &PrimeTable,
-    polynomials: &[Polynomial],
-    cosets: &CosetTable,
-    minus_ones: &[F],
+    table: &str,
 ) -> Result<(), Fail> {
-    assert_dots(rt, minus_ones, table.dots);
-    assert_arithmetic::<F>(rt, table);
-    assert_constants::<F>(rt, table);
-    assert_polynomials::<F>(rt, polynomials);
-    assert_cosets::<F>(rt, rt.alloc(), cosets)
+    for line in table.lines() {
+        let (call, arguments, answer) = parts(line);
+        let agrees = agrees::<F>(rt.alloc(), call, arguments, answer)?;
+        assert_eq!(rt; agrees, Some(true), "{line}");
+    }
+    Ok(())
 }
 
-/// Asserts what a table says of a prime type with halves, and that the second number of each row is
-/// the half of the first.
-pub fn assert_odd_prime<F: TwoAdicField + PrimeField64 + RingSums>(
-    rt: &(impl Abort + AllocGlobal),
-    table: &PrimeTable,
-    polynomials: &[Polynomial],
-    cosets: &CosetTable,
-    minus_ones: &[F],
-    halves: &[(u64, u64)],
-) -> Result<(), Fail>
+/// Asserts that each line has a number and the half of its residue.
+pub fn assert_halves<F: PrimeField64>(rt: &impl Abort, table: &str)
     requires { Invertible F.ops (two F.ops) }
 {
-    for row in halves {
-        let (x, half) = *row;
-        assert_eq!(rt; F::from_u64(x).halve().as_canonical_u64(), half, "{x}");
-    }
-    assert_prime::<F>(rt, table, polynomials, cosets, minus_ones)
-}
-
-/// Powers, inverses and residues of a prime type: a base, an exponent and the power; a number and
-/// its inverse; integers and their residues.
-pub fn assert_small<F: PrimeField64>(
-    rt: &impl Abort,
-    powers: &[(u64, u64, u64)],
-    inverses: &[(u64, u64)],
-    of_i8: &[(i8, u64)],
-    of_u128: &[(u128, u64)],
-) {
-    for row in powers {
-        let (base, exponent, power) = *row;
-        assert!(rt; F::from_u64(base).exp_u64(exponent).as_canonical_u64() == power);
-    }
-    for row in inverses {
-        let (x, inverse) = *row;
-        assert!(rt; F::from_u64(x).try_inverse() == Some(F::from_u64(inverse)));
-    }
-    for row in of_i8 {
-        let (int, residue) = *row;
-        assert!(rt; F::from_i8(int).as_canonical_u64() == residue);
-    }
-    for row in of_u128 {
-        let (int, residue) = *row;
-        assert!(rt; F::from_u128(int).as_canonical_u64() == residue);
+    for line in table.lines() {
+        let (number, half) = sides(line, ';');
+        match number.parse::<u64>() {
+            Ok(x) => {
+                assert!(rt;
+                    lists(half, &[F::from_u64(x).halve().as_canonical_u64()]),
+                    "{line}"
+                );
+            }
+            Err(_) => assert!(rt; false, "{line}"),
+        }
     }
 }
 
-/// Asserts that each row has numbers and the bytes, or the words, of their residues.
+/// Asserts that each line has numbers and the bytes, or the words, of their residues.
 pub fn assert_streams<F: PrimeField64 + RawDataSerializable>(
     rt: &(impl Abort + AllocGlobal),
-    byte_rows: &[(&[u64], &[u8])],
-    word_rows: &[(&[u64], &[u64])],
+    table: &str,
 ) -> Result<(), Fail> {
-    for row in byte_rows {
-        let (items, bytes) = *row;
-        let values = items.iter().map(|x| F::from_u64(*x));
-        let stream: Vec<u8> = F::into_byte_stream(values).collect(rt.alloc())?;
-        assert!(rt; stream.as_slice() == bytes);
-    }
-    for row in word_rows {
-        let (items, words) = *row;
-        let values = items.iter().map(|x| F::from_u64(*x));
-        let stream: Vec<u64> = F::into_u64_stream(values).collect(rt.alloc())?;
-        assert!(rt; stream.as_slice() == words);
+    for line in table.lines() {
+        let (call, arguments, answer) = parts(line);
+        let items: Vec<F> = values(rt.alloc(), arguments)?;
+        let values = items.iter().copied();
+        match call {
+            "into_byte_stream" => {
+                let bytes: Vec<u8> = F::into_byte_stream(values).collect(rt.alloc())?;
+                let numbers: Vec<u64> = bytes.iter().map(|x| *x as u64).collect(rt.alloc())?;
+                assert!(rt; lists(answer, &numbers), "{line}");
+            }
+            "into_u64_stream" => {
+                let words: Vec<u64> = F::into_u64_stream(values).collect(rt.alloc())?;
+                assert!(rt; lists(answer, &words), "{line}");
+            }
+            _ => assert!(rt; false, "{line}"),
+        }
     }
     Ok(())
 }

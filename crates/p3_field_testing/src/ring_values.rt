@@ -3,6 +3,8 @@ ghost use Rattle.std.specs.Prelude.{◌≡◌, length};
 ghost use Rattle.p3_theory.specs.Rings.Ring.{Invertible};
 ghost use Rattle.p3_theory.specs.Rings.Multiples.{two};
 
+use crate::prime_values::{is_list, values};
+use crate::texts::{parts, sides};
 use p3_bench_prime::baby_bear::BabyBear;
 use p3_bench_prime::small::F17;
 use p3_field::{
@@ -10,6 +12,9 @@ use p3_field::{
     chunked_linear_combination, chunked_mixed_dot_product, dispatch_chunked_mixed_dot_product,
     exp_const_u64, sum_array,
 };
+use std::alloc::{AllocError, Global};
+use std::process::Abort;
+use std::test::Fail;
 
 /// The forms of zeros and ones of two residues: exclusive or, and not, the exclusive or of three
 /// ones, the check that a residue is zero or one, and both truth values.
@@ -64,12 +69,19 @@ fn names<F: PrimeField32>(x: u64) -> [u64; 5] {
     ]
 }
 
+/// Asserts the values that are worked for the order 17.
+fn assert_order_17<F: PrimeField32>(rt: &impl Abort)
+    requires { Invertible F.ops (two F.ops) }
+{
+    assert_eq!(rt; forms::<F>(3, 5), [12, 7, 1, 6, 1, 0]);
+    assert_eq!(rt; powers::<F>(3), [1, 6, 10, 16, 11, 9]);
+    assert_eq!(rt; halves::<F>(5, 11, 3), [11, 3, 11]);
+    assert_eq!(rt; names::<F>(20), [3, 3, 3, 0, 1]);
+}
+
 #[test]
 fn worked_values_of_order_17(rt: HostRuntime) {
-    assert_eq!(rt; forms::<F17>(3, 5), [12, 7, 1, 6, 1, 0]);
-    assert_eq!(rt; powers::<F17>(3), [1, 6, 10, 16, 11, 9]);
-    assert_eq!(rt; halves::<F17>(5, 11, 3), [11, 3, 11]);
-    assert_eq!(rt; names::<F17>(20), [3, 3, 3, 0, 1]);
+    assert_order_17::<F17>(&rt);
 }
 
 /// The sums of products of two lists, by the calls on algebras, in chunks and not, by the chunk
@@ -87,26 +99,72 @@ fn combinations<F: PrimeField64>(values: &[F], coefficients: &[F]) -> [u64; 6]
     ]
 }
 
-/// The residues of some numbers.
-fn residues<const N: usize>(numbers: [u32; N]) -> [BabyBear; N] {
-    let mut residues = [BabyBear::zero(); N];
-    for i in 0..N {
-        residues[i] = BabyBear::new(numbers[i]);
+/// Whether every call answers this sum of the products of two lists.
+fn are_sums<F: PrimeField64>(values: &[F], coefficients: &[F], sum: &str) -> bool {
+    if values.len() != coefficients.len() {
+        return false;
     }
-    residues
+    match sum.parse::<u64>() {
+        Ok(sum) => combinations(values, coefficients) == [sum; 6],
+        Err(_) => false,
+    }
 }
 
+/// Whether the list is this one after another is added to it.
+fn is_sum_of_slices<F: PrimeField64>(slice: &mut [F], other: &[F], sum: &str) -> bool {
+    if slice.len() != other.len() {
+        return false;
+    }
+    F::add_slices(slice, other);
+    is_list(sum, slice)
+}
+
+/// Whether the sum of a list of three values is this.
+fn is_sum_of_three<F: PrimeField64>(values: &[F], sum: &str) -> bool {
+    values.len() == 3 && is_list(sum, &[sum_array::<F, 3>(values)])
+}
+
+/// Whether the call on two lists has this answer.
+fn agrees<F: PrimeField64>(
+    alloc: Global,
+    call: &str,
+    arguments: &str,
+    answer: &str,
+) -> Result<bool, AllocError> {
+    let (left, right) = sides(arguments, '|');
+    let mut values_left: Vec<F> = values(alloc, left)?;
+    let values_right: Vec<F> = values(alloc, right)?;
+    match call {
+        "sums of products" => Ok(are_sums(&values_left, &values_right, answer)),
+        "add_slices" => Ok(is_sum_of_slices(&mut values_left, &values_right, answer)),
+        "sum_array 3" => Ok(is_sum_of_three(&values_left, answer)),
+        _ => Ok(false),
+    }
+}
+
+/// Asserts the lines of a table.
+fn assert_combinations<F: PrimeField64>(
+    rt: &(impl Abort + AllocGlobal),
+    table: &str,
+) -> Result<(), Fail> {
+    for line in table.lines() {
+        let (call, arguments, answer) = parts(line);
+        let agrees = agrees::<F>(rt.alloc(), call, arguments, answer)?;
+        assert!(rt; agrees, "{line}");
+    }
+    Ok(())
+}
+
+/// Sums of the products of two lists, a sum of lists and the sum of one list, over BabyBear.
+const COMBINATIONS: &str = "sums of products;2,3,5|7,11,13;112
+sum_array 3;2,3,5|;10
+sums of products;2,3,5,7|11,13,17,19;279
+sums of products;1,2,3,4,5,6,7,8,9,10|1,1,1,1,1,1,1,1,1,1;55
+sums of products;1,2,3,4,5,6,7,8|1,1,1,1,1,1,1,1;36
+add_slices;1,2,3,4,5,6,7,8,9,10|1,1,1,1,1,1,1,1,1,1;2,3,4,5,6,7,8,9,10,11
+sums of products;2,3,4,5,6,7,8,9,10,11|1,1,1,1,1,1,1,1,1,1;65";
+
 #[test]
-fn combinations_of_products(rt: HostRuntime) {
-    let three = residues([2, 3, 5]);
-    assert_eq!(rt; combinations(&three, &residues([7, 11, 13])), [112; 6]);
-    assert_eq!(rt; sum_array::<BabyBear, 3>(&three), BabyBear::new(10));
-    let four = residues([2, 3, 5, 7]);
-    assert_eq!(rt; combinations(&four, &residues([11, 13, 17, 19])), [279; 6]);
-    let ones = [BabyBear::one(); 10];
-    let mut to_ten = residues([1, 2, 3, 4, 5, 6, 7, 8, 9, 10]);
-    assert_eq!(rt; combinations(&to_ten, &ones), [55; 6]);
-    assert_eq!(rt; combinations(&to_ten[..8], &ones[..8]), [36; 6]);
-    BabyBear::add_slices(&mut to_ten, &ones);
-    assert_eq!(rt; combinations(&to_ten, &ones), [65; 6]);
+fn combinations_of_products(rt: HostRuntime) -> Result<(), Fail> {
+    assert_combinations::<BabyBear>(&rt, COMBINATIONS)
 }

@@ -1,12 +1,41 @@
 //! Runs of steps over registers: worked values, and where a run is refused.
+ghost use Rattle.std.specs.Prelude.{IsSome};
+ghost use Rattle.p3_runs.specs.FieldRuns.{OrdersGiven};
+
+use crate::prime_values::is_list;
 use p3_bench_prime::extensions::F17x2;
 use p3_bench_prime::small::F17;
 use p3_field::steps::{
     FieldStep, Step, StepFault, StepRefused, run_field_steps, run_steps, steps_fit,
 };
+use p3_field::{PrimeCharacteristicRing, PrimeField64};
+use std::process::Abort;
 
-#[test]
-fn a_run_over_a_ring(rt: HostRuntime) {
+/// Runs the steps where they fit the registers; whether they do.
+fn runs<R: PrimeCharacteristicRing>(regs: &mut [R], steps: &[Step]) -> bool {
+    let fit = steps_fit(steps, regs.len());
+    if fit {
+        run_steps(regs, steps);
+    }
+    fit
+}
+
+/// What a run answers, where its steps fit the registers.
+fn field_run<F: PrimeField64>(
+    regs: &mut [F],
+    steps: &[FieldStep],
+) -> Option<Result<(), StepRefused>>
+    requires { OrdersGiven F.size steps.now }
+{
+    if steps_fit(steps, regs.len()) {
+        Some(run_field_steps(regs, steps))
+    } else {
+        None
+    }
+}
+
+/// Asserts runs of steps, whose registers are given.
+fn assert_run<F: PrimeField64>(rt: &impl Abort, regs: &mut [F]) {
     let steps = [
         Step::Square { d: 1, a: 0 },
         Step::Add { d: 2, a: 0, b: 1 },
@@ -14,13 +43,72 @@ fn a_run_over_a_ring(rt: HostRuntime) {
         Step::Sub { d: 1, a: 1, b: 2 },
         Step::Neg { d: 2, a: 2 },
     ];
-    let mut regs = [F17::new(3), F17::new(0), F17::new(0)];
     assert!(rt; steps_fit(&steps, 3));
     assert!(rt; !steps_fit(&steps, 2));
-    if steps_fit(&steps, 3) {
-        run_steps(&mut regs, &steps);
-    }
-    assert_eq!(rt; regs, [F17::new(6), F17::new(14), F17::new(5)]);
+    assert!(rt; runs(regs, &steps));
+    assert!(rt; is_list("6,14,5", regs));
+}
+
+/// Asserts that the inverse of the second register is refused, and what the first one then holds.
+fn assert_refused_inverse<F: PrimeField64>(rt: &impl Abort, regs: &mut [F])
+    requires { IsSome F.size }
+{
+    let steps = [FieldStep::Inv { d: 0, a: 0 }, FieldStep::Inv { d: 1, a: 1 }];
+    assert!(rt; steps_fit(&steps, 2));
+    assert!(rt; !steps_fit(&steps, 1));
+    let refused = StepRefused {
+        index: 1,
+        kind: StepFault::NoInverse,
+    };
+    assert_eq!(rt; field_run(regs, &steps), Some(Err(refused)));
+    assert!(rt; is_list("9,0", regs));
+}
+
+/// Asserts that the root of the register is refused, and that it holds what it did.
+fn assert_refused_root<F: PrimeField64>(rt: &impl Abort, regs: &mut [F])
+    requires { IsSome F.size }
+{
+    let steps = [FieldStep::Sqrt { d: 0, a: 0 }];
+    let refused = StepRefused {
+        index: 0,
+        kind: StepFault::NoRoot,
+    };
+    assert_eq!(rt; field_run(regs, &steps), Some(Err(refused)));
+    assert!(rt; is_list("3", regs));
+}
+
+/// Asserts a run over a field.
+fn assert_field_run<F: PrimeField64>(rt: &impl Abort, regs: &mut [F])
+    requires { IsSome F.size }
+{
+    let steps = [
+        FieldStep::Add { d: 0, a: 0, b: 0 },
+        FieldStep::Sqrt { d: 1, a: 0 },
+        FieldStep::Square { d: 1, a: 1 },
+        FieldStep::Inv { d: 0, a: 0 },
+    ];
+    assert_eq!(rt; field_run(regs, &steps), Some(Ok(())));
+    assert!(rt; is_list("9,2", regs));
+}
+
+#[test]
+fn runs_over_a_ring(rt: HostRuntime) {
+    assert_run(&rt, &mut [F17::new(3), F17::new(0), F17::new(0)]);
+}
+
+#[test]
+fn an_inverse_is_refused(rt: HostRuntime) {
+    assert_refused_inverse(&rt, &mut [F17::new(2), F17::new(0)]);
+}
+
+#[test]
+fn a_root_is_refused(rt: HostRuntime) {
+    assert_refused_root(&rt, &mut [F17::new(3)]);
+}
+
+#[test]
+fn a_run_over_a_field(rt: HostRuntime) {
+    assert_field_run(&rt, &mut [F17::new(1), F17::new(0)]);
 }
 
 #[test]
@@ -33,59 +121,7 @@ fn a_run_over_an_extension(rt: HostRuntime) {
         Step::Mul2Exp { d: 0, a: 0, e: 3 },
         Step::Double { d: 1, a: 1 },
     ];
-    if steps_fit(&steps, 2) {
-        run_steps(&mut regs, &steps);
-    }
-    assert_eq!(rt;
-        regs,
-        [
-            F17x2::new([F17::new(3), F17::new(12)]),
-            F17x2::new([F17::new(5), F17::new(3)]),
-        ]
-    );
-}
-
-#[test]
-fn an_inverse_is_refused(rt: HostRuntime) {
-    let steps = [FieldStep::Inv { d: 0, a: 0 }, FieldStep::Inv { d: 1, a: 1 }];
-    let mut regs = [F17::new(2), F17::new(0)];
-    assert!(rt; steps_fit(&steps, 2));
-    assert!(rt; !steps_fit(&steps, 1));
-    let refused = StepRefused {
-        index: 1,
-        kind: StepFault::NoInverse,
-    };
-    if steps_fit(&steps, 2) {
-        assert_eq!(rt; run_field_steps(&mut regs, &steps), Err(refused));
-    }
-    assert_eq!(rt; regs, [F17::new(9), F17::new(0)]);
-}
-
-#[test]
-fn a_root_is_refused(rt: HostRuntime) {
-    let steps = [FieldStep::Sqrt { d: 0, a: 0 }];
-    let mut regs = [F17::new(3)];
-    let refused = StepRefused {
-        index: 0,
-        kind: StepFault::NoRoot,
-    };
-    if steps_fit(&steps, 1) {
-        assert_eq!(rt; run_field_steps(&mut regs, &steps), Err(refused));
-    }
-    assert_eq!(rt; regs, [F17::new(3)]);
-}
-
-#[test]
-fn a_run_over_a_field(rt: HostRuntime) {
-    let steps = [
-        FieldStep::Add { d: 0, a: 0, b: 0 },
-        FieldStep::Sqrt { d: 1, a: 0 },
-        FieldStep::Square { d: 1, a: 1 },
-        FieldStep::Inv { d: 0, a: 0 },
-    ];
-    let mut regs = [F17::new(1), F17::new(0)];
-    if steps_fit(&steps, 2) {
-        assert_eq!(rt; run_field_steps(&mut regs, &steps), Ok(()));
-    }
-    assert_eq!(rt; regs, [F17::new(9), F17::new(2)]);
+    assert!(rt; runs(&mut regs, &steps));
+    assert!(rt; regs[0].value == [F17::new(3), F17::new(12)]);
+    assert!(rt; regs[1].value == [F17::new(5), F17::new(3)]);
 }

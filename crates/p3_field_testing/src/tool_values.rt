@@ -1,16 +1,19 @@
-//! Worked values of the exponentiation chains and the helpers.
+//! Worked values of the exponentiation chains and the helpers, generic over the field.
 
+use crate::prime_values::{is_list, values};
 use p3_bench_prime::baby_bear::BabyBear;
 use p3_bench_prime::small::F17;
 use p3_field::exponentiation::{
     exp_1420470955, exp_1717986917, exp_1725656503, exp_10540996611094048183,
 };
 use p3_field::{
-    HornerIter, PrimeCharacteristicRing, PrimeField64, RingSums, add_scaled_slice_in_place,
-    cyclic_subgroup_coset_known_order, cyclic_subgroup_known_order, dot_product, field_to_array,
-    halve_u32, halve_u64, par_add_scaled_slice_in_place, par_scale_slice_in_place,
-    scale_slice_in_place_single_core,
+    HornerIter, Packable, PrimeCharacteristicRing, PrimeField64, RingSums,
+    add_scaled_slice_in_place, cyclic_subgroup_coset_known_order, cyclic_subgroup_known_order,
+    dot_product, field_to_array, halve_u32, halve_u64, par_add_scaled_slice_in_place,
+    par_scale_slice_in_place, scale_slice_in_place_single_core,
 };
+use std::process::Abort;
+use std::test::Fail;
 
 /// The four fixed powers of a residue, the sum of a cyclic subgroup of order 4, and the product of
 /// three items of its coset.
@@ -40,46 +43,53 @@ fn powers_and_subgroups_of_order_17(rt: HostRuntime) {
     assert_eq!(rt; halve_u64::<17>(5), 11);
 }
 
-#[test]
-fn polynomials_at_a_point(rt: HostRuntime) {
-    let coefficients = [3, 5, 7, 11, 13];
-    let value: BabyBear = coefficients
-        .iter()
-        .map(|c| BabyBear::from_u32(*c))
-        .horner(BabyBear::new(4));
-    assert_eq!(rt; value, BabyBear::new(4167));
-    let coefficients = [BabyBear::new(2), BabyBear::new(3), BabyBear::new(5)];
-    let value = coefficients
-        .iter()
-        .copied()
-        .horner_acc(BabyBear::new(73), BabyBear::new(6));
-    assert_eq!(rt; value, BabyBear::new(15968));
+/// Asserts values of polynomials at a point, and the dot product of two lists of which one is longer.
+fn assert_sums<F: PrimeField64 + RingSums>(rt: &(impl Abort + AllocGlobal)) -> Result<(), Fail> {
+    let coefficients: Vec<F> = values(rt.alloc(), "3,5,7,11,13")?;
+    let value: F = coefficients.iter().copied().horner(F::from_u64(4));
+    assert!(rt; value.as_canonical_u64() == 4167);
+    let coefficients: Vec<F> = values(rt.alloc(), "2,3,5")?;
+    let value: F = coefficients.iter().copied().horner_acc(F::from_u64(73), F::from_u64(6));
+    assert!(rt; value.as_canonical_u64() == 15968);
+    let left: Vec<F> = values(rt.alloc(), "2,4")?;
+    let right: Vec<F> = values(rt.alloc(), "3,5,7")?;
+    let sum: F = dot_product(left.iter().copied(), right.iter().copied());
+    assert!(rt; sum.as_canonical_u64() == 26);
+    Ok(())
+}
+
+/// Asserts what the calls make of a slice, one after the other: three times another added twice, and
+/// three times itself twice.
+fn assert_slices<F: PrimeField64 + Packable>(rt: &impl Abort, slice: &mut [F], other: &[F]) {
+    let scale = F::from_u64(3);
+    assert!(rt; slice.len() == other.len());
+    add_scaled_slice_in_place::<F, F>(slice, other, scale);
+    assert!(rt; is_list("31,62", slice));
+    par_add_scaled_slice_in_place::<F, F>(slice, other, scale);
+    assert!(rt; is_list("61,122", slice));
+    scale_slice_in_place_single_core::<F, F>(slice, scale);
+    assert!(rt; is_list("183,366", slice));
+    par_scale_slice_in_place::<F, F>(slice, scale);
+    assert!(rt; is_list("549,1098", slice));
+}
+
+/// Asserts an array of a value and zeros.
+fn assert_array<F: PrimeField64>(rt: &impl Abort, array: [F; 4]) {
+    assert!(rt; is_list("9,0,0,0", &array));
+}
+
+/// Asserts the calls of the helpers.
+fn assert_helpers<F: PrimeField64 + RingSums + Packable>(
+    rt: &(impl Abort + AllocGlobal),
+) -> Result<(), Fail> {
+    let mut slice: Vec<F> = values(rt.alloc(), "1,2")?;
+    let other: Vec<F> = values(rt.alloc(), "10,20")?;
+    assert_slices(rt, &mut slice, &other);
+    assert_sums::<F>(rt)
 }
 
 #[test]
-fn slices_in_place(rt: HostRuntime) {
-    let other = [BabyBear::new(10), BabyBear::new(20)];
-    let scale = BabyBear::new(3);
-    let mut slice = [BabyBear::new(1), BabyBear::new(2)];
-    add_scaled_slice_in_place::<BabyBear, BabyBear>(&mut slice, &other, scale);
-    assert_eq!(rt; slice, [BabyBear::new(31), BabyBear::new(62)]);
-    par_add_scaled_slice_in_place::<BabyBear, BabyBear>(&mut slice, &other, scale);
-    assert_eq!(rt; slice, [BabyBear::new(61), BabyBear::new(122)]);
-    scale_slice_in_place_single_core::<BabyBear, BabyBear>(&mut slice, scale);
-    assert_eq!(rt; slice, [BabyBear::new(183), BabyBear::new(366)]);
-    par_scale_slice_in_place::<BabyBear, BabyBear>(&mut slice, scale);
-    assert_eq!(rt; slice, [BabyBear::new(549), BabyBear::new(1098)]);
-}
-
-#[test]
-fn arrays_and_sums(rt: HostRuntime) {
-    let zero = BabyBear::zero();
-    assert_eq!(rt;
-        field_to_array::<BabyBear, 4>(BabyBear::new(9)),
-        [BabyBear::new(9), zero, zero, zero]
-    );
-    let left = [BabyBear::new(2), BabyBear::new(4)];
-    let right = [BabyBear::new(3), BabyBear::new(5), BabyBear::new(7)];
-    let sum: BabyBear = dot_product(left.iter().copied(), right.iter().copied());
-    assert_eq!(rt; sum, BabyBear::new(26));
+fn helpers(rt: HostRuntime) -> Result<(), Fail> {
+    assert_array(&rt, field_to_array::<BabyBear, 4>(BabyBear::new(9)));
+    assert_helpers::<BabyBear>(&rt)
 }

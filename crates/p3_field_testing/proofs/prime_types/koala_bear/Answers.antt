@@ -1,7 +1,0 @@
-use Rattle.std.proofs.Common.{refl}
-use Rattle.p3_bench_prime.specs.Elements.{is}
-use Rattle.p3_bench_residues.specs.Halves.{two_has_inverse}
-use Rattle.p3_field_testing.proofs.prime_types.koala_bear.Goals as goal
-
-pub assert_odd_prime-requires : goal.assert_odd_prime-requires
-assert_odd_prime-requires g c = two_has_inverse (is _) refl

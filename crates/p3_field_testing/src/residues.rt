@@ -1,0 +1,118 @@
+//! Residues of integers, their order, hash and text.
+
+use p3_bench_prime::goldilocks::Goldilocks;
+use p3_bench_prime::small::{F17, F31};
+use p3_field::integers::QuotientMap;
+use p3_field::{Algebra, PrimeCharacteristicRing, PrimeField32, PrimeField64, PrimeFieldBounds};
+use std::alloc::{AllocError, Global};
+use std::collections::hash_map::DefaultHasher;
+use std::hash::{Hash, Hasher};
+use std::process::Abort;
+use std::test::Fail;
+
+fn hash_of<T: Hash>(x: &T) -> u64 {
+    let mut hasher = DefaultHasher::new();
+    x.hash(&mut hasher);
+    hasher.finish()
+}
+
+/// A field element plus one of the algebra.
+fn mixed<F: PrimeCharacteristicRing, A: Algebra<F>>(x: A, f: F) -> A {
+    x + f
+}
+
+/// Whether the value is the residue of this number, and is written as it.
+fn is_written<F: PrimeFieldBounds>(alloc: Global, x: F, number: &str) -> Result<bool, AllocError> {
+    let text = format!(in alloc; "{x}")?;
+    let debug = format!(in alloc; "{x:?}")?;
+    Ok(text.as_str() == number && debug.as_str() == number)
+}
+
+/// Asserts residues modulo 17 of integers of several types.
+fn assert_integers<F: PrimeField32>(rt: &impl Abort) {
+    let residue = <F as QuotientMap<i8>>::from_int(-1);
+    assert!(rt; residue.as_canonical_u64() == 16);
+    let residue = <F as QuotientMap<u128>>::from_int(u128::MAX);
+    assert!(rt; residue.as_canonical_u32() == 0);
+    let residue = <F as QuotientMap<i128>>::from_int(i128::MIN);
+    assert!(rt; residue.as_canonical_biguint() == 8);
+    match <F as QuotientMap<u8>>::from_canonical_checked(16) {
+        Some(residue) => assert!(rt; residue.as_canonical_u64() == 16),
+        None => assert!(rt; false),
+    }
+    assert!(rt; <F as QuotientMap<u8>>::from_canonical_checked(17).is_none());
+    assert!(rt; <F as QuotientMap<i32>>::from_canonical_checked(-1).is_none());
+    assert!(rt; F::ORDER_U32 == 17);
+    let sum = mixed(F::from_u64(9), F::from_u64(10));
+    assert!(rt; sum == F::two());
+}
+
+/// Asserts the order, the hash and the text of residues modulo 17, of which 17, 20 and 33 are given, and
+/// 16 as a canonical value.
+fn assert_values<F: PrimeField64 + PrimeFieldBounds>(
+    rt: &(impl Abort + AllocGlobal),
+    residues: [F; 4],
+) -> Result<(), Fail> {
+    let three = F::from_u64(3);
+    assert!(rt; F::from_u64(16) > three);
+    assert!(rt; residues[0] < three);
+    assert!(rt; residues[1] == three);
+    assert!(rt; hash_of(&residues[1]) == hash_of(&three));
+    assert!(rt; residues[2].as_canonical_u64() == 16);
+    assert!(rt; residues[3] == residues[2]);
+    let written = is_written(rt.alloc(), F::neg_one(), "16")?;
+    assert!(rt; written);
+    Ok(())
+}
+
+#[test]
+fn residues_of_order_17(rt: HostRuntime) -> Result<(), Fail> {
+    assert_integers::<F17>(&rt);
+    assert!(rt; F17::from_prime_subfield(F17::new(19)) == F17::two());
+    let sixteen = F17::from_canonical_unchecked(16usize);
+    assert_values(&rt, [F17::new(17), F17::new(20), F17::new(33), sixteen])
+}
+
+/// Asserts that the text of a value is its canonical number, whatever the formatter is told of its form
+/// and width.
+fn assert_texts<F: PrimeField64>(
+    rt: &(impl Abort + AllocGlobal),
+    order: u64,
+) -> Result<(), Fail> {
+    for n in 0..order {
+        let number = format!(in rt.alloc(); "{n}")?;
+        let x = F::from_u64(n);
+        assert!(rt; format!(in rt.alloc(); "{x}")?.as_str() == number.as_str());
+        assert!(rt; format!(in rt.alloc(); "{x:#}")?.as_str() == number.as_str());
+        assert!(rt; format!(in rt.alloc(); "{x:>8}")?.as_str() == number.as_str());
+    }
+    Ok(())
+}
+
+#[test]
+fn texts_of_residues(rt: HostRuntime) -> Result<(), Fail> {
+    assert_texts::<F31>(&rt, 31)
+}
+
+/// Asserts residues of Goldilocks, of which that of 2^64 - 1 is given, and 2^32 - 2 as a canonical value.
+fn assert_goldilocks<F: PrimeField64 + PrimeFieldBounds>(
+    rt: &(impl Abort + AllocGlobal),
+    greatest: F,
+    wrapped: F,
+) -> Result<(), Fail> {
+    let x = <F as QuotientMap<i128>>::from_int(-1);
+    let written = is_written(rt.alloc(), x, "18446744069414584320")?;
+    assert!(rt; written);
+    assert!(rt; greatest.to_unique_u64() == 4294967294);
+    assert!(rt; greatest == wrapped);
+    assert!(rt; F::default() < F::one());
+    assert!(rt; hash_of(&greatest) == hash_of(&wrapped));
+    assert!(rt; F::from_u64(7).exp_u64(9223372034707292160) == F::neg_one());
+    Ok(())
+}
+
+#[test]
+fn residues_of_goldilocks(rt: HostRuntime) -> Result<(), Fail> {
+    let wrapped = Goldilocks::from_canonical_unchecked(4294967294u64);
+    assert_goldilocks(&rt, Goldilocks::new(u64::MAX), wrapped)
+}
