@@ -51,34 +51,41 @@ fn operation<T: Tabled>(call: &str, x: T, second: &str) -> Option<T> {
     }
 }
 
-/// Whether the call has this answer; `Ok(None)` where a text can't be read, or names no call.
-fn agrees<T: Tabled>(
-    alloc: Global,
-    call: &str,
-    arguments: &str,
-    answer: &str,
-) -> Result<Option<bool>, AllocError>
+/// Whether the text is of the element of the base that a value is, or says that it is none.
+fn is_base(found: Option<u64>, answer: &str) -> bool {
+    match found {
+        Some(number) => lists(answer, &[number]),
+        None => answer == "None",
+    }
+}
+
+/// Whether a call on a value, which takes no memory, has this answer; none where a text can't be read, or
+/// names no call.
+fn value_agrees<T: Tabled>(call: &str, x: T, second: &str, answer: &str) -> Option<bool>
     requires { IsSome T.Tabled.size }
 {
+    match call {
+        "as_base" => Some(is_base(x.base_value(), answer)),
+        "try_inverse" => Some(is_answer(x.inverse(), answer)),
+        "counted" => Some(is_counted(x.counted(), answer)),
+        _ => Some(operation(call, x, second)?.stands_in(answer)),
+    }
+}
+
+/// Whether the call of a line has its answer; `Ok(None)` where a text can't be read, or names no call.
+fn agrees<T: Tabled>(alloc: Global, line: &str) -> Result<Option<bool>, AllocError>
+    requires { IsSome T.Tabled.size }
+{
+    let (call, arguments, answer) = parts(line);
     let (first, second) = sides(arguments, '|');
     let Some(x) = T::of(first) else {
         return Ok(None);
     };
-    let agrees = match call {
-        "galois_orbit" => is_orbit(alloc, x, answer)?,
-        "Display" => x.text(alloc)?.as_str() == answer,
-        "as_base" => match x.base_value() {
-            Some(number) => lists(answer, &[number]),
-            None => answer == "None",
-        },
-        "try_inverse" => is_answer(x.inverse(), answer),
-        "counted" => is_counted(x.counted(), answer),
-        _ => match operation(call, x, second) {
-            Some(y) => y.stands_in(answer),
-            None => return Ok(None),
-        },
-    };
-    Ok(Some(agrees))
+    match call {
+        "galois_orbit" => Ok(Some(is_orbit(alloc, x, answer)?)),
+        "Display" => Ok(Some(x.text(alloc)?.as_str() == answer)),
+        _ => Ok(value_agrees(call, x, second, answer)),
+    }
 }
 
 /// Asserts the lines of a table.
@@ -86,17 +93,16 @@ pub fn assert_calls<T: Tabled>(rt: &(impl Abort + AllocGlobal), table: &str) -> 
     requires { IsSome T.Tabled.size }
 {
     for line in table.lines() {
-        let (call, arguments, answer) = parts(line);
-        let agrees = agrees::<T>(rt.alloc(), call, arguments, answer)?;
-        assert_eq!(rt; agrees, Some(true), "{line}");
+        assert!(rt; agrees::<T>(rt.alloc(), line)? == Some(true), "{line}");
     }
     Ok(())
 }
 
-/// Whether a call of two-adic fields has this answer.
-fn two_adic_agrees<T: TwoAdicTabled>(call: &str, argument: &str, answer: &str) -> Option<bool>
+/// Whether the call of a line on a two-adic field has its answer.
+fn two_adic_agrees<T: TwoAdicTabled>(line: &str) -> Option<bool>
     requires { IsSome T.Tabled.size }
 {
+    let (call, argument, answer) = parts(line);
     match call {
         "TWO_ADICITY" => Some(answer.parse::<usize>().ok()? == T::two_adicity()),
         "two_adic_generator" => {
@@ -113,12 +119,7 @@ pub fn assert_two_adic<T: TwoAdicTabled>(rt: &impl Abort, table: &str)
     requires { IsSome T.Tabled.size }
 {
     for line in table.lines() {
-        let (call, argument, answer) = parts(line);
-        assert_eq!(rt;
-            two_adic_agrees::<T>(call, argument, answer),
-            Some(true),
-            "{line}"
-        );
+        assert!(rt; two_adic_agrees::<T>(line) == Some(true), "{line}");
     }
 }
 
@@ -134,23 +135,25 @@ fn values<T: OfText>(alloc: Global, text: &str) -> Result<Option<Vec<T>>, AllocE
     Ok(Some(values))
 }
 
+/// Whether a line has values and the words of their bytes.
+fn is_stream<T: RawDataSerializable + OfText>(alloc: Global, line: &str) -> Result<bool, AllocError> {
+    let (call, arguments, answer) = parts(line);
+    match values::<T>(alloc, arguments)? {
+        Some(items) if call == "into_u64_stream" => {
+            let stream: Vec<u64> = T::into_u64_stream(items.iter().copied()).collect(alloc)?;
+            Ok(lists(answer, &stream))
+        }
+        _ => Ok(false),
+    }
+}
+
 /// Asserts that each line has values and the words of their bytes.
 pub fn assert_streams<T: RawDataSerializable + OfText>(
     rt: &(impl Abort + AllocGlobal),
     table: &str,
 ) -> Result<(), Fail> {
     for line in table.lines() {
-        let (call, arguments, answer) = parts(line);
-        assert!(rt; call == "into_u64_stream");
-        match values::<T>(rt.alloc(), arguments)? {
-            Some(items) => {
-                let stream: Vec<u64> = T::into_u64_stream(items.iter().copied()).collect(
-                    rt.alloc(),
-                )?;
-                assert!(rt; lists(answer, &stream), "{line}");
-            }
-            None => assert!(rt; false, "{line}"),
-        }
+        assert!(rt; is_stream::<T>(rt.alloc(), line)?, "{line}");
     }
     Ok(())
 }

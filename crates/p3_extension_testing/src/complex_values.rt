@@ -114,8 +114,36 @@ impl<F: HasTwoAdicComplexBinomialExtension<2> + Canonical> ComplexCalls for Comp
     }
 }
 
-/// Whether the call has this answer; none where a text can't be read, or names no call.
-fn agrees<T: ComplexCalls>(call: &str, arguments: &str, answer: &str) -> Option<bool> {
+/// Whether a call on a value has this answer.
+fn value_agrees<T: ComplexCalls>(call: &str, x: T, second: &str, answer: &str) -> Option<bool> {
+    if let Some(number) = x.in_base(call) {
+        return Some(lists(answer, &[number]));
+    }
+    if call == "to_array" {
+        return Some(lists(answer, &x.coefficients()));
+    }
+    let y = T::of(second).unwrap_or(x);
+    Some(lists(answer, &x.operation(call, y)?.coefficients()))
+}
+
+/// Whether a constant is this.
+fn constant_agrees<T: ComplexCalls>(
+    call: &str,
+    first: &str,
+    second: &str,
+    answer: &str,
+) -> Option<bool> {
+    let bits = first.parse::<usize>().unwrap_or(0);
+    let found = match second.parse::<usize>() {
+        Ok(index) if call == "complex_ext_two_adic_generator" => T::tower_generator(bits, index),
+        _ => T::constant(call, bits),
+    };
+    Some(lists(answer, &found?.coefficients()))
+}
+
+/// Whether the call of a line has its answer; none where a text can't be read, or names no call.
+fn agrees<T: ComplexCalls>(line: &str) -> Option<bool> {
+    let (call, arguments, answer) = parts(line);
     if let Some(name) = T::name(call) {
         return Some(name == answer);
     }
@@ -123,31 +151,16 @@ fn agrees<T: ComplexCalls>(call: &str, arguments: &str, answer: &str) -> Option<
         return Some(answer.parse::<usize>().ok()? == count);
     }
     let (first, second) = sides(arguments, '|');
-    if let Some(x) = T::of(first) {
-        if let Some(number) = x.in_base(call) {
-            return Some(lists(answer, &[number]));
-        }
-        if call == "to_array" {
-            return Some(lists(answer, &x.coefficients()));
-        }
-        let y = T::of(second).unwrap_or(x);
-        return Some(lists(answer, &x.operation(call, y)?.coefficients()));
+    match T::of(first) {
+        Some(x) => value_agrees(call, x, second, answer),
+        None => constant_agrees::<T>(call, first, second, answer),
     }
-    let bits = first.parse::<usize>().unwrap_or(0);
-    let found = match call {
-        "complex_ext_two_adic_generator" => {
-            T::tower_generator(bits, second.parse::<usize>().ok()?)
-        }
-        _ => T::constant(call, bits),
-    };
-    Some(lists(answer, &found?.coefficients()))
 }
 
 /// Asserts the lines of a table.
 fn assert_calls<T: ComplexCalls>(rt: &impl Abort, table: &str) {
     for line in table.lines() {
-        let (call, arguments, answer) = parts(line);
-        assert_eq!(rt; agrees::<T>(call, arguments, answer), Some(true), "{line}");
+        assert!(rt; agrees::<T>(line) == Some(true), "{line}");
     }
 }
 

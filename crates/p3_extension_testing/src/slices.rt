@@ -1,6 +1,7 @@
 //! Worked products and squares over slices. A line is the call with its degree, two lists, what the
 //! result's list holds before, and W, with bars between them, and what it holds afterwards.
 
+use crate::values::{base_values, is_list};
 use p3_bench_prime::form::{Form, Plain};
 use p3_bench_prime::fp::Fp;
 use p3_bench_prime::small::{M17, M31};
@@ -8,8 +9,8 @@ use p3_field::extension::{
     binomial_mul, binomial_square, cubic_square, octic_mul, quartic_mul, quintic_mul,
     quintic_square, trinomial_cubic_mul, trinomial_quintic_mul, vector_add, vector_sub,
 };
-use p3_field::{PrimeCharacteristicRing, PrimeField64};
-use p3_field_testing::texts::{entries, number_at, parts};
+use p3_field::PrimeCharacteristicRing;
+use p3_field_testing::texts::parts;
 use std::alloc::{AllocError, Global};
 use std::process::Abort;
 use std::test::Fail;
@@ -31,64 +32,63 @@ quintic_mul 5;0,0,0,0,1|0,0,1,0,0|1,1,1,1,1|3;0,3,0,0,0
 trinomial_cubic_mul 3;0,0,1|0,0,1|1,1,1|;0,1,1
 cubic_square 3;0,0,1||0,1,1|;0,1,1";
 
-/// The residues of a text.
-fn residues<W: Form<u32>>(alloc: Global, text: &str) -> Result<Vec<Fp<W>>, AllocError> {
-    let mut residues = Vec::new(alloc);
-    for word in text.split(',') {
-        if let Ok(number) = word.parse::<u64>() {
-            residues.push(Fp::<W>::from_u64(number))?;
-        }
-    }
-    Ok(residues)
-}
-
-/// Whether the text is of these residues.
-fn is_list<W: Form<u32>>(text: &str, residues: &[Fp<W>]) -> bool {
-    for i in 0..residues.len() {
-        if number_at(text, i) != Some(residues[i].as_canonical_u64()) {
-            return false;
-        }
-    }
-    entries(text) == residues.len()
-}
-
-/// Carries out a product of lists of equal lengths; whether there is one of that name and length.
-fn product<W: Form<u32>>(
-    call: &str,
-    a: &[Fp<W>],
-    b: &[Fp<W>],
-    res: &mut [Fp<W>],
-    w: Fp<W>,
-) -> bool {
-    if b.len() != a.len() || res.len() != a.len() {
-        return false;
-    }
+/// Carries out a product of lists of one length by `X^D = w`; whether there is one of that name and
+/// length.
+fn binomial_product<F: PrimeCharacteristicRing>(call: &str, a: &[F], b: &[F], res: &mut [F], w: F) -> bool {
     match call {
-        "binomial_mul 4" if a.len() == 4 => binomial_mul::<Fp<W>, Fp<W>, Fp<W>, 4>(a, b, res, w),
-        "binomial_mul 6" if a.len() == 6 => binomial_mul::<Fp<W>, Fp<W>, Fp<W>, 6>(a, b, res, w),
-        "quartic_mul 4" if a.len() == 4 => quartic_mul(a, b, res, w),
-        "quintic_mul 5" if a.len() == 5 => quintic_mul(a, b, res, w),
-        "octic_mul 8" if a.len() == 8 => octic_mul(a, b, res, w),
-        "trinomial_quintic_mul 5" if a.len() == 5 => trinomial_quintic_mul(a, b, res),
-        "trinomial_cubic_mul 3" if a.len() == 3 => trinomial_cubic_mul(a, b, res),
+        "binomial_mul 4" if a.len() == 4 && b.len() == 4 && res.len() == 4 => {
+            binomial_mul::<F, F, F, 4>(a, b, res, w)
+        }
+        "binomial_mul 6" if a.len() == 6 && b.len() == 6 && res.len() == 6 => {
+            binomial_mul::<F, F, F, 6>(a, b, res, w)
+        }
+        "quartic_mul 4" if a.len() == 4 && b.len() == 4 && res.len() == 4 => {
+            quartic_mul(a, b, res, w)
+        }
+        "quintic_mul 5" if a.len() == 5 && b.len() == 5 && res.len() == 5 => {
+            quintic_mul(a, b, res, w)
+        }
+        "octic_mul 8" if a.len() == 8 && b.len() == 8 && res.len() == 8 => octic_mul(a, b, res, w),
+        _ => return false,
+    }
+    true
+}
+
+/// The same by a trinomial.
+fn trinomial_product<F: PrimeCharacteristicRing>(call: &str, a: &[F], b: &[F], res: &mut [F]) -> bool {
+    match call {
+        "trinomial_quintic_mul 5" if a.len() == 5 && b.len() == 5 && res.len() == 5 => {
+            trinomial_quintic_mul(a, b, res)
+        }
+        "trinomial_cubic_mul 3" if a.len() == 3 && b.len() == 3 && res.len() == 3 => {
+            trinomial_cubic_mul(a, b, res)
+        }
         _ => return false,
     }
     true
 }
 
 /// Carries out a square; whether there is one of that name and length.
-fn square<W: Form<u32>>(call: &str, a: &[Fp<W>], res: &mut [Fp<W>], w: Fp<W>) -> bool {
-    if res.len() != a.len() {
-        return false;
-    }
+fn square<F: PrimeCharacteristicRing>(call: &str, a: &[F], res: &mut [F], w: F) -> bool {
     match call {
-        "binomial_square 4" if a.len() == 4 => binomial_square::<Fp<W>, Fp<W>, 4>(a, res, w),
-        "binomial_square 6" if a.len() == 6 => binomial_square::<Fp<W>, Fp<W>, 6>(a, res, w),
-        "quintic_square 5" if a.len() == 5 => quintic_square(a, res),
-        "cubic_square 3" if a.len() == 3 => cubic_square(a, res),
+        "binomial_square 4" if a.len() == 4 && res.len() == 4 => {
+            binomial_square::<F, F, 4>(a, res, w)
+        }
+        "binomial_square 6" if a.len() == 6 && res.len() == 6 => {
+            binomial_square::<F, F, 6>(a, res, w)
+        }
+        "quintic_square 5" if a.len() == 5 && res.len() == 5 => quintic_square(a, res),
+        "cubic_square 3" if a.len() == 3 && res.len() == 3 => cubic_square(a, res),
         _ => return false,
     }
     true
+}
+
+/// Carries out a product or a square; whether there is one of that name and length.
+fn product<F: PrimeCharacteristicRing>(call: &str, a: &[F], b: &[F], res: &mut [F], w: F) -> bool {
+    binomial_product(call, a, b, res, w)
+        || trinomial_product(call, a, b, res)
+        || square(call, a, res, w)
 }
 
 /// Writes the sum or the difference of two pairs; whether it is one of them.
@@ -108,29 +108,22 @@ fn vector<W: Form<u32>>(call: &str, a: &[Fp<W>], b: &[Fp<W>], res: &mut [Fp<W>])
     true
 }
 
-/// Whether the call makes the result's list what the answer says.
-fn agrees<W: Form<u32>>(
-    alloc: Global,
-    call: &str,
-    arguments: &str,
-    answer: &str,
-) -> Result<bool, AllocError> {
+/// Whether the call of a line makes the result's list what the answer says.
+fn agrees<W: Form<u32>>(alloc: Global, line: &str) -> Result<bool, AllocError> {
+    let (call, arguments, answer) = parts(line);
     let mut sides = arguments.split('|');
-    let a = residues::<W>(alloc, sides.next().unwrap_or(""))?;
-    let b = residues::<W>(alloc, sides.next().unwrap_or(""))?;
-    let mut res = residues::<W>(alloc, sides.next().unwrap_or(""))?;
+    let a: Vec<Fp<W>> = base_values(alloc, sides.next().unwrap_or(""))?;
+    let b: Vec<Fp<W>> = base_values(alloc, sides.next().unwrap_or(""))?;
+    let mut res: Vec<Fp<W>> = base_values(alloc, sides.next().unwrap_or(""))?;
     let w = Fp::<W>::from_u64(sides.next().unwrap_or("").parse::<u64>().unwrap_or(0));
-    let done = product(call, &a, &b, &mut res, w)
-        || square(call, &a, &mut res, w)
-        || vector(call, &a, &b, &mut res);
+    let done = product(call, &a, &b, &mut res, w) || vector(call, &a, &b, &mut res);
     Ok(done && is_list(answer, &res))
 }
 
 /// Asserts the lines of a table.
 fn assert_slices<W: Form<u32>>(rt: &(impl Abort + AllocGlobal), table: &str) -> Result<(), Fail> {
     for line in table.lines() {
-        let (call, arguments, answer) = parts(line);
-        assert!(rt; agrees::<W>(rt.alloc(), call, arguments, answer)?, "{line}");
+        assert!(rt; agrees::<W>(rt.alloc(), line)?, "{line}");
     }
     Ok(())
 }

@@ -25,6 +25,31 @@ impl<W: Form<T>, T: Word> Canonical for Fp<W, T> {
     }
 }
 
+/// The values of the base of a text.
+pub fn base_values<F: PrimeCharacteristicRing>(
+    alloc: Global,
+    text: &str,
+) -> Result<Vec<F>, AllocError> {
+    let mut values = Vec::new(alloc);
+    for word in text.split(',') {
+        if let Ok(number) = word.parse::<u64>() {
+            values.push(F::from_u64(number))?;
+        }
+    }
+    Ok(values)
+}
+
+/// Whether the text is of these values of the base.
+pub fn is_list<F: Canonical>(text: &str, values: &[F]) -> bool {
+    for i in 0..values.len() {
+        let x = values[i];
+        if number_at(text, i) != Some(x.canonical()) {
+            return false;
+        }
+    }
+    entries(text) == values.len()
+}
+
 /// A type of values that texts list. It asks for less of the base than `Tabled`, whose bounds a call for
 /// bytes would pass.
 pub trait OfText: Copy {

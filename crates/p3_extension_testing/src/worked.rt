@@ -1,9 +1,9 @@
 //! Worked values of the calls on extensions that no list of outside values has.
 
-use crate::values::{Canonical, Tabled};
+use crate::values::{Canonical, Tabled, base_values, is_list};
 use p3_field::extension::{ExtField, ExtensionShape, FrobeniusExtendable};
 use p3_field::{Algebra, AlgebraIdentity, BasedVectorSpace, InMemory, PrimeCharacteristicRing};
-use p3_field_testing::texts::{entries, number_at, parts, sides};
+use p3_field_testing::texts::{parts, sides};
 use std::alloc::{AllocError, Global};
 use std::process::Abort;
 use std::test::Fail;
@@ -43,31 +43,6 @@ pub trait Worked: Tabled {
     fn has_text(&self, alloc: Global, text: &str) -> Result<bool, AllocError>;
 }
 
-/// The values of the base of a text.
-fn base_values<F: PrimeCharacteristicRing>(
-    alloc: Global,
-    text: &str,
-) -> Result<Vec<F>, AllocError> {
-    let mut values = Vec::new(alloc);
-    for word in text.split(',') {
-        if let Ok(number) = word.parse::<u64>() {
-            values.push(F::from_u64(number))?;
-        }
-    }
-    Ok(values)
-}
-
-/// Whether the text is of these values of the base.
-fn is_list<F: Canonical>(text: &str, values: &[F]) -> bool {
-    for i in 0..values.len() {
-        let x = values[i];
-        if number_at(text, i) != Some(x.canonical()) {
-            return false;
-        }
-    }
-    entries(text) == values.len()
-}
-
 impl<F: FrobeniusExtendable<D, S> + Canonical + InMemory, const D: usize, S: ExtensionShape> Worked
     for ExtField<F, D, S, F> {
     fn of_slice(alloc: Global, text: &str) -> Result<Option<Self>, AllocError> {
@@ -76,14 +51,7 @@ impl<F: FrobeniusExtendable<D, S> + Canonical + InMemory, const D: usize, S: Ext
     }
 
     fn of_array(text: &str) -> Option<Self> {
-        if entries(text) != D {
-            return None;
-        }
-        let mut coefficients = [F::zero(); D];
-        for i in 0..D {
-            coefficients[i] = F::from_u64(number_at(text, i)?);
-        }
-        Some(Self::from(coefficients))
+        Some(Self::from(Self::of(text)?.value))
     }
 
     fn basis_element(i: usize) -> Option<Self> {
@@ -166,28 +134,43 @@ fn are_values<T: Tabled>(text: &str, values: &[T]) -> bool {
     words.next().is_none()
 }
 
-/// The text of `a + b X`, written by hand.
-fn line_text(alloc: Global, a: u32, b: u32) -> Result<String, AllocError> {
-    match (a, b) {
-        (_, 0) => format!(in alloc; "{a}"),
-        (0, 1) => format!(in alloc; "X"),
-        (0, _) => format!(in alloc; "{b} X"),
-        (_, 1) => format!(in alloc; "{a} + X"),
-        _ => format!(in alloc; "{a} + {b} X"),
+/// The text of `b X`, written by hand, for b but zero.
+fn linear_text(alloc: Global, b: u32) -> Result<String, AllocError> {
+    if b == 1 {
+        format!(in alloc; "X")
+    } else {
+        format!(in alloc; "{b} X")
     }
 }
 
-/// Whether every value of degree 2 over the residues modulo 17 has its text, whatever the formatter is
-/// told of its form and width.
+/// The text of `a + b X`, written by hand.
+fn line_text(alloc: Global, a: u32, b: u32) -> Result<String, AllocError> {
+    if b == 0 {
+        return format!(in alloc; "{a}");
+    }
+    let linear = linear_text(alloc, b)?;
+    if a == 0 {
+        Ok(linear)
+    } else {
+        format!(in alloc; "{a} + {linear}")
+    }
+}
+
+/// Whether the value has its text, whatever the formatter is told of its form and width.
+fn has_line_text<T: Worked>(alloc: Global, a: u32, b: u32) -> Result<bool, AllocError> {
+    let text = line_text(alloc, a, b)?;
+    let coefficients = format!(in alloc; "{a},{b}")?;
+    match T::of(coefficients.as_str()) {
+        Some(x) => x.has_text(alloc, text.as_str()),
+        None => Ok(false),
+    }
+}
+
+/// Whether every value of degree 2 over the residues modulo 17 has its text.
 fn have_texts<T: Worked>(alloc: Global) -> Result<bool, AllocError> {
     for a in 0..17u32 {
         for b in 0..17u32 {
-            let text = line_text(alloc, a, b)?;
-            let coefficients = format!(in alloc; "{a},{b}")?;
-            let Some(x) = T::of(coefficients.as_str()) else {
-                return Ok(false);
-            };
-            if !x.has_text(alloc, text.as_str())? {
+            if !has_line_text::<T>(alloc, a, b)? {
                 return Ok(false);
             }
         }
@@ -232,13 +215,9 @@ fn list_agrees<T: Worked>(
     }
 }
 
-/// Whether the call has this answer; `Ok(None)` where a text can't be read, or names no call.
-fn agrees<T: Worked>(
-    alloc: Global,
-    call: &str,
-    arguments: &str,
-    answer: &str,
-) -> Result<Option<bool>, AllocError> {
+/// Whether the call of a line has its answer; `Ok(None)` where a text can't be read, or names no call.
+fn agrees<T: Worked>(alloc: Global, line: &str) -> Result<Option<bool>, AllocError> {
+    let (call, arguments, answer) = parts(line);
     if let Some(agrees) = list_agrees::<T>(alloc, call, arguments, answer)? {
         return Ok(Some(agrees));
     }
@@ -261,9 +240,7 @@ fn agrees<T: Worked>(
 /// Asserts the lines of a table.
 pub fn assert_worked<T: Worked>(rt: &(impl Abort + AllocGlobal), table: &str) -> Result<(), Fail> {
     for line in table.lines() {
-        let (call, arguments, answer) = parts(line);
-        let agrees = agrees::<T>(rt.alloc(), call, arguments, answer)?;
-        assert_eq!(rt; agrees, Some(true), "{line}");
+        assert!(rt; agrees::<T>(rt.alloc(), line)? == Some(true), "{line}");
     }
     Ok(())
 }

@@ -1,6 +1,6 @@
 //! Calls that answer a vector: with ample memory, and with the growths that they ask for refused.
 
-use crate::prime_values::is_list;
+use crate::prime_values::{is_list, values};
 use crate::refusing::Refusing;
 use p3_bench_prime::extensions::F17x2;
 use p3_bench_prime::small::F17;
@@ -20,10 +20,8 @@ fn three_and_five<F: PrimeField64, A: Allocator + Copy>(alloc: A) -> Result<Vec<
     Ok(values)
 }
 
-/// The vector that a call makes, of so many items where the call takes their number. Coefficients of
-/// zeros or of three and five, and values of such coefficients, ask for one growth more, that of the list
-/// that is handed over.
-fn made<F: PrimeField64 + InMemory, A: Allocator + Copy>(
+/// The powers or zeros that a call makes, so many of them.
+fn items_made<F: PrimeField64 + InMemory, A: Allocator + Copy>(
     alloc: A,
     call: &str,
     count: usize,
@@ -35,23 +33,19 @@ fn made<F: PrimeField64 + InMemory, A: Allocator + Copy>(
         "take" => three.powers().take(count).collect_in(alloc),
         "shifted collect_n" => three.shifted_powers(F::two()).collect_n_in(alloc, count),
         "shifted take" => three.shifted_powers(F::two()).take(count).collect_in(alloc),
-        "flattened zeros" => {
-            let zeros = F::zero_vec_in(alloc, count)?;
-            <F as BasedVectorSpace<F>>::flatten_to_base_in(alloc, zeros)
-        }
-        "reconstituted zeros" => {
-            let zeros = F::zero_vec_in(alloc, count)?;
-            reconstituted(alloc, zeros)
-        }
-        "flattened" => {
-            let values = three_and_five(alloc)?;
-            <F as BasedVectorSpace<F>>::flatten_to_base_in(alloc, values)
-        }
-        "reconstituted" => {
-            let values = three_and_five(alloc)?;
-            reconstituted(alloc, values)
-        }
         _ => Err(AllocError),
+    }
+}
+
+/// Zeros or three and five.
+fn given<F: PrimeField64, A: Allocator + Copy>(
+    alloc: A,
+    call: &str,
+    count: usize,
+) -> Result<Vec<F, A>, AllocError> {
+    match call {
+        "flattened zeros" | "reconstituted zeros" => F::zero_vec_in(alloc, count),
+        _ => three_and_five(alloc),
     }
 }
 
@@ -60,14 +54,57 @@ fn reconstituted<F: PrimeField64 + InMemory, A: Allocator + Copy>(
     alloc: A,
     coefficients: Vec<F, A>,
 ) -> Result<Vec<F, A>, AllocError> {
-    if coefficients
-        .len()
-        .checked_rem(<F as BasedVectorSpace<F>>::DIMENSION)
-        != Some(0)
-    {
+    let dimension = <F as BasedVectorSpace<F>>::DIMENSION;
+    if coefficients.len().checked_rem(dimension) != Some(0) {
         return Err(AllocError);
     }
     <F as BasedVectorSpace<F>>::reconstitute_from_base_in(alloc, coefficients)
+}
+
+/// The vector that a call makes, of so many items where the call takes their number. Coefficients, and
+/// values of coefficients, ask for one growth more, that of the list that is handed over.
+fn made<F: PrimeField64 + InMemory, A: Allocator + Copy>(
+    alloc: A,
+    call: &str,
+    count: usize,
+) -> Result<Vec<F, A>, AllocError> {
+    match call {
+        "flattened zeros" | "flattened" => {
+            let values = given(alloc, call, count)?;
+            <F as BasedVectorSpace<F>>::flatten_to_base_in(alloc, values)
+        }
+        "reconstituted zeros" | "reconstituted" => {
+            let coefficients = given(alloc, call, count)?;
+            reconstituted(alloc, coefficients)
+        }
+        _ => items_made(alloc, call, count),
+    }
+}
+
+/// Whether there are so many values, and those of a text where one is told.
+fn are_items<F: PrimeField64>(values: &[F], count: usize, items: Option<&str>) -> bool {
+    match items {
+        Some(text) => values.len() == count && is_list(text, values),
+        None => values.len() == count,
+    }
+}
+
+/// Whether a call gives its items where as many growths pass as it needs, or is refused at the first growth
+/// that doesn't pass, and keeps no block.
+fn grows<F: PrimeField64 + InMemory>(
+    alloc: Global,
+    passing: u64,
+    call: &str,
+    count: usize,
+    items: Option<&str>,
+    needed: u64,
+) -> bool {
+    let heap = Refusing::after(alloc, passing);
+    let is_right = match made::<F, &Refusing<Global>>(&heap, call, count) {
+        Ok(values) => passing == needed && are_items(&values, count, items),
+        Err(_) => passing < needed && heap.growths() == passing + 1,
+    };
+    is_right && heap.blocks() == 0
 }
 
 /// Asserts that a call gives so many items, and those of a text where one is told, where so many growths
@@ -80,18 +117,7 @@ fn assert_growths<F: PrimeField64 + InMemory>(
     needed: u64,
 ) {
     for passing in 0..=needed {
-        let heap = Refusing::after(rt.alloc(), passing);
-        match made::<F, &Refusing<Global>>(&heap, call, count) {
-            Ok(values) => {
-                assert_eq!(rt; passing, needed, "{call}");
-                assert_eq!(rt; values.len(), count, "{call}");
-                if let Some(text) = items {
-                    assert!(rt; is_list(text, &values), "{call}");
-                }
-            }
-            Err(_) => assert_eq!(rt; Some(heap.growths()), passing.checked_add(1), "{call}"),
-        }
-        assert_eq!(rt; heap.blocks(), 0, "{call}");
+        assert!(rt; grows::<F>(rt.alloc(), passing, call, count, items, needed), "{call}");
     }
 }
 
@@ -118,42 +144,43 @@ const CALLS: [(&str, usize, &str, u64); 7] = [
     ("reconstituted", 2, "3,5", 2),
 ];
 
-#[test]
-fn growths_of_calls(rt: HostRuntime) {
+/// Asserts the growths of all calls.
+fn assert_all_growths<F: PrimeField64 + InMemory>(rt: &(impl Abort + AllocGlobal)) {
     for n in LENGTHS {
         for (call, needed) in COUNTED {
-            assert_growths::<F17>(&rt, call, n, None, if n == 0 { 0 } else { needed });
+            assert_growths::<F>(rt, call, n, None, if n == 0 { 0 } else { needed });
         }
     }
     for (call, count, items, needed) in CALLS {
-        assert_growths::<F17>(&rt, call, count, Some(items), needed);
+        assert_growths::<F>(rt, call, count, Some(items), needed);
     }
 }
 
-/// Asserts that a name as an algebra is made where one growth passes, and not where none does, and that
-/// no block is kept.
-fn assert_name<F: PrimeCharacteristicRing, T: AlgebraIdentity<F>>(
-    rt: &(impl Abort + AllocGlobal),
+#[test]
+fn growths_of_calls(rt: HostRuntime) {
+    assert_all_growths::<F17>(&rt);
+}
+
+/// Whether a name as an algebra is made where one growth passes, and refused where none does, and no block
+/// is kept.
+fn name_grows<F: PrimeCharacteristicRing, T: AlgebraIdentity<F>>(
+    alloc: Global,
+    passing: u64,
     expected: &[u8],
-) {
-    for passing in 0..=1u64 {
-        let heap = Refusing::after(rt.alloc(), passing);
-        match <T as AlgebraIdentity<F>>::algebra_id_in(&heap) {
-            Ok(name) => {
-                assert_eq!(rt; passing, 1);
-                assert!(rt; name.as_slice() == expected);
-            }
-            Err(_) => assert_eq!(rt; heap.growths(), passing + 1),
-        }
-        assert_eq!(rt; heap.blocks(), 0);
-    }
+) -> bool {
+    let heap = Refusing::after(alloc, passing);
+    let is_right = match <T as AlgebraIdentity<F>>::algebra_id_in(&heap) {
+        Ok(name) => passing == 1 && name.as_slice() == expected,
+        Err(_) => passing == 0 && heap.growths() == 1,
+    };
+    is_right && heap.blocks() == 0
 }
 
 /// The calls of an extension, implemented once for all of them: a call at a type's name passes what its
 /// base owes once.
 trait ExtensionGrowths: Copy {
-    /// Asserts the growths of the name as an algebra.
-    fn assert_name(rt: &(impl Abort + AllocGlobal), expected: &[u8]);
+    /// Whether the name as an algebra asks for one growth.
+    fn name_grows(alloc: Global, passing: u64, expected: &[u8]) -> bool;
 
     /// The images under the Frobenius map.
     fn orbit_in<A: Allocator + Copy>(self, alloc: A) -> Result<Vec<Self, A>, AllocError>;
@@ -161,8 +188,8 @@ trait ExtensionGrowths: Copy {
 
 impl<F: FrobeniusExtendable<D, S>, const D: usize, S: ExtensionShape> ExtensionGrowths
     for ExtField<F, D, S, F> {
-    fn assert_name(rt: &(impl Abort + AllocGlobal), expected: &[u8]) {
-        assert_name::<F, Self>(rt, expected)
+    fn name_grows(alloc: Global, passing: u64, expected: &[u8]) -> bool {
+        name_grows::<F, Self>(alloc, passing, expected)
     }
 
     fn orbit_in<A: Allocator + Copy>(self, alloc: A) -> Result<Vec<Self, A>, AllocError> {
@@ -170,62 +197,72 @@ impl<F: FrobeniusExtendable<D, S>, const D: usize, S: ExtensionShape> ExtensionG
     }
 }
 
-/// Asserts the growths of a value's images, and that they are these.
-fn assert_orbit<T: ExtensionGrowths + PartialEq>(
-    rt: &(impl Abort + AllocGlobal),
+/// Whether a value's images are made where one growth passes, and refused where none does, and no block is
+/// kept.
+fn orbit_grows<T: ExtensionGrowths + PartialEq>(
+    alloc: Global,
+    passing: u64,
     value: T,
     images: &[T],
-) {
-    for passing in 0..=1u64 {
-        let heap = Refusing::after(rt.alloc(), passing);
-        match value.orbit_in(&heap) {
-            Ok(found) => {
-                assert_eq!(rt; passing, 1);
-                assert!(rt; found.as_slice() == images);
-            }
-            Err(_) => assert_eq!(rt; heap.growths(), passing + 1),
-        }
-        assert_eq!(rt; heap.blocks(), 0);
-    }
+) -> bool {
+    let heap = Refusing::after(alloc, passing);
+    let is_right = match value.orbit_in(&heap) {
+        Ok(found) => passing == 1 && found.as_slice() == images,
+        Err(_) => passing == 0 && heap.growths() == 1,
+    };
+    is_right && heap.blocks() == 0
 }
 
 #[test]
 fn growths_of_names(rt: HostRuntime) {
-    assert_name::<F17, F17>(&rt, b"p3-scalar-basis-v1");
-    <F17x2 as ExtensionGrowths>::assert_name(&rt, b"bench:f17x2");
+    for passing in 0..2u64 {
+        assert!(rt; name_grows::<F17, F17>(rt.alloc(), passing, b"p3-scalar-basis-v1"));
+        assert!(rt; <F17x2 as ExtensionGrowths>::name_grows(rt.alloc(), passing, b"bench:f17x2"));
+    }
 }
 
 #[test]
 fn growths_of_an_orbit(rt: HostRuntime) {
     let value = F17x2::new([F17::new(1), F17::new(2)]);
     let image = F17x2::new([F17::new(1), F17::new(15)]);
-    assert_orbit(&rt, value, &[value, image]);
+    for passing in 0..2u64 {
+        assert!(rt; orbit_grows(rt.alloc(), passing, value, &[value, image]));
+    }
 }
 
-/// The calls with ample memory, of which each hands its list to the next one.
+/// Zeros and powers with ample memory.
 fn assert_ample<F: PrimeField64 + InMemory>(rt: &(impl Abort + AllocGlobal)) -> Result<(), Fail> {
-    let alloc = rt.alloc();
-    let zeros = F::zero_vec(alloc, 2)?;
-    assert!(rt; is_list("0,0", &zeros));
     let three = F::from_u64(3);
-    let powers = three.shifted_powers(F::two()).collect_n(alloc, 4)?;
+    assert!(rt; is_list("0,0", &F::zero_vec(rt.alloc(), 2)?));
+    let powers = three.shifted_powers(F::two()).collect_n(rt.alloc(), 4)?;
     assert!(rt; is_list("2,6,1,3", &powers));
-    let bounded = three.shifted_powers(F::two()).take(4).collect(alloc)?;
+    let bounded = three.shifted_powers(F::two()).take(4).collect(rt.alloc())?;
     assert!(rt; is_list("2,6,1,3", &bounded));
-    let flat = <F as BasedVectorSpace<F>>::flatten_to_base(alloc, powers)?;
-    assert!(rt;
-        flat.len()
-            .checked_rem(<F as BasedVectorSpace<F>>::DIMENSION)
-            == Some(0)
-    );
-    let values = <F as BasedVectorSpace<F>>::reconstitute_from_base(alloc, flat)?;
-    assert!(rt; is_list("2,6,1,3", &values));
-    let id = <F as AlgebraIdentity<F>>::algebra_id(alloc)?;
+    Ok(())
+}
+
+/// Values of the base as an algebra over itself, which are put together again of their coefficients.
+fn there_and_back<F: PrimeField64 + InMemory>(
+    alloc: Global,
+    given: Vec<F>,
+) -> Result<Vec<F>, AllocError> {
+    let flat = <F as BasedVectorSpace<F>>::flatten_to_base(alloc, given)?;
+    reconstituted(alloc, flat)
+}
+
+/// Coefficients and the name as an algebra, with ample memory.
+fn assert_ample_algebra<F: PrimeField64 + InMemory>(
+    rt: &(impl Abort + AllocGlobal),
+) -> Result<(), Fail> {
+    let given = values(rt.alloc(), "2,6,1,3")?;
+    assert!(rt; is_list::<F>("2,6,1,3", &there_and_back(rt.alloc(), given)?));
+    let id = <F as AlgebraIdentity<F>>::algebra_id(rt.alloc())?;
     assert!(rt; id.as_slice() == b"p3-scalar-basis-v1".as_slice());
     Ok(())
 }
 
 #[test]
 fn ample_memory(rt: HostRuntime) -> Result<(), Fail> {
-    assert_ample::<F17>(&rt)
+    assert_ample::<F17>(&rt)?;
+    assert_ample_algebra::<F17>(&rt)
 }

@@ -22,7 +22,7 @@ fn assert_prime<W: TwoAdicConstants<T>, T: Word>(
     calls: &str,
     cosets: &str,
 ) -> Result<(), Fail> {
-    assert_cosets::<Fp<W, T>>(rt, cosets)?;
+    assert_cosets::<Fp<W, T>>(rt, cosets);
     assert_calls::<Fp<W, T>>(rt, calls)
 }
 

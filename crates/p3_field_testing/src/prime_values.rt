@@ -5,6 +5,7 @@
 ghost use Rattle.p3_theory.specs.Rings.Ring.{Invertible};
 ghost use Rattle.p3_theory.specs.Rings.Multiples.{two};
 
+use crate::stream_values::{bytes_of, long_words_of};
 use crate::texts::{entries, lists, number_at, parts, sides};
 use p3_field::{HornerIter, PrimeField64, RawDataSerializable, RingSums, TwoAdicField};
 use std::alloc::{AllocError, Global};
@@ -112,13 +113,12 @@ fn dot_of_minus_ones<F: PrimeField64>(alloc: Global, count: &str) -> Result<Opti
     Ok(Some(F::dot_product(&values, &values)))
 }
 
-/// Whether the call has this answer; `Ok(None)` where a text can't be read, or names no call.
+/// Whether the call of a line has its answer; `Ok(None)` where a text can't be read, or names no call.
 fn agrees<F: TwoAdicField + PrimeField64 + RingSums>(
     alloc: Global,
-    call: &str,
-    arguments: &str,
-    answer: &str,
+    line: &str,
 ) -> Result<Option<bool>, AllocError> {
+    let (call, arguments, answer) = parts(line);
     if let Some(number) = constant::<F>(call) {
         return Ok(Some(lists(answer, &[number])));
     }
@@ -140,11 +140,20 @@ pub fn assert_calls<F: TwoAdicField + PrimeField64 + RingSums>(
     table: &str,
 ) -> Result<(), Fail> {
     for line in table.lines() {
-        let (call, arguments, answer) = parts(line);
-        let agrees = agrees::<F>(rt.alloc(), call, arguments, answer)?;
-        assert_eq!(rt; agrees, Some(true), "{line}");
+        assert!(rt; agrees::<F>(rt.alloc(), line)? == Some(true), "{line}");
     }
     Ok(())
+}
+
+/// Whether a line has a number and the half of its residue.
+fn is_half<F: PrimeField64>(line: &str) -> bool
+    requires { Invertible F.ops (two F.ops) }
+{
+    let (number, half) = sides(line, ';');
+    match number.parse::<u64>() {
+        Ok(x) => lists(half, &[F::from_u64(x).halve().as_canonical_u64()]),
+        Err(_) => false,
+    }
 }
 
 /// Asserts that each line has a number and the half of its residue.
@@ -152,16 +161,31 @@ pub fn assert_halves<F: PrimeField64>(rt: &impl Abort, table: &str)
     requires { Invertible F.ops (two F.ops) }
 {
     for line in table.lines() {
-        let (number, half) = sides(line, ';');
-        match number.parse::<u64>() {
-            Ok(x) => {
-                assert!(rt;
-                    lists(half, &[F::from_u64(x).halve().as_canonical_u64()]),
-                    "{line}"
-                );
-            }
-            Err(_) => assert!(rt; false, "{line}"),
+        assert!(rt; is_half::<F>(line), "{line}");
+    }
+}
+
+/// Whether the text is of these bytes.
+fn are_bytes(text: &str, bytes: &[u8]) -> bool {
+    for i in 0..bytes.len() {
+        if number_at(text, i) != Some(bytes[i] as u64) {
+            return false;
         }
+    }
+    entries(text) == bytes.len()
+}
+
+/// Whether a line has numbers and the bytes, or the words, of their residues.
+fn is_stream<F: PrimeField64 + RawDataSerializable>(
+    alloc: Global,
+    line: &str,
+) -> Result<bool, AllocError> {
+    let (call, arguments, answer) = parts(line);
+    let items: Vec<F> = values(alloc, arguments)?;
+    match call {
+        "into_byte_stream" => Ok(are_bytes(answer, &bytes_of(alloc, &items)?)),
+        "into_u64_stream" => Ok(lists(answer, &long_words_of(alloc, &items)?)),
+        _ => Ok(false),
     }
 }
 
@@ -171,21 +195,7 @@ pub fn assert_streams<F: PrimeField64 + RawDataSerializable>(
     table: &str,
 ) -> Result<(), Fail> {
     for line in table.lines() {
-        let (call, arguments, answer) = parts(line);
-        let items: Vec<F> = values(rt.alloc(), arguments)?;
-        let values = items.iter().copied();
-        match call {
-            "into_byte_stream" => {
-                let bytes: Vec<u8> = F::into_byte_stream(values).collect(rt.alloc())?;
-                let numbers: Vec<u64> = bytes.iter().map(|x| *x as u64).collect(rt.alloc())?;
-                assert!(rt; lists(answer, &numbers), "{line}");
-            }
-            "into_u64_stream" => {
-                let words: Vec<u64> = F::into_u64_stream(values).collect(rt.alloc())?;
-                assert!(rt; lists(answer, &words), "{line}");
-            }
-            _ => assert!(rt; false, "{line}"),
-        }
+        assert!(rt; is_stream::<F>(rt.alloc(), line)?, "{line}");
     }
     Ok(())
 }

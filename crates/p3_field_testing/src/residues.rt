@@ -51,9 +51,10 @@ fn assert_integers<F: PrimeField32>(rt: &impl Abort) {
 /// 16 as a canonical value.
 fn assert_values<F: PrimeField64 + PrimeFieldBounds>(
     rt: &(impl Abort + AllocGlobal),
-    residues: [F; 4],
+    residues: &[F],
 ) -> Result<(), Fail> {
     let three = F::from_u64(3);
+    assert!(rt; residues.len() == 4);
     assert!(rt; F::from_u64(16) > three);
     assert!(rt; residues[0] < three);
     assert!(rt; residues[1] == three);
@@ -70,7 +71,7 @@ fn residues_of_order_17(rt: HostRuntime) -> Result<(), Fail> {
     assert_integers::<F17>(&rt);
     assert!(rt; F17::from_prime_subfield(F17::new(19)) == F17::two());
     let sixteen = F17::from_canonical_unchecked(16usize);
-    assert_values(&rt, [F17::new(17), F17::new(20), F17::new(33), sixteen])
+    assert_values(&rt, &[F17::new(17), F17::new(20), F17::new(33), sixteen])
 }
 
 /// Asserts that the text of a value is its canonical number, whatever the formatter is told of its form

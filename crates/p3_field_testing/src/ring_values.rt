@@ -124,13 +124,9 @@ fn is_sum_of_three<F: PrimeField64>(values: &[F], sum: &str) -> bool {
     values.len() == 3 && is_list(sum, &[sum_array::<F, 3>(values)])
 }
 
-/// Whether the call on two lists has this answer.
-fn agrees<F: PrimeField64>(
-    alloc: Global,
-    call: &str,
-    arguments: &str,
-    answer: &str,
-) -> Result<bool, AllocError> {
+/// Whether the call of a line on two lists has its answer.
+fn agrees<F: PrimeField64>(alloc: Global, line: &str) -> Result<bool, AllocError> {
+    let (call, arguments, answer) = parts(line);
     let (left, right) = sides(arguments, '|');
     let mut values_left: Vec<F> = values(alloc, left)?;
     let values_right: Vec<F> = values(alloc, right)?;
@@ -148,9 +144,7 @@ fn assert_combinations<F: PrimeField64>(
     table: &str,
 ) -> Result<(), Fail> {
     for line in table.lines() {
-        let (call, arguments, answer) = parts(line);
-        let agrees = agrees::<F>(rt.alloc(), call, arguments, answer)?;
-        assert!(rt; agrees, "{line}");
+        assert!(rt; agrees::<F>(rt.alloc(), line)?, "{line}");
     }
     Ok(())
 }

@@ -14,7 +14,7 @@ fn bytes_of_one<T: RawDataSerializable>(alloc: Global, x: T) -> Result<Vec<u8>, 
 }
 
 /// The bytes of values, one after the other.
-fn bytes_of<T: RawDataSerializable + Copy>(
+pub fn bytes_of<T: RawDataSerializable + Copy>(
     alloc: Global,
     items: &[T],
 ) -> Result<Vec<u8>, AllocError> {
@@ -30,7 +30,7 @@ fn short_words_of<T: RawDataSerializable + Copy>(
 }
 
 /// The bytes of values in words of eight.
-fn long_words_of<T: RawDataSerializable + Copy>(
+pub fn long_words_of<T: RawDataSerializable + Copy>(
     alloc: Global,
     items: &[T],
 ) -> Result<Vec<u64>, AllocError> {
