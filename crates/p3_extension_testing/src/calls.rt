@@ -136,7 +136,10 @@ fn values<T: OfText>(alloc: Global, text: &str) -> Result<Option<Vec<T>>, AllocE
 }
 
 /// Whether a line has values and the words of their bytes.
-fn is_stream<T: RawDataSerializable + OfText>(alloc: Global, line: &str) -> Result<bool, AllocError> {
+fn is_stream<T: RawDataSerializable + OfText>(
+    alloc: Global,
+    line: &str,
+) -> Result<bool, AllocError> {
     let (call, arguments, answer) = parts(line);
     match values::<T>(alloc, arguments)? {
         Some(items) if call == "into_u64_stream" => {

@@ -5,8 +5,8 @@ use p3_bench_prime::form::{Plain, Word};
 use p3_bench_prime::fp::Fp;
 use p3_bench_prime::goldilocks::GoldilocksForm;
 use p3_bench_prime::koala_bear::KoalaBearModulus;
-use p3_bench_prime::montgomery::Montgomery;
 use p3_bench_prime::monomials::MonomialConstants;
+use p3_bench_prime::montgomery::Montgomery;
 use p3_bench_prime::small::{M17, M31};
 use p3_field::{PermutationMonomial, PrimeField64};
 

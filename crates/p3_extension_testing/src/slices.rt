@@ -5,11 +5,11 @@ use crate::values::{base_values, is_list};
 use p3_bench_prime::form::{Form, Plain};
 use p3_bench_prime::fp::Fp;
 use p3_bench_prime::small::{M17, M31};
+use p3_field::PrimeCharacteristicRing;
 use p3_field::extension::{
     binomial_mul, binomial_square, cubic_square, octic_mul, quartic_mul, quintic_mul,
     quintic_square, trinomial_cubic_mul, trinomial_quintic_mul, vector_add, vector_sub,
 };
-use p3_field::PrimeCharacteristicRing;
 use p3_field_testing::texts::parts;
 use std::alloc::{AllocError, Global};
 use std::process::Abort;
@@ -34,7 +34,13 @@ cubic_square 3;0,0,1||0,1,1|;0,1,1";
 
 /// Carries out a product of lists of one length by `X^D = w`; whether there is one of that name and
 /// length.
-fn binomial_product<F: PrimeCharacteristicRing>(call: &str, a: &[F], b: &[F], res: &mut [F], w: F) -> bool {
+fn binomial_product<F: PrimeCharacteristicRing>(
+    call: &str,
+    a: &[F],
+    b: &[F],
+    res: &mut [F],
+    w: F,
+) -> bool {
     match call {
         "binomial_mul 4" if a.len() == 4 && b.len() == 4 && res.len() == 4 => {
             binomial_mul::<F, F, F, 4>(a, b, res, w)
@@ -55,7 +61,12 @@ fn binomial_product<F: PrimeCharacteristicRing>(call: &str, a: &[F], b: &[F], re
 }
 
 /// The same by a trinomial.
-fn trinomial_product<F: PrimeCharacteristicRing>(call: &str, a: &[F], b: &[F], res: &mut [F]) -> bool {
+fn trinomial_product<F: PrimeCharacteristicRing>(
+    call: &str,
+    a: &[F],
+    b: &[F],
+    res: &mut [F],
+) -> bool {
     match call {
         "trinomial_quintic_mul 5" if a.len() == 5 && b.len() == 5 && res.len() == 5 => {
             trinomial_quintic_mul(a, b, res)

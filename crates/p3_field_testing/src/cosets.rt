@@ -83,13 +83,16 @@ fn has_items<F: TwoAdicField + PrimeField64>(
     coset: TwoAdicMultiplicativeCoset<F>,
     answer: &str,
 ) -> bool {
+    if coset.log_size() >= 64 || coset.iter().len() != entries(answer) {
+        return false;
+    }
     let mut words = answer.split(',');
     for x in coset.iter() {
         if words.next().unwrap_or("").parse::<u64>().ok() != Some(x.as_canonical_u64()) {
             return false;
         }
     }
-    coset.log_size() < 64 && coset.iter().len() == entries(answer)
+    true
 }
 
 /// Whether the text is of the item at an index.

@@ -117,7 +117,10 @@ fn assert_growths<F: PrimeField64 + InMemory>(
     needed: u64,
 ) {
     for passing in 0..=needed {
-        assert!(rt; grows::<F>(rt.alloc(), passing, call, count, items, needed), "{call}");
+        assert!(rt;
+            grows::<F>(rt.alloc(), passing, call, count, items, needed),
+            "{call}"
+        );
     }
 }
 

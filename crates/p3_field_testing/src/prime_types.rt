@@ -52,32 +52,17 @@ fn f17b(rt: HostRuntime) -> Result<(), Fail> {
 
 #[test]
 fn f17(rt: HostRuntime) -> Result<(), Fail> {
-    assert_odd::<Plain<M17>, u32>(
-        &rt,
-        tables::F17,
-        tables::F17_COSETS,
-        tables::F17_HALVES,
-    )
+    assert_odd::<Plain<M17>, u32>(&rt, tables::F17, tables::F17_COSETS, tables::F17_HALVES)
 }
 
 #[test]
 fn f31(rt: HostRuntime) -> Result<(), Fail> {
-    assert_odd::<Plain<M31>, u32>(
-        &rt,
-        tables::F31,
-        tables::F31_COSETS,
-        tables::F31_HALVES,
-    )
+    assert_odd::<Plain<M31>, u32>(&rt, tables::F31, tables::F31_COSETS, tables::F31_HALVES)
 }
 
 #[test]
 fn z15(rt: HostRuntime) -> Result<(), Fail> {
-    assert_odd::<Plain<M15>, u32>(
-        &rt,
-        tables::Z15,
-        tables::Z15_COSETS,
-        tables::Z15_HALVES,
-    )
+    assert_odd::<Plain<M15>, u32>(&rt, tables::Z15, tables::Z15_COSETS, tables::Z15_HALVES)
 }
 
 #[test]

@@ -76,10 +76,7 @@ fn residues_of_order_17(rt: HostRuntime) -> Result<(), Fail> {
 
 /// Asserts that the text of a value is its canonical number, whatever the formatter is told of its form
 /// and width.
-fn assert_texts<F: PrimeField64>(
-    rt: &(impl Abort + AllocGlobal),
-    order: u64,
-) -> Result<(), Fail> {
+fn assert_texts<F: PrimeField64>(rt: &(impl Abort + AllocGlobal), order: u64) -> Result<(), Fail> {
     for n in 0..order {
         let number = format!(in rt.alloc(); "{n}")?;
         let x = F::from_u64(n);

@@ -25,6 +25,9 @@ fn has_word<F: PrimeField32>(x: F, word: u32, canonical: u32) -> bool {
 fn words_of_values(rt: HostRuntime) {
     for row in &WORDS {
         let (canonical, word) = *row;
-        assert!(rt; has_word(BabyBear::new(canonical), word, canonical), "{word}");
+        assert!(rt;
+            has_word(BabyBear::new(canonical), word, canonical),
+            "{word}"
+        );
     }
 }

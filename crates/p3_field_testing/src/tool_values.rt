@@ -12,6 +12,7 @@ use p3_field::{
     dot_product, field_to_array, halve_u32, halve_u64, par_add_scaled_slice_in_place,
     par_scale_slice_in_place, scale_slice_in_place_single_core,
 };
+use std::alloc::{AllocError, Global};
 use std::process::Abort;
 use std::test::Fail;
 
@@ -43,34 +44,40 @@ fn powers_and_subgroups_of_order_17(rt: HostRuntime) {
     assert_eq!(rt; halve_u64::<17>(5), 11);
 }
 
-/// Asserts values of polynomials at a point, and the dot product of two lists of which one is longer.
-fn assert_sums<F: PrimeField64 + RingSums>(rt: &(impl Abort + AllocGlobal)) -> Result<(), Fail> {
-    let coefficients: Vec<F> = values(rt.alloc(), "3,5,7,11,13")?;
-    let value: F = coefficients.iter().copied().horner(F::from_u64(4));
-    assert!(rt; value.as_canonical_u64() == 4167);
-    let coefficients: Vec<F> = values(rt.alloc(), "2,3,5")?;
-    let value: F = coefficients.iter().copied().horner_acc(F::from_u64(73), F::from_u64(6));
-    assert!(rt; value.as_canonical_u64() == 15968);
-    let left: Vec<F> = values(rt.alloc(), "2,4")?;
-    let right: Vec<F> = values(rt.alloc(), "3,5,7")?;
-    let sum: F = dot_product(left.iter().copied(), right.iter().copied());
-    assert!(rt; sum.as_canonical_u64() == 26);
-    Ok(())
+/// The value of a polynomial at six, after a sum that stands for what follows it.
+fn value_after<F: PrimeField64>(coefficients: &[F], sum: F) -> F {
+    coefficients.iter().copied().horner_acc(sum, F::from_u64(6))
 }
 
-/// Asserts what the calls make of a slice, one after the other: three times another added twice, and
-/// three times itself twice.
-fn assert_slices<F: PrimeField64 + Packable>(rt: &impl Abort, slice: &mut [F], other: &[F]) {
-    let scale = F::from_u64(3);
-    assert!(rt; slice.len() == other.len());
-    add_scaled_slice_in_place::<F, F>(slice, other, scale);
-    assert!(rt; is_list("31,62", slice));
-    par_add_scaled_slice_in_place::<F, F>(slice, other, scale);
-    assert!(rt; is_list("61,122", slice));
-    scale_slice_in_place_single_core::<F, F>(slice, scale);
-    assert!(rt; is_list("183,366", slice));
-    par_scale_slice_in_place::<F, F>(slice, scale);
-    assert!(rt; is_list("549,1098", slice));
+/// The sum of the products of two lists, as far as the shorter one goes.
+fn sum_in_pairs<F: PrimeField64 + RingSums>(left: &[F], right: &[F]) -> F {
+    dot_product(left.iter().copied(), right.iter().copied())
+}
+
+/// Whether the slice is the first text after three times another is added to it, and the second after it
+/// is added once more.
+fn are_sums<F: PrimeField64 + Packable>(
+    slice: &mut [F],
+    other: &[F],
+    once: &str,
+    twice: &str,
+) -> bool {
+    if slice.len() != other.len() {
+        return false;
+    }
+    add_scaled_slice_in_place::<F, F>(slice, other, F::from_u64(3));
+    let is_once = is_list(once, slice);
+    par_add_scaled_slice_in_place::<F, F>(slice, other, F::from_u64(3));
+    is_once && is_list(twice, slice)
+}
+
+/// Whether the slice is the first text after it is multiplied by three, and the second after that once
+/// more.
+fn are_multiples<F: PrimeField64 + Packable>(slice: &mut [F], once: &str, twice: &str) -> bool {
+    scale_slice_in_place_single_core::<F, F>(slice, F::from_u64(3));
+    let is_once = is_list(once, slice);
+    par_scale_slice_in_place::<F, F>(slice, F::from_u64(3));
+    is_once && is_list(twice, slice)
 }
 
 /// Asserts an array of a value and zeros.
@@ -78,18 +85,37 @@ fn assert_array<F: PrimeField64>(rt: &impl Abort, array: [F; 4]) {
     assert!(rt; is_list("9,0,0,0", &array));
 }
 
-/// Asserts the calls of the helpers.
-fn assert_helpers<F: PrimeField64 + RingSums + Packable>(
-    rt: &(impl Abort + AllocGlobal),
-) -> Result<(), Fail> {
-    let mut slice: Vec<F> = values(rt.alloc(), "1,2")?;
-    let other: Vec<F> = values(rt.alloc(), "10,20")?;
-    assert_slices(rt, &mut slice, &other);
-    assert_sums::<F>(rt)
+/// Whether the calls that change a slice make what is worked for them.
+fn slices_agree<F: PrimeField64 + Packable>(alloc: Global) -> Result<bool, AllocError> {
+    let mut slice: Vec<F> = values(alloc, "1,2")?;
+    let other: Vec<F> = values(alloc, "10,20")?;
+    Ok(
+        are_sums(&mut slice, &other, "31,62", "61,122")
+            && are_multiples(&mut slice, "183,366", "549,1098"),
+    )
+}
+
+/// Whether the value of a polynomial is what is worked for it.
+fn value_agrees<F: PrimeField64>(alloc: Global) -> Result<bool, AllocError> {
+    let coefficients: Vec<F> = values(alloc, "2,3,5")?;
+    Ok(value_after(&coefficients, F::from_u64(73)).as_canonical_u64() == 15968)
+}
+
+/// Whether the sum of products is what is worked for it.
+fn sum_agrees<F: PrimeField64 + RingSums>(alloc: Global) -> Result<bool, AllocError> {
+    let left: Vec<F> = values(alloc, "2,4")?;
+    let right: Vec<F> = values(alloc, "3,5,7")?;
+    Ok(sum_in_pairs(&left, &right).as_canonical_u64() == 26)
+}
+
+/// Whether all of them are.
+fn helpers_agree<F: PrimeField64 + RingSums + Packable>(alloc: Global) -> Result<bool, AllocError> {
+    Ok(slices_agree::<F>(alloc)? && value_agrees::<F>(alloc)? && sum_agrees::<F>(alloc)?)
 }
 
 #[test]
 fn helpers(rt: HostRuntime) -> Result<(), Fail> {
     assert_array(&rt, field_to_array::<BabyBear, 4>(BabyBear::new(9)));
-    assert_helpers::<BabyBear>(&rt)
+    assert!(rt; helpers_agree::<BabyBear>(rt.alloc())?);
+    Ok(())
 }
