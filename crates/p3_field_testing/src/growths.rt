@@ -182,19 +182,12 @@ fn name_grows<F: PrimeCharacteristicRing, T: AlgebraIdentity<F>>(
 /// The calls of an extension, implemented once for all of them: a call at a type's name passes what its
 /// base owes once.
 trait ExtensionGrowths: Copy {
-    /// Whether the name as an algebra asks for one growth.
-    fn name_grows(alloc: Global, passing: u64, expected: &[u8]) -> bool;
-
     /// The images under the Frobenius map.
     fn orbit_in<A: Allocator + Copy>(self, alloc: A) -> Result<Vec<Self, A>, AllocError>;
 }
 
 impl<F: FrobeniusExtendable<D, S>, const D: usize, S: ExtensionShape> ExtensionGrowths
     for ExtField<F, D, S, F> {
-    fn name_grows(alloc: Global, passing: u64, expected: &[u8]) -> bool {
-        name_grows::<F, Self>(alloc, passing, expected)
-    }
-
     fn orbit_in<A: Allocator + Copy>(self, alloc: A) -> Result<Vec<Self, A>, AllocError> {
         HasFrobenius::<F>::galois_orbit_in(self, alloc)
     }
@@ -220,7 +213,7 @@ fn orbit_grows<T: ExtensionGrowths + PartialEq>(
 fn growths_of_names(rt: HostRuntime) {
     for passing in 0..2u64 {
         assert!(rt; name_grows::<F17, F17>(rt.alloc(), passing, b"p3-scalar-basis-v1"));
-        assert!(rt; <F17x2 as ExtensionGrowths>::name_grows(rt.alloc(), passing, b"bench:f17x2"));
+        assert!(rt; name_grows::<F17, F17x2>(rt.alloc(), passing, b"bench:f17x2"));
     }
 }
 
