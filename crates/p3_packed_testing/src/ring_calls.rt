@@ -1,0 +1,91 @@
+//! Calls on values of any ring by their names.
+ghost use Rattle.std.specs.Prelude.{IsTrue};
+ghost use Rattle.p3_theory.specs.Rings.Ring.{Invertible};
+
+use p3_base::field::Field;
+use p3_ring::ring::{Algebra, PrimeCharacteristicRing, RingSums};
+
+/// What an operation gives; none where the name is no operation's.
+pub(crate) fn operation<R: PrimeCharacteristicRing>(
+    call: &str,
+    x: R,
+    y: R,
+    exponent: Option<u64>,
+) -> Option<R> {
+    match call {
+        "add" => Some(x + y),
+        "sub" => Some(x - y),
+        "mul" => Some(x * y),
+        "neg" => Some(-x),
+        "double" => Some(x.double()),
+        "square" => Some(x.square()),
+        "cube" => Some(x.cube()),
+        "exp_u64" => Some(x.exp_u64(exponent?)),
+        "mul_2exp_u64" => Some(x.mul_2exp_u64(exponent?)),
+        _ => None,
+    }
+}
+
+/// What an operation with a value of another ring on the right gives.
+pub(crate) fn mixed_operation<R: Algebra<T>, T: PrimeCharacteristicRing>(
+    operation: &str,
+    x: R,
+    y: T,
+) -> Option<R> {
+    match operation {
+        "add" => Some(x + y),
+        "sub" => Some(x - y),
+        "mul" => Some(x * y),
+        "from" => Some(<R as From<T>>::from(y)),
+        _ => None,
+    }
+}
+
+/// The dot product of two lists, where they have the same length.
+pub(crate) fn product_of_lists<R: PrimeCharacteristicRing>(xs: &[R], ys: &[R]) -> Option<R> {
+    if xs.len() == ys.len() {
+        Some(R::dot_product(xs, ys))
+    } else {
+        None
+    }
+}
+
+/// The dot product of a list and one of another ring, where they have the same length.
+pub(crate) fn mixed_product_of_lists<R: Algebra<T>, T: PrimeCharacteristicRing>(
+    xs: &[R],
+    ys: &[T],
+) -> Option<R> {
+    if xs.len() == ys.len() {
+        Some(<R as Algebra<T>>::mixed_dot_product(xs, ys))
+    } else {
+        None
+    }
+}
+
+/// The sum of a list, or its product.
+pub(crate) fn folded<R: RingSums>(call: &str, xs: &[R]) -> Option<R> {
+    match call {
+        "sum" => Some(xs.iter().copied().sum()),
+        "product" => Some(xs.iter().copied().product()),
+        _ => None,
+    }
+}
+
+/// Whether a value has an inverse.
+pub(crate) fn has_inverse<T: Field>(y: T) -> bool
+    ensures { IsTrue result → Invertible T.ops y }
+{
+    match y.try_inverse() {
+        Some(_) => true,
+        None => false,
+    }
+}
+
+/// The half of a value of an algebra over a ring where two has an inverse.
+pub(crate) fn half<R: Algebra<T>, T: Field>(x: R) -> Option<R> {
+    let two = T::two();
+    if !has_inverse(two) {
+        return None;
+    }
+    Some(x.halve())
+}
