@@ -13,8 +13,8 @@ use Rattle.p3_ext.specs.contracts.extension.ext_field.ExtField.{the_row}
 use Rattle.p3_packed.specs.contracts.packed_ext_field.PackedExtField.{the_row as packed_row}
 
 -- an extension value of F by the shape S is no larger than memory
-abbrev pub ExtensionFits : (F D S : RattleType) → Type 0
-ExtensionFits F D S = FitsInMemory (the_row F D S F)
+pub record ExtensionFits (F D S : RattleType) : Type 0 where
+  pub fits : FitsInMemory (the_row F D S F)
 
 -- what is a multiple already is not rounded up
 up_none : (k e : ℕ) → Dv k e → up k e ≡ e
@@ -33,7 +33,7 @@ listed_size τ n =
     ap (λ k. up k (up 1 (up a 0 + n * size τ) + 0)) most ∙ ap (up a) ends ∙ up_none a (n * size τ) (dv_mul a (size τ) n (align_size τ))
 
 -- where a packing is no smaller than its scalar and a packed extension value fits in memory, an extension value does
-pub scalars_fit : (F S P : RattleType) (n : ℕ) → type_size F ≤ type_size P → FitsInMemory (packed_row F (number n) S P) → ExtensionFits F (number n) S
+pub scalars_fit : (F S P : RattleType) (n : ℕ) → type_size F ≤ type_size P → FitsInMemory (packed_row F (number n) S P) → FitsInMemory (the_row F (number n) S F)
 scalars_fit F S P n h fits =
     let p = layout P in
     let a = max (align p) 1 in
@@ -41,3 +41,7 @@ scalars_fit F S P n h fits =
     let outer : up a 0 + listed (align p) (size p) n ≤ type_size (packed_row F (number n) S P) = up-ge (max a 1) (up a 0 + listed (align p) (size p) n) in
     let small : type_size (the_row F (number n) S F) ≡ n * size (layout F) = listed_size (layout F) n in
     omega (arith, small, listed_size p n, inner, outer, mul-le-mul_left n h, fits)
+
+-- the same as one fact by its name
+pub extension_fits : (F S P : RattleType) (n : ℕ) → type_size F ≤ type_size P → FitsInMemory (packed_row F (number n) S P) → ExtensionFits F (number n) S
+extension_fits F S P n h fits = record { fits = scalars_fit F S P n h fits }

@@ -1,6 +1,6 @@
 //! Division of packed extension values by an extension value and by each other.
 ghost use Rattle.std.specs.Prelude.{◌≡◌, ◌<◌, ℕ, map};
-ghost use Rattle.p3_theory.specs.Rings.Ring.{Invertible};
+ghost use Rattle.p3_theory.specs.Rings.Ring.{Invertible, IsInverse};
 ghost use Rattle.p3_theory.specs.Lanes.Lanes.{lane};
 ghost use Rattle.p3_ext.specs.Values.{ext_ops};
 ghost use Rattle.p3_packed.specs.PackedValues.{packed_ops, spread};
@@ -51,6 +51,21 @@ impl<
     }
 }
 
+/// The inverse lane by lane, where an extension value fits in memory.
+#[inline]
+fn inverse_of_lanes<
+    F: FrobeniusExtendable<D, S> + ExtensionOverAlgebra<P, D, S> + Packable,
+    const D: usize,
+    S: ExtensionShape,
+    P: PackedField<F> + Packing,
+>(y: PackedExtField<F, D, S, P>) -> PackedExtField<F, D, S, P>
+    requires room { ExtensionFits F.row D.row S.row }
+    requires inverses { (k : ℕ) → k < P.WIDTH → Invertible (ext_ops F.ops F.modulus) (lane (ext_ops F.ops F.modulus) (value_lanes P.ops F.ops P.lanes P.WIDTH) k y) }
+    ensures { IsInverse (packed_ops P.ops (map ⟦<P as Algebra<F>>⟧.embed F.modulus)) y result }
+{
+    invert_packed_extension::<F, ExtField<F, D, S, F>, PackedExtField<F, D, S, P>>(y)
+}
+
 /// The quotient lane by lane, where an extension value fits in memory.
 #[inline]
 fn quotient<
@@ -63,7 +78,7 @@ fn quotient<
     requires inverses { (k : ℕ) → k < P.WIDTH → Invertible (ext_ops F.ops F.modulus) (lane (ext_ops F.ops F.modulus) (value_lanes P.ops F.ops P.lanes P.WIDTH) k y) }
     ensures { (packed_ops P.ops (map ⟦<P as Algebra<F>>⟧.embed F.modulus)).mul result y ≡ x }
 {
-    x * invert_packed_extension::<F, ExtField<F, D, S, F>, PackedExtField<F, D, S, P>>(y)
+    x * inverse_of_lanes::<F, D, S, P>(y)
 }
 
 /// Division lane by lane, by values whose lanes all have an inverse.

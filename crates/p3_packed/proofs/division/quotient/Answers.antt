@@ -9,7 +9,7 @@ returns g c =
     let m = g.met.F.ExtensionAlgebra in
     let f = g.F.ExtensionAlgebra.modulus in
     let O = g.P.PrimeCharacteristicRing.ops in
-    let i = c.invert_packed_extension.result in
+    let i = c.inverse_of_lanes.result in
     quotient_exact (packed_laws (ring_of g.met.P.PrimeCharacteristicRing.ring) g.met.P.Algebra.embeds m.at_least_two f m.monic) c.args.x c.args.y i c.mul.result
-    c.invert_packed_extension.ensures.inverse
+    c.inverse_of_lanes.ensures
     (packed_product O (map g.P.Algebra.embed f) c.args.x i c.mul.result (g.met.F.ExtensionOverAlgebra.packed_products _ _ _ c.mul.ensures))
