@@ -1,11 +1,8 @@
 //! Calls on packings P of values of an extension of F, and on vectors of such packings: the same for all
 //! extensions and packings.
-use crate::packed_calls::{folds_agree, have_inverses, lanes_agree, mixed_calls_agree, told};
-use crate::packed_lists::{counted_columns_agree, sequences_agree};
-use crate::ring_calls::has_inverse;
-use crate::texts::{packing, side, value};
+use crate::packed_calls::lanes_agree;
+use crate::packed_lists::counted_columns_agree;
 use crate::vector_calls::{Vectors, counted_vectors_agree};
-use p3_base::field::Field;
 use p3_base::packed_traits::{Packable, PackedField};
 use p3_ext::extension::{ExtField, ExtensionOverAlgebra, ExtensionShape, FrobeniusExtendable};
 use p3_packed::holds_scalar::HoldsScalar;
@@ -33,38 +30,11 @@ pub(crate) fn call_agrees<
 >(alloc: Global, rooms: Option<Rooms<F, S, P, D>>, call: Call) -> Result<Option<bool>, AllocError> {
     let (_, count, name, _, _) = call;
     match name {
-        "div" | "div value" => Ok(quotient_agrees::<F, S, P, D>(rooms, call)),
-        "sum" | "product" => sums_over::<F, S, P, D>(alloc, rooms, call),
-        "to_ext_iter" => sequences_over::<F, S, P, D>(alloc, rooms, call),
-        _ if name.starts_with("packed_ext_powers") => {
-            sequences_over::<F, S, P, D>(alloc, rooms, call)
-        }
         _ if name.starts_with("pack_ext") || name.starts_with("unpack_ext") => {
             columns_over::<F, S, P, D>(alloc, rooms, call)
         }
         _ if count > 0 => vectors_over::<F, S, P, D>(alloc, rooms, call),
-        _ if name.contains(' ') || name == "halve" => {
-            mixed_over::<F, S, P, D>(alloc, rooms, call)
-        }
         _ => lanes_over::<F, S, P, D>(alloc, rooms, call),
-    }
-}
-
-/// The types that calls over a field itself make values of.
-pub(crate) type BaseRooms<F, P> = ([F; 4], [P; 4]);
-
-/// Whether a call has its answer over packings of a field, which is an extension of itself. Nothing is
-/// read of `rooms`.
-pub(crate) fn base_call_agrees<F: Field + Packable, P: PackedField<F>>(
-    alloc: Global,
-    _rooms: Option<BaseRooms<F, P>>,
-    call: Call,
-) -> Result<Option<bool>, AllocError> {
-    let (_, _, name, arguments, answer) = call;
-    if name.starts_with("packed_ext_powers") {
-        sequences_agree::<F, F, P>(alloc, name, arguments, answer)
-    } else {
-        lanes_agree::<F, F, P>(alloc, name, arguments, answer)
     }
 }
 
@@ -81,57 +51,6 @@ fn lanes_over<
 ) -> Result<Option<bool>, AllocError> {
     let (_, _, name, arguments, answer) = call;
     lanes_agree::<F, ExtField<F, D, S, F>, PackedExtField<F, D, S, P>>(
-        alloc, name, arguments, answer,
-    )
-}
-
-/// `mixed_calls_agree` over these packings.
-fn mixed_over<
-    F: FrobeniusExtendable<D, S> + ExtensionOverAlgebra<P, D, S> + Packable,
-    S: ExtensionShape,
-    P: PackedField<F> + HoldsScalar<F>,
-    const D: usize,
->(
-    alloc: Global,
-    _rooms: Option<Rooms<F, S, P, D>>,
-    call: Call,
-) -> Result<Option<bool>, AllocError> {
-    let (_, _, name, arguments, answer) = call;
-    mixed_calls_agree::<F, ExtField<F, D, S, F>, PackedExtField<F, D, S, P>, P>(
-        alloc, name, arguments, answer,
-    )
-}
-
-/// `folds_agree` over these packings.
-fn sums_over<
-    F: FrobeniusExtendable<D, S> + ExtensionOverAlgebra<P, D, S> + Packable,
-    S: ExtensionShape,
-    P: PackedField<F> + HoldsScalar<F>,
-    const D: usize,
->(
-    alloc: Global,
-    _rooms: Option<Rooms<F, S, P, D>>,
-    call: Call,
-) -> Result<Option<bool>, AllocError> {
-    let (_, _, name, arguments, answer) = call;
-    folds_agree::<F, ExtField<F, D, S, F>, PackedExtField<F, D, S, P>>(
-        alloc, name, arguments, answer,
-    )
-}
-
-/// `sequences_agree` over these packings.
-fn sequences_over<
-    F: FrobeniusExtendable<D, S> + ExtensionOverAlgebra<P, D, S> + Packable,
-    S: ExtensionShape,
-    P: PackedField<F> + HoldsScalar<F>,
-    const D: usize,
->(
-    alloc: Global,
-    _rooms: Option<Rooms<F, S, P, D>>,
-    call: Call,
-) -> Result<Option<bool>, AllocError> {
-    let (_, _, name, arguments, answer) = call;
-    sequences_agree::<F, ExtField<F, D, S, F>, PackedExtField<F, D, S, P>>(
         alloc, name, arguments, answer,
     )
 }
@@ -170,33 +89,4 @@ fn vectors_over<
     counted_vectors_agree::<F, ExtField<F, D, S, F>, PackedExtField<F, D, S, P>>(
         alloc, None, count, name, arguments, answer,
     )
-}
-
-/// Whether a quotient, of a packing by a packing or by an extension value, is what a text says; none where
-/// the divisor has no inverse.
-fn quotient_agrees<
-    F: FrobeniusExtendable<D, S> + ExtensionOverAlgebra<P, D, S> + Packable,
-    S: ExtensionShape,
-    P: PackedField<F> + HoldsScalar<F>,
-    const D: usize,
->(_rooms: Option<Rooms<F, S, P, D>>, call: Call) -> Option<bool> {
-    let (_, _, name, arguments, answer) = call;
-    let x: PackedExtField<F, D, S, P> = packing::<
-        F,
-        ExtField<F, D, S, F>,
-        PackedExtField<F, D, S, P>,
-    >(side(arguments, 0));
-    let right = side(arguments, 1);
-    if name == "div value" {
-        let y = value::<F, ExtField<F, D, S, F>>(right);
-        if !has_inverse(y) {
-            return None;
-        }
-        return told::<F, ExtField<F, D, S, F>, PackedExtField<F, D, S, P>>(Some(x / y), answer);
-    }
-    let y = packing::<F, ExtField<F, D, S, F>, PackedExtField<F, D, S, P>>(right);
-    if !have_inverses::<F, ExtField<F, D, S, F>, PackedExtField<F, D, S, P>>(y) {
-        return None;
-    }
-    told::<F, ExtField<F, D, S, F>, PackedExtField<F, D, S, P>>(Some(x / y), answer)
 }

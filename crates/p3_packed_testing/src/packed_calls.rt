@@ -4,18 +4,11 @@ ghost use Rattle.std.specs.Prelude.{◌<◌, ℕ, IsTrue};
 ghost use Rattle.p3_theory.specs.Rings.Ring.{Invertible};
 ghost use Rattle.p3_theory.specs.Lanes.Lanes.{lane};
 
-use crate::ring_calls::{
-    folded, half, has_inverse, mixed_operation, mixed_product_of_lists, operation, product_of_lists,
-};
-use crate::texts::{
-    base_packing, base_packings, coefficient, holds, packing, packings, side, value, value_at,
-    values,
-};
+use crate::ring_calls::{has_inverse, operation, product_of_lists};
+use crate::texts::{holds, packing, packings, side, value_at, values};
 use p3_base::field::Field;
-use p3_base::packed_traits::PackedField;
 use p3_batch_inverse::packed_inverse::invert_packed_extension;
 use p3_packings::extension_lanes::ExtensionLanes;
-use p3_ring::ring::{Algebra, PrimeCharacteristicRing, RingSums};
 use p3_spaces::basis::BasedVectorSpace;
 use std::alloc::{AllocError, Global};
 
@@ -130,90 +123,4 @@ where
     let xs = packings::<F, EF, PE>(alloc, left)?;
     let ys = packings::<F, EF, PE>(alloc, right)?;
     Ok(product_of_lists::<PE>(&xs, &ys))
-}
-
-/// Whether the sum or the product of packings is what a text says.
-pub(crate) fn folds_agree<F, EF, PE>(
-    alloc: Global,
-    call: &str,
-    text: &str,
-    answer: &str,
-) -> Result<Option<bool>, AllocError>
-where
-    F: Field,
-    EF: Field + BasedVectorSpace<F>,
-    PE: ExtensionLanes<F, EF> + RingSums,
-{
-    let xs = packings::<F, EF, PE>(alloc, text)?;
-    Ok(told::<F, EF, PE>(folded::<PE>(call, &xs), answer))
-}
-
-/// Whether the dot product of packings and values of another ring is what a text says.
-pub(crate) fn mixed_lists_agree<F, EF, PE, T>(
-    alloc: Global,
-    left: &str,
-    ys: &[T],
-    answer: &str,
-) -> Result<Option<bool>, AllocError>
-where
-    F: Field,
-    EF: Field + BasedVectorSpace<F>,
-    PE: ExtensionLanes<F, EF> + Algebra<T>,
-    T: PrimeCharacteristicRing,
-{
-    let xs = packings::<F, EF, PE>(alloc, left)?;
-    Ok(told::<F, EF, PE>(mixed_product_of_lists::<PE, T>(&xs, ys), answer))
-}
-
-/// Whether a call on packings and packings of the base, extension values or a scalar answers this.
-pub(crate) fn mixed_calls_agree<F, EF, PE, P>(
-    alloc: Global,
-    call: &str,
-    arguments: &str,
-    answer: &str,
-) -> Result<Option<bool>, AllocError>
-where
-    F: Field,
-    EF: Field + BasedVectorSpace<F>,
-    PE: ExtensionLanes<F, EF> + Algebra<EF> + Algebra<P>,
-    P: PackedField<F>,
-{
-    let first = side(arguments, 0);
-    let second = side(arguments, 1);
-    match call {
-        "mixed_dot_product packing" => {
-            let ys = base_packings::<F, P>(alloc, second)?;
-            mixed_lists_agree::<F, EF, PE, P>(alloc, first, &ys, answer)
-        }
-        "mixed_dot_product value" => {
-            let ys = values::<F, EF>(alloc, second)?;
-            mixed_lists_agree::<F, EF, PE, EF>(alloc, first, &ys, answer)
-        }
-        _ => Ok(told::<F, EF, PE>(mixed_result::<F, EF, PE, P>(call, first, second), answer)),
-    }
-}
-
-/// What an operation of a packing and a packing of the base, an extension value or a scalar gives, or the
-/// half of a packing.
-fn mixed_result<F, EF, PE, P>(call: &str, first: &str, second: &str) -> Option<PE>
-where
-    F: Field,
-    EF: Field + BasedVectorSpace<F>,
-    PE: ExtensionLanes<F, EF> + Algebra<EF> + Algebra<P>,
-    P: PackedField<F>,
-{
-    let x = packing::<F, EF, PE>(first);
-    let mut words = call.split(' ');
-    let name = words.next().unwrap_or("");
-    let right = if name == "from" { first } else { second };
-    match words.next().unwrap_or("") {
-        "packing" => mixed_operation::<PE, P>(name, x, base_packing::<F, P>(right)),
-        "scalar" => {
-            let y = P::broadcast(coefficient::<F>(right, 0));
-            mixed_operation::<PE, P>(name, x, y)
-        }
-        "value" => mixed_operation::<PE, EF>(name, x, value::<F, EF>(right)),
-        _ if name == "halve" => half::<PE, EF>(x),
-        _ => None,
-    }
 }

@@ -1,81 +1,11 @@
-//! Powers of an extension value as packings, the values of packings one after the other, and columns of
-//! rows as packings. Told by texts as in `packed_calls`.
-use crate::texts::{all_hold, holds, packing, packings, side, value, value_at};
+//! Columns of rows as packings, told by texts as in `packed_calls`.
+use crate::texts::{all_hold, packing, value_at};
 use p3_base::field::Field;
 use p3_packings::ext_columns::{pack_ext_columns, pack_ext_columns_fn, unpack_ext_into};
 use p3_packings::extension_lanes::ExtensionLanes;
-use p3_packings::packed_field_extension::PackedFieldExtension;
 use p3_ring::ring::PrimeCharacteristicRing;
 use p3_spaces::basis::BasedVectorSpace;
-use p3_spaces::extension_field::ExtensionField;
 use std::alloc::{AllocError, Global};
-
-/// Whether the packings of powers, or the values in the lanes of packings, are those of a text.
-pub(crate) fn sequences_agree<F: Field, EF: ExtensionField<F>, PE: PackedFieldExtension<F, EF>>(
-    alloc: Global,
-    call: &str,
-    arguments: &str,
-    answer: &str,
-) -> Result<Option<bool>, AllocError> {
-    let first = side(arguments, 0);
-    match call {
-        "packed_ext_powers" => Ok(Some(are_powers::<F, EF, PE>(first, answer))),
-        "packed_ext_powers_capped" => {
-            Ok(are_capped_powers::<F, EF, PE>(first, side(arguments, 1), answer))
-        }
-        "to_ext_iter" => {
-            Ok(Some(are_values::<F, EF, PE>(packings::<F, EF, PE>(alloc, first)?, answer)))
-        }
-        _ => Ok(None),
-    }
-}
-
-/// Whether the first powers of a value are those of a text.
-fn are_powers<F: Field, EF: ExtensionField<F>, PE: PackedFieldExtension<F, EF>>(
-    base: &str,
-    text: &str,
-) -> bool {
-    let mut powers = PE::packed_ext_powers(value::<F, EF>(base));
-    for part in text.split_terminator(';') {
-        match powers.next() {
-            Some(packing) if holds::<F, EF, PE>(&packing, part) => {}
-            _ => return false,
-        }
-    }
-    true
-}
-
-/// Whether the powers of a value that a number of them needs are those of a text, and no more.
-fn are_capped_powers<F: Field, EF: ExtensionField<F>, PE: PackedFieldExtension<F, EF>>(
-    base: &str,
-    length: &str,
-    text: &str,
-) -> Option<bool> {
-    let length = length.parse::<usize>().ok()?;
-    let mut powers = PE::packed_ext_powers_capped(value::<F, EF>(base), length);
-    for part in text.split_terminator(';') {
-        match powers.next() {
-            Some(packing) if holds::<F, EF, PE>(&packing, part) => {}
-            _ => return Some(false),
-        }
-    }
-    Some(powers.next().is_none())
-}
-
-/// Whether the values in the lanes of packings are those of a text.
-fn are_values<F: Field, EF: ExtensionField<F>, PE: PackedFieldExtension<F, EF>>(
-    packings: Vec<PE>,
-    text: &str,
-) -> bool {
-    let mut words = text.split_ascii_whitespace();
-    for found in PE::to_ext_iter(packings.into_iter()) {
-        match words.next() {
-            Some(word) if found == value::<F, EF>(word) => {}
-            _ => return false,
-        }
-    }
-    words.next().is_none()
-}
 
 /// The part at an index between the semicolons of a text.
 fn part(text: &str, index: usize) -> &str {

@@ -3,7 +3,7 @@ ghost use Rattle.std.specs.Prelude.{IsTrue};
 ghost use Rattle.p3_theory.specs.Rings.Ring.{Invertible};
 
 use p3_base::field::Field;
-use p3_ring::ring::{Algebra, PrimeCharacteristicRing, RingSums};
+use p3_ring::ring::PrimeCharacteristicRing;
 
 /// What an operation gives; none where the name is no operation's.
 pub(crate) fn operation<R: PrimeCharacteristicRing>(
@@ -26,48 +26,12 @@ pub(crate) fn operation<R: PrimeCharacteristicRing>(
     }
 }
 
-/// What an operation with a value of another ring on the right gives.
-pub(crate) fn mixed_operation<R: Algebra<T>, T: PrimeCharacteristicRing>(
-    operation: &str,
-    x: R,
-    y: T,
-) -> Option<R> {
-    match operation {
-        "add" => Some(x + y),
-        "sub" => Some(x - y),
-        "mul" => Some(x * y),
-        "from" => Some(<R as From<T>>::from(y)),
-        _ => None,
-    }
-}
-
 /// The dot product of two lists, where they have the same length.
 pub(crate) fn product_of_lists<R: PrimeCharacteristicRing>(xs: &[R], ys: &[R]) -> Option<R> {
     if xs.len() == ys.len() {
         Some(R::dot_product(xs, ys))
     } else {
         None
-    }
-}
-
-/// The dot product of a list and one of another ring, where they have the same length.
-pub(crate) fn mixed_product_of_lists<R: Algebra<T>, T: PrimeCharacteristicRing>(
-    xs: &[R],
-    ys: &[T],
-) -> Option<R> {
-    if xs.len() == ys.len() {
-        Some(<R as Algebra<T>>::mixed_dot_product(xs, ys))
-    } else {
-        None
-    }
-}
-
-/// The sum of a list, or its product.
-pub(crate) fn folded<R: RingSums>(call: &str, xs: &[R]) -> Option<R> {
-    match call {
-        "sum" => Some(xs.iter().copied().sum()),
-        "product" => Some(xs.iter().copied().product()),
-        _ => None,
     }
 }
 
@@ -79,13 +43,4 @@ pub(crate) fn has_inverse<T: Field>(y: T) -> bool
         Some(_) => true,
         None => false,
     }
-}
-
-/// The half of a value of an algebra over a ring where two has an inverse.
-pub(crate) fn half<R: Algebra<T>, T: Field>(x: R) -> Option<R> {
-    let two = T::two();
-    if !has_inverse(two) {
-        return None;
-    }
-    Some(x.halve())
 }

@@ -1,8 +1,6 @@
 //! Values, packings and lists of them, told by texts: packings stand between semicolons, the values of
-//! lanes between spaces, and the coefficients of a value between commas. The lanes of a packing of the
-//! base stand between commas.
+//! lanes between spaces, and the coefficients of a value between commas.
 use p3_base::field::Field;
-use p3_base::packed_traits::PackedField;
 use p3_packings::extension_lanes::ExtensionLanes;
 use p3_spaces::basis::BasedVectorSpace;
 use std::alloc::{AllocError, Global};
@@ -33,11 +31,6 @@ pub(crate) fn packing<F: Field, EF: Field + BasedVectorSpace<F>, PE: ExtensionLa
     PE::from_ext_fn(|lane: usize| -> EF { value_at::<F, EF>(text, lane) })
 }
 
-/// The packing of the base with the lanes of a text, zero past its end.
-pub(crate) fn base_packing<F: Field, P: PackedField<F>>(text: &str) -> P {
-    P::from_fn(|lane: usize| -> F { coefficient::<F>(text, lane) })
-}
-
 /// The values of a text, whatever packing they stand in.
 pub(crate) fn values<F: Field, EF: Field + BasedVectorSpace<F>>(
     alloc: Global,
@@ -60,18 +53,6 @@ pub(crate) fn packings<F: Field, EF: Field + BasedVectorSpace<F>, PE: ExtensionL
     let mut packings = Vec::new(alloc);
     for part in text.split_terminator(';') {
         packings.push(packing::<F, EF, PE>(part))?;
-    }
-    Ok(packings)
-}
-
-/// The packings of the base of a text, with spaces between them.
-pub(crate) fn base_packings<F: Field, P: PackedField<F>>(
-    alloc: Global,
-    text: &str,
-) -> Result<Vec<P>, AllocError> {
-    let mut packings = Vec::new(alloc);
-    for word in text.split_ascii_whitespace() {
-        packings.push(base_packing::<F, P>(word))?;
     }
     Ok(packings)
 }
