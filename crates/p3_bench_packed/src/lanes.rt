@@ -8,6 +8,7 @@ use p3_bench_prime::form::{Form, Word};
 use p3_bench_prime::fp::Fp;
 use p3_packed::holds_scalar::HoldsScalar;
 use p3_packed::packed_ext_field::Packing;
+use p3_ring::packed_ring::PackedRing;
 use p3_vectorized::vectorized::lanes::LaneCountFits;
 
 impl<F: Packable, const N: usize> PackedValue for Packed<F, N> {
@@ -86,8 +87,8 @@ pub trait LanesPow2<const N: usize>: Lanes<N> {
     ghost power_of_two: { (k : ℕ) × (N ≡ 2 ^ k) };
 }
 
-impl<F: Lanes<N>, const N: usize> PackedField<F> for Packed<F, N> {
-    ghost use Rattle.p3_theory.specs.Lanes.RowRing.{items_keep, items-constant, unit_at_item, written_quotient, written_mixed_quotient};
+impl<F: Lanes<N>, const N: usize> PackedRing<F> for Packed<F, N> {
+    ghost use Rattle.p3_theory.specs.Lanes.RowRing.{items_keep, items-constant};
     ghost use Rattle.p3_bench_packed.specs.Values.{packed_rows, same_value};
 
     ghost some_lane = { F.some_lane };
@@ -99,6 +100,11 @@ impl<F: Lanes<N>, const N: usize> PackedField<F> for Packed<F, N> {
     ghost keeps = { items_keep packed_rows F.ops };
 
     ghost injects = { items-constant packed_rows F.ops };
+}
+
+impl<F: Lanes<N>, const N: usize> PackedField<F> for Packed<F, N> {
+    ghost use Rattle.p3_theory.specs.Lanes.RowRing.{unit_at_item, written_quotient, written_mixed_quotient};
+    ghost use Rattle.p3_bench_packed.specs.Values.{packed_rows};
 
     ghost can_divide = { λ x y h d k w. F.can_divide _ _ (unit_at_item packed_rows F.ops y h d k w) };
 

@@ -41,7 +41,7 @@ pub use Rattle.p3_theory.specs.Roots.TwoAdicCoefficients
 pub use Rattle.p3_theory.specs.Roots.ValueLists
 pub use Rattle.p3_ring.specs.BoundedSequence
 pub use Rattle.p3_ring.specs.ChunkLengths
-pub use Rattle.p3_base.specs.PackedPowers
+pub use Rattle.p3_ring.specs.PackedPowers
 pub use Rattle.p3_spaces.specs.CoefficientSums
 pub use Rattle.p3_spaces.specs.Streams
 pub use Rattle.p3_tools.specs.BackwardRuns

@@ -29,10 +29,10 @@ fn items_made<F: PrimeField64 + InMemory, A: Allocator + Copy>(
     let three = F::from_u64(3);
     match call {
         "zero_vec" => F::zero_vec_in(alloc, count),
-        "collect_n" => three.powers().collect_n_in(alloc, count),
-        "take" => three.powers().take(count).collect_in(alloc),
-        "shifted collect_n" => three.shifted_powers(F::two()).collect_n_in(alloc, count),
-        "shifted take" => three.shifted_powers(F::two()).take(count).collect_in(alloc),
+        "collect_n" => three.powers().collect_n_in::<F, A>(alloc, count),
+        "take" => three.powers().take(count).collect_in::<F, A>(alloc),
+        "shifted collect_n" => three.shifted_powers(F::two()).collect_n_in::<F, A>(alloc, count),
+        "shifted take" => three.shifted_powers(F::two()).take(count).collect_in::<F, A>(alloc),
         _ => Err(AllocError),
     }
 }
@@ -230,9 +230,9 @@ fn growths_of_an_orbit(rt: HostRuntime) {
 fn assert_ample<F: PrimeField64 + InMemory>(rt: &(impl Abort + AllocGlobal)) -> Result<(), Fail> {
     let three = F::from_u64(3);
     assert!(rt; is_list("0,0", &F::zero_vec(rt.alloc(), 2)?));
-    let powers = three.shifted_powers(F::two()).collect_n(rt.alloc(), 4)?;
+    let powers = three.shifted_powers(F::two()).collect_n::<F>(rt.alloc(), 4)?;
     assert!(rt; is_list("2,6,1,3", &powers));
-    let bounded = three.shifted_powers(F::two()).take(4).collect(rt.alloc())?;
+    let bounded = three.shifted_powers(F::two()).take(4).collect::<F>(rt.alloc())?;
     assert!(rt; is_list("2,6,1,3", &bounded));
     Ok(())
 }

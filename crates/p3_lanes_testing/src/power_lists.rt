@@ -55,7 +55,7 @@ pub(crate) fn are_taken<F: Field>(
     let Some((length, values)) = row.answer.split_once('|') else {
         return Ok(None);
     };
-    let taken = powers.collect(alloc)?;
+    let taken = powers.collect::<R>(alloc)?;
     Ok(Some(
         length.parse::<usize>() == Ok(taken.len())
             && hold_at(&taken, row.argument(3), values, generator),

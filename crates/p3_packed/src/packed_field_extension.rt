@@ -89,7 +89,7 @@ impl<
 
     ghost ext_lengths = { λ x. length-tabulate P.WIDTH _ };
 
-    ghost ext_same = { lanes_apart P.ops F.ops P.lanes P.WIDTH P.PackedField.same P.PackedField.lengths };
+    ghost ext_same = { lanes_apart P.ops F.ops P.lanes P.WIDTH P.PackedRing.same P.PackedRing.lengths };
 
     ghost ext_keeps = { lanes_keep P.ops F.ops P.lanes P.WIDTH P.keeps (map ⟦<P as Algebra<F>>⟧.embed F.modulus) F.modulus (λ k h. lane_of_spread F.ops P.lanes P.WIDTH ⟦<P as Algebra<F>>⟧.embed P.injects k h F.modulus) };
 }

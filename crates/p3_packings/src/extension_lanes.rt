@@ -130,7 +130,7 @@ impl<F: Field + Packable, P: PackedField<F>> ExtensionLanes<F, F> for P {
 
     ghost ext_lengths = { P.lengths };
 
-    ghost ext_same = { P.PackedField.same };
+    ghost ext_same = { P.PackedRing.same };
 
     ghost ext_keeps = { P.keeps };
 }

@@ -4,7 +4,7 @@ ghost use Rattle.std.specs.List.{flat_map};
 ghost use Rattle.std.specs.Iterator.{IsFinite, UpTo, size};
 ghost use Rattle.p3_theory.specs.Lanes.Lanes.{lane};
 ghost use Rattle.p3_ring.specs.BoundedSequence.{terms};
-ghost use Rattle.p3_base.specs.PackedPowers.{PacksTerms};
+ghost use Rattle.p3_ring.specs.PackedPowers.{PacksTerms};
 ghost use Rattle.p3_packings.specs.CappedPowers.{PacksPowers};
 ghost use Rattle.p3_spaces.specs.Streams.{YieldsExactly, DrawnFrom};
 

@@ -1,1 +1,3 @@
 mod NextTerm
+mod EightFurther
+mod PackedGroups

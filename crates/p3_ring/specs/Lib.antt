@@ -1,2 +1,3 @@
 pub mod BoundedSequence
 pub mod ChunkLengths
+pub mod PackedPowers

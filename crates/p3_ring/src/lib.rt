@@ -6,9 +6,10 @@ pub mod const_power;
 pub mod exponentiation;
 pub mod halves;
 pub mod linear_combination;
+pub mod packed_ring;
 pub mod powers;
 pub mod ring;
 pub mod sponge;
 pub mod sums;
 
-pub use p3_integers::{dup as dup, integers as integers};
+pub use p3_integers::{dup as dup, integers as integers, packed_value as packed_value};

@@ -14,5 +14,5 @@ loop-lane-preserved g c =
 
 pub returns : goal.returns
 returns g c t =
-    one_by_lanes g.P.PrimeCharacteristicRing.ops g.F.PrimeCharacteristicRing.ops g.P.PackedValue.lanes _ g.met.P.PackedField.keeps g.met.P.PackedField.lengths g.met.P.PackedField.same c.args.packing
+    one_by_lanes g.P.PrimeCharacteristicRing.ops g.F.PrimeCharacteristicRing.ops g.P.PackedValue.lanes _ g.met.P.PackedRing.keeps g.met.P.PackedRing.lengths g.met.P.PackedRing.same c.args.packing
     (λ k h. c.loop-lane.invariant k (omega (arith, h, c.WIDTH-lane-end.ensures, c.loop-lane-test.false)))

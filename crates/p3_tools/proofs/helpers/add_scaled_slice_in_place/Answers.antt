@@ -22,7 +22,7 @@ loop-i-preserved g c =
       added = subst (λ n. take n new ++ zip_with f (drop n new) (drop n other) ≡ zip_with f c.args.slice.now other) (sym step)
           (combined_group f new c.loop-i.slice other c.args.slice.now (i * w) w c.store_block.ensures.before
           (c.store_block.ensures.block ∙ ap lanes (sum ∙ ap (o.add c.load_block-x.result) product)
-          ∙ combined_lanes o q lanes w g.met.P.PackedField.lengths g.met.P.PackedField.keeps c.load_block-x.result c.load_block-y.result (g.P.Algebra.embed c.args.s) c.args.s (g.met.P.PackedField.injects c.args.s)
+          ∙ combined_lanes o q lanes w g.met.P.PackedRing.lengths g.met.P.PackedRing.keeps c.load_block-x.result c.load_block-y.result (g.P.Algebra.embed c.args.s) c.args.s (g.met.P.PackedRing.injects c.args.s)
           ∙ ap₂ (zip_with f) c.load_block-x.ensures c.load_block-y.ensures)
           c.store_block.ensures.after c.loop-i.invariant.added);
     }

@@ -18,7 +18,7 @@ loop-i-preserved g c =
       scaled = subst (λ n. take n new ++ map f (drop n new) ≡ map f c.args.slice.now) (sym step)
           (mapped_group f new c.loop-i.slice c.args.slice.now (i * w) w c.store_block.ensures.before
           (c.store_block.ensures.block ∙ ap lanes (g.met.P.Algebra.mixed_muls.answer _ _ _ c.mul-product.ensures)
-          ∙ scaled_lanes o q lanes w g.met.P.PackedField.lengths g.met.P.PackedField.keeps c.load_block.result (g.P.Algebra.embed c.args.s) c.args.s (g.met.P.PackedField.injects c.args.s)
+          ∙ scaled_lanes o q lanes w g.met.P.PackedRing.lengths g.met.P.PackedRing.keeps c.load_block.result (g.P.Algebra.embed c.args.s) c.args.s (g.met.P.PackedRing.injects c.args.s)
           ∙ ap (map f) c.load_block.ensures)
           c.store_block.ensures.after c.loop-i.invariant.scaled);
     }

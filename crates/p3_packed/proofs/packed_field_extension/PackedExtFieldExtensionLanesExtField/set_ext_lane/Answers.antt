@@ -22,5 +22,5 @@ loop-i-preserved g c =
 
 pub returns : goal.returns
 returns g c =
-    lane_written g.P.PrimeCharacteristicRing.ops g.F.PrimeCharacteristicRing.ops g.P.PackedValue.lanes g.P.PackedValue.WIDTH g.met.P.PackedField.lengths c.args.self.now c.new.result _ c.args.lane c.requires
+    lane_written g.P.PrimeCharacteristicRing.ops g.F.PrimeCharacteristicRing.ops g.P.PackedValue.lanes g.P.PackedValue.WIDTH g.met.P.PackedRing.lengths c.args.self.now c.new.result _ c.args.lane c.requires
     (λ p i u. ap (λ l. g.P.PackedValue.lanes (get_or l i p)) c.new.ensures ∙ c.loop-i.invariant.written p i (omega (arith, u, c.loop-i-test.false)))

@@ -3,7 +3,7 @@ use Rattle.std.specs.Prelude.{replicate}
 use Rattle.p3_theory.specs.Rings.Powers.{power}
 use Rattle.p3_theory.specs.Rings.GeometricSequence.{geometric_term, next_term, first_term}
 use Rattle.p3_theory.specs.Lists.TabulatedPlaces.{HoldsBelow, holds-none, holds-more}
-use Rattle.p3_base.specs.PackedPowers.{packs-terms}
+use Rattle.p3_ring.specs.PackedPowers.{packs-terms}
 use Rattle.p3_packings.proofs.packed_field_extension.PackedFieldExtension.packed_ext_powers.Goals as goal
 
 pub loop-lane-init : goal.loop-lane-init

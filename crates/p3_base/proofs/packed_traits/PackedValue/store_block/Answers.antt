@@ -1,6 +1,0 @@
-use Rattle.std.proofs.Common.{rules}
-use Rattle.std.proofs.lemmas.Slice.{overwrites}
-use Rattle.p3_base.proofs.packed_traits.PackedValue.store_block.Goals as goal
-
-pub returns-clause-after : goal.returns-clause-after
-returns-clause-after g c = search (rules, overwrites)
