@@ -79,11 +79,7 @@ impl<
     #[inline]
     fn set_ext_lane(&mut self, lane: usize, value: ExtField<F, D, S, F>) {
         let mut parts = self.value.value;
-        for i in 0..D {
-            let mut part = parts[i];
-            part.set_lane(lane, value.value[i]);
-            parts[i] = part;
-        }
+        write_lanes::<F, P>(&mut parts, lane, &value.value);
         *self = Self::new(parts);
     }
 

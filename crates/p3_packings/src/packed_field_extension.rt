@@ -3,6 +3,8 @@ ghost use Rattle.std.specs.Int.{div_ceil};
 ghost use Rattle.std.specs.List.{flat_map};
 ghost use Rattle.std.specs.Iterator.{IsFinite, UpTo, size};
 ghost use Rattle.p3_theory.specs.Lanes.Lanes.{lane};
+ghost use Rattle.p3_theory.specs.Lists.TabulatedPlaces.{HoldsBelow};
+ghost use Rattle.p3_theory.specs.Rings.GeometricSequence.{geometric_term};
 ghost use Rattle.p3_ring.specs.BoundedSequence.{terms};
 ghost use Rattle.p3_ring.specs.PackedPowers.{PacksTerms};
 ghost use Rattle.p3_packings.specs.CappedPowers.{PacksPowers};
@@ -13,10 +15,25 @@ use crate::extension_lanes::ExtensionLanes;
 use p3_base::field::Field;
 use p3_base::packed_traits::{Packable, PackedField};
 use p3_ring::powers::{BoundedPowers, Powers};
-use p3_ring::ring::Algebra;
+use p3_ring::ring::{Algebra, PrimeCharacteristicRing};
 use p3_spaces::basis::BasedVectorSpace;
 use p3_spaces::extension_field::ExtensionField;
 use std::marker::PhantomData;
+
+/// The powers of the base from one upward, one in each lane, and the power that comes after them.
+#[inline]
+fn powers_by_lanes<F, EF: PrimeCharacteristicRing, P: ExtensionLanes<F, EF>>(base: EF) -> (P, EF)
+    ensures lanes { HoldsBelow (geometric_term EF.ops base EF.ops.one) EF.ops.zero (P.ext_lanes result.0) P.LANES }
+    ensures next { result.1 ≡ geometric_term EF.ops base EF.ops.one P.LANES }
+{
+    let mut current = P::zero();
+    let mut power = EF::one();
+    for lane in 0..P::LANES {
+        current.set_ext_lane(lane, power);
+        power *= base;
+    }
+    (current, power)
+}
 
 /// Values of an extension side by side: what an operation gives at a lane is the extension's own
 /// operation on that lane, and the coefficients at a lane are that lane of the coefficients. Upstream's
@@ -46,12 +63,7 @@ pub trait PackedFieldExtension<F: Field, EF: ExtensionField<F>>: ExtensionLanes<
     final fn packed_ext_powers(base: EF) -> Powers<Self>
         ensures { PacksTerms Self.ops EF.ops Self.ext_lanes Self.LANES result.base result.current base EF.ops.one }
     {
-        let mut current = Self::zero();
-        let mut power = EF::one();
-        for lane in 0..Self::LANES {
-            current.set_ext_lane(lane, power);
-            power *= base;
-        }
+        let (current, power) = powers_by_lanes::<F, EF, Self>(base);
         Powers {
             base: <Self as From<EF>>::from(power),
             current,

@@ -1,10 +1,14 @@
 //! The lanes of a vector of packings: those of its packings, one packing after the other.
 ghost use Rattle.std.specs.Prelude.{◌≡◌, ◌<◌, ◌*◌, ◌^◌, get_or, slice_set};
+ghost use Rattle.std.specs.Array.{IsFromFnResult};
+ghost use Rattle.p3_theory.specs.Bases.Coordinates.{CallableBelow};
 ghost use Rattle.p3_vectorized.specs.VectorLists.{vector_lanes};
 
 use super::Vectorized;
 use p3_base::field::Field;
-use p3_base::packed_traits::{Packable, PackedField, PackedValue};
+use p3_base::packed_traits::{Inhabited, Packable, PackedField, PackedValue};
+use p3_ring::packed_ring::PackedRing;
+use p3_ring::ring::PrimeCharacteristicRing;
 
 /// A packing of which N have fewer than `2^64` lanes together: what a vector of N asks for, so that its
 /// lanes are counted by a `usize`. The fact is computed at each packing and N. This project's own;
@@ -14,7 +18,7 @@ pub trait LaneCountFits<F: Field, const N: usize>: PackedField<F> {
     ghost fits: { Self.WIDTH * N < 2 ^ 64 };
 }
 
-impl<F: Field, P: PackedField<F>, const N: usize> Vectorized<F, P, N> {
+impl<F: Copy, P: Inhabited, const N: usize> Vectorized<F, P, N> {
     /// The packing at an index below N.
     #[inline]
     fn part(&self, index: usize) -> P
@@ -36,7 +40,9 @@ impl<F: Field, P: PackedField<F>, const N: usize> Vectorized<F, P, N> {
         parts[index] = part;
         *self = Self::new(parts);
     }
+}
 
+impl<F: PrimeCharacteristicRing, P: PackedRing<F> + Inhabited, const N: usize> Vectorized<F, P, N> {
     /// Writes a lane, which is below `WIDTH * N`.
     #[inline]
     fn write_lane(&mut self, lane: usize, value: F)
@@ -47,6 +53,21 @@ impl<F: Field, P: PackedField<F>, const N: usize> Vectorized<F, P, N> {
         let mut part = self.part(lane / width);
         part.set_lane(lane % width, value);
         self.set_part(lane / width, part);
+    }
+
+    /// The vector whose lane i is what the closure answers at i, for i from 0 upward.
+    #[inline]
+    fn by_lanes<G: FnMut(usize) -> F>(mut f: G) -> Self
+        requires can { CallableBelow G.FnMut (P.WIDTH * N) f }
+        requires fits { P.WIDTH * N < 2 ^ 64 }
+        ensures { IsFromFnResult G.FnMut f (vector_lanes P.ops F.ops P.lanes P.WIDTH result) (P.WIDTH * N) }
+    {
+        let mut vector = Self::new([P::zero(); N]);
+        for lane in 0..P::WIDTH * N {
+            let value = f(lane);
+            vector.write_lane(lane, value);
+        }
+        vector
     }
 }
 
@@ -62,13 +83,8 @@ impl<F: Field + Packable, P: LaneCountFits<F, N>, const N: usize> PackedValue
     ghost lanes = { vector_lanes P.ops F.ops P.lanes P.WIDTH };
 
     #[inline]
-    fn from_fn<G: FnMut(usize) -> F>(mut f: G) -> Self {
-        let mut vector = Self::new([P::zero(); N]);
-        for lane in 0..P::WIDTH * N {
-            let value = f(lane);
-            vector.write_lane(lane, value);
-        }
-        vector
+    fn from_fn<G: FnMut(usize) -> F>(f: G) -> Self {
+        Self::by_lanes(f)
     }
 
     #[inline]

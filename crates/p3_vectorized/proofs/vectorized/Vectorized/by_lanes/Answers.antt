@@ -3,10 +3,10 @@ use Rattle.std.proofs.Common.{arith, ap}
 use borrow.Author.Rules.{of_calls}
 use Rattle.p3_vectorized.specs.VectorLists.{vector_lanes, length-lanes}
 use Rattle.p3_packings.specs.CallsInTurn.{answered-none, answered-callable, answered-more, answered-all}
-use Rattle.p3_vectorized.proofs.vectorized.lanes.VectorizedPackedValue.from_fn.Goals as goal
+use Rattle.p3_vectorized.proofs.vectorized.Vectorized.by_lanes.Goals as goal
 
 pub loop-lane-init : goal.loop-lane-init
-loop-lane-init g c = (λ h. h, answered-none g.G.FnMut (g.P.PackedValue.WIDTH * g.row.N) g.F.PrimeCharacteristicRing.ops.zero c.args.f _ c.requires)
+loop-lane-init g c = (λ h. h, answered-none g.G.FnMut (g.P.PackedValue.WIDTH * g.row.N) g.F.PrimeCharacteristicRing.ops.zero c.args.f _ c.requires.can)
 
 pub f-value-requires : goal.f-value-requires
 f-value-requires g c =

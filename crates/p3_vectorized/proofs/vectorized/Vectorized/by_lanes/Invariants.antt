@@ -2,7 +2,7 @@ use Rattle.std.proofs.Common.{◌*◌}
 use denote.Param.Always.{always_mut}
 use Rattle.p3_vectorized.specs.VectorLists.{vector_lanes}
 use Rattle.p3_packings.specs.CallsInTurn.{AnsweredBelow}
-use Rattle.p3_vectorized.proofs.vectorized.lanes.VectorizedPackedValue.from_fn.Given as goal
+use Rattle.p3_vectorized.proofs.vectorized.Vectorized.by_lanes.Given as goal
 
 abbrev pub invariant-loop-lane : goal.invariant-loop-lane
 invariant-loop-lane g l =

@@ -1,7 +1,7 @@
 use Rattle.std.proofs.Common.{◌≡◌}
 use Rattle.p3_theory.specs.Rings.GeometricSequence.{geometric_term}
 use Rattle.p3_theory.specs.Lists.TabulatedPlaces.{HoldsBelow}
-use Rattle.p3_packings.proofs.packed_field_extension.PackedFieldExtension.packed_ext_powers.Given as goal
+use Rattle.p3_packings.proofs.packed_field_extension.powers_by_lanes.Given as goal
 
 abbrev pub invariant-loop-lane : goal.invariant-loop-lane
 invariant-loop-lane g l =
@@ -9,5 +9,5 @@ invariant-loop-lane g l =
     let term = geometric_term o l.fn.base o.one in
     record {
       term_is : l.power ≡ term l.lane;
-      held : HoldsBelow term o.zero (g.Self.ExtensionLanes.ext_lanes l.current) l.lane;
+      held : HoldsBelow term o.zero (g.P.ExtensionLanes.ext_lanes l.current) l.lane;
     }
