@@ -1,4 +1,4 @@
-ghost use Rattle.std.specs.Prelude.{◌≡◌, ◌<◌, ℕ, length, get_or, map};
+ghost use Rattle.std.specs.Prelude.{◌≡◌, ◌<◌, ℕ, length, get_or, map, slice_set};
 
 use crate::packed_ext_field::{PackedExtField, Packing};
 use p3_base::field::Field;
@@ -6,6 +6,7 @@ use p3_base::packed_traits::{Packable, PackedField, PackedValue};
 use p3_ext::extension::{ExtField, ExtensionOverAlgebra, ExtensionShape, FrobeniusExtendable};
 use p3_packings::extension_lanes::ExtensionLanes;
 use p3_packings::packed_field_extension::PackedFieldExtension;
+use p3_ring::packed_ring::PackedRing;
 use p3_ring::ring::{Algebra, PrimeCharacteristicRing};
 
 /// The packing of coefficient i of the values.
@@ -40,6 +41,25 @@ fn pack_coefficients<F: Field, P: PackedField<F>, const D: usize, S: Copy>(
     for i in 0..D {
         let part = packed_coefficient::<F, P, D, S>(slice, i);
         res[i] = part;
+    }
+}
+
+/// Writes a lane of each packing: that of packing i gets value i.
+#[inline]
+fn write_lanes<F: PrimeCharacteristicRing, P: PackedRing<F>>(
+    parts: &mut [P],
+    lane: usize,
+    values: &[F],
+)
+    requires inside { lane < P.WIDTH }
+    requires values { length values.now ≡ length parts.old }
+    ensures long { length parts.new ≡ length parts.old }
+    ensures written { (p : P) (i : ℕ) → i < length parts.old → P.lanes (get_or parts.new i p) ≡ slice_set (P.lanes (get_or parts.old i p)) lane (get_or values.now i F.ops.zero) }
+{
+    for i in 0..parts.len() {
+        let mut part = parts[i];
+        part.set_lane(lane, values[i]);
+        parts[i] = part;
     }
 }
 
