@@ -1,2 +1,4 @@
 pub mod GroupSteps
 pub mod YieldedItems
+pub mod TurningStrands
+pub mod BackwardFolds

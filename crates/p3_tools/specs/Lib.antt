@@ -1,2 +1,3 @@
 pub mod PairedRuns
 pub mod BackwardRuns
+pub mod Strands

@@ -10,11 +10,19 @@ ghost use Rattle.p3_theory.specs.Rings.Powers.{eval};
 ghost use Rattle.p3_theory.specs.Lists.PairedLists.{zip_with};
 ghost use Rattle.p3_tools.specs.BackwardRuns.{RunsBackward, IfYieldsBackward};
 ghost use Rattle.p3_tools.specs.PairedRuns.{RunInPairs, IfBothYield};
+ghost use Rattle.p3_tools.specs.Strands.{joined};
 
 use p3_base::field::Field;
 use p3_base::packed_traits::{PackedField, PackedValue};
 use p3_ring::powers::BoundedPowers;
 use p3_ring::ring::{Algebra, PrimeCharacteristicRing, RingSums};
+use std::mem::size_of_val;
+
+/// From how many coefficients on Horner's rule goes in four strands, by values of up to eight bytes.
+const STRANDS_FROM: usize = 16;
+
+/// The same by longer values.
+const STRANDS_FROM_WIDE: usize = 128;
 
 /// The powers of `generator` from one on, `order` of them. Where the order is that of the generator
 /// they are the subgroup that it generates. Upstream's `cyclic_subgroup_known_order`.
@@ -165,6 +173,50 @@ where
     li.zip(ri).map(|(l, r)| l * r).sum()
 }
 
+/// The value of four strands at `x`, the oldest of them times `x` to the power 3, and so on down to the
+/// newest. This project's own.
+#[inline]
+fn join_strands<Acc, X>(s0: Acc, s1: Acc, s2: Acc, s3: Acc, x: X) -> Acc
+where
+    X: PrimeCharacteristicRing,
+    Acc: Algebra<X>,
+    ensures { result ≡ joined Acc.ops (⟦<Acc as Algebra<X>>⟧.embed x) s0 s1 s2 s3 }
+{
+    ((s0 * x + s1) * x + s2) * x + s3
+}
+
+/// `horner_acc` by four strands that take turns, so that four products run side by side: each coefficient
+/// goes to the oldest strand, times `x` to the power 4, which is the newest then. This project's own.
+#[inline]
+fn horner_in_strands<I, Acc, X>(coefficients: I, acc: Acc, x: X) -> Acc
+where
+    I: DoubleEndedIterator,
+    I::Item: PrimeCharacteristicRing,
+    X: PrimeCharacteristicRing,
+    Acc: Algebra<X> + Algebra<I::Item>,
+    requires can { I.can_next_back coefficients }
+    requires ends { IsFinite (I.remaining coefficients) }
+    ensures runs { let point = ⟦<Acc as Algebra<X>>⟧.embed x in
+        RunsBackward I.next_back_gives coefficients (λ cs. result ≡ eval_from I.Item.ops Acc.ops ⟦<Acc as Algebra<I::Item>>⟧.embed acc point cs) }
+    ensures lists { let point = ⟦<Acc as Algebra<X>>⟧.embed x in
+        IfYieldsBackward I.next_back_gives coefficients (λ cs. result ≡ eval_from I.Item.ops Acc.ops ⟦<Acc as Algebra<I::Item>>⟧.embed acc point cs) }
+{
+    let step = x.exp_power_of_2(2);
+    let zero = Acc::zero();
+    let mut s0 = zero;
+    let mut s1 = zero;
+    let mut s2 = zero;
+    let mut s3 = acc;
+    for coefficient in coefficients.rev() {
+        let next = s0 * step + coefficient;
+        s0 = s1;
+        s1 = s2;
+        s2 = s3;
+        s3 = next;
+    }
+    join_strands(s0, s1, s2, s3, x)
+}
+
 /// Polynomials at a point by Horner's rule, for every iterator over coefficients, the lowest
 /// first, that also goes backwards. Upstream's `HornerIter`.
 pub trait HornerIter: DoubleEndedIterator + Sized
@@ -172,7 +224,7 @@ where
     Self::Item: PrimeCharacteristicRing,
 {
     /// The sum of the item at place i times `x` to the power i, and `acc` times `x` to the power
-    /// of the length. Upstream's `horner_acc`.
+    /// of the length; a long list by four strands of products side by side. Upstream's `horner_acc`.
     #[inline]
     fn horner_acc<Acc, X>(self, acc: Acc, x: X) -> Acc
     where
@@ -185,6 +237,14 @@ where
         ensures lists { let point = ⟦<Acc as Algebra<X>>⟧.embed x in
             IfYieldsBackward Self.next_back_gives self (λ cs. result ≡ eval_from Self.Item.ops Acc.ops ⟦<Acc as Algebra<Self::Item>>⟧.embed acc point cs) }
     {
+        let enough = if size_of_val(&acc) > 8 {
+            STRANDS_FROM_WIDE
+        } else {
+            STRANDS_FROM
+        };
+        if self.size_hint().0 >= enough {
+            return horner_in_strands(self, acc, x);
+        }
         let mut sum = acc;
         for coefficient in self.rev() {
             sum = sum * x + coefficient;
