@@ -1,9 +1,8 @@
-use Rattle.std.proofs.Common.{◌≡◌, ◌∷◌, [], Option, None, ap, subst, sym, ◌∙◌, rules}
+use Rattle.std.proofs.Common.{◌≡◌, ◌∷◌, [], Option, None, subst, sym, ◌∙◌, rules}
+use Rattle.std.specs.Prelude.{fold}
 use Rattle.std.specs.Iterator.Adapters.{rev_steps}
 use Rattle.std.proofs.lemmas.List.Sums.{fold-append}
 use Rattle.p3_theory.specs.Rings.Ring.{ring_of}
-use Rattle.p3_theory.specs.Rings.Powers.{power}
-use Rattle.p3_theory.specs.Rings.Homomorphism.{map-power}
 use Rattle.p3_tools.proofs.BackwardFolds.{folded_back}
 use Rattle.p3_tools.proofs.TurningStrands.{at_first, turned}
 use Rattle.p3_tools.proofs.helpers.horner_in_strands.Goals as goal
@@ -15,17 +14,15 @@ loop-coefficient-init g c =
 pub loop-coefficient-preserved : goal.loop-coefficient-preserved
 loop-coefficient-preserved g c =
     let o = g.Acc.PrimeCharacteristicRing.ops in
-    let point = g.Acc.Algebra-1.embed c.args.x in
     let embed = g.Acc.Algebra-2.embed in
-    let step = λ (y : g.row.Acc.Denot) (v : g.row.I-Item.Denot). o.add (o.mul y point) (embed v) in
+    let step = λ (y : g.row.Acc.Denot) (v : g.row.I-Item.Denot). o.add (o.mul y (g.Acc.Algebra-1.embed c.args.x)) (embed v) in
     let loop = c.loop-coefficient in
     let v = c.in-Some.coefficient in
-    let further = g.Acc.Algebra-1.embed c.exp_power_of_2-step.result in
-    let fourth : further ≡ power o point 4 = ap g.Acc.Algebra-1.embed c.exp_power_of_2-step.ensures ∙ map-power g.met.Acc.Algebra-1.embeds c.args.x 4 in
-    let next : c.add-next.result ≡ o.add (o.mul loop.s0 further) (embed v) =
-    g.met.Acc.Algebra-2.mixed_adds.answer _ _ _ c.add-next.ensures ∙ ap (λ z. o.add z (embed v)) (g.met.Acc.Algebra-1.mixed_muls.answer _ _ _ c.mul.ensures) in
-    let value = turned g.met.Acc.PrimeCharacteristicRing.ring point loop.s0 loop.s1 loop.s2 loop.s3 (embed v) further c.add-next.result fourth next in
-    (search rules, search rules, value ∙ ap (λ z. step z v) loop.invariant.2 ∙ sym (fold-append step c.args.acc loop.yielded (v ∷ [])))
+    let value =
+    turned g.met.Acc.PrimeCharacteristicRing.ring g.Acc.Algebra-1.embed g.met.Acc.Algebra-1.embeds c.args.x c.exp_power_of_2-step.result loop.s0 loop.s1 loop.s2 loop.s3 c.mul.result (embed v)
+    c.add-next.result (fold step c.args.acc loop.yielded) c.exp_power_of_2-step.ensures (g.met.Acc.Algebra-1.mixed_muls.answer _ _ _ c.mul.ensures)
+    (g.met.Acc.Algebra-2.mixed_adds.answer _ _ _ c.add-next.ensures) loop.invariant.2 in
+    (search rules, search rules, value ∙ sym (fold-append step c.args.acc loop.yielded (v ∷ [])))
 
 pub returns : goal.returns
 returns g c =
