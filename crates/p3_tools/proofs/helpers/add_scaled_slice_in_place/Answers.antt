@@ -1,7 +1,7 @@
-use Rattle.std.proofs.Common.{◌≡◌, ◌+◌, ◌*◌, ◌++◌, length, take, drop, arith, rules, ap, ap₂, sym, subst, ◌∙◌}
+use Rattle.std.proofs.Common.{◌≡◌, ◌+◌, ◌*◌, ◌++◌, take, drop, arith, rules, ap, ap₂, sym, subst, ◌∙◌}
 use Rattle.std.proofs.Math.Nat.{suc-mul}
 use Rattle.p3_theory.specs.Lists.PairedLists.{zip_with}
-use Rattle.p3_tools.proofs.GroupSteps.{combined_group, combined_lanes, group_fits, groups_fit}
+use Rattle.p3_tools.proofs.GroupSteps.{combined_group, combined_lanes}
 use Rattle.p3_tools.proofs.helpers.add_scaled_slice_in_place.Goals as goal
 
 pub loop-i-preserved : goal.loop-i-preserved

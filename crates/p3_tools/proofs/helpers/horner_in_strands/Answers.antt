@@ -37,4 +37,4 @@ returns g c =
     folded_back coefficients values g.Acc.Algebra-2.embed g.met.Acc.Algebra-2.embeds (g.Acc.Algebra-1.embed c.args.x) c.args.acc back (rev_steps back) c.args.coefficients
     c.rev-coefficient-items.result c.into_iter-coefficient-iterator.result loop.coefficient-iterator left loop.yielded c.join_strands.result c.rev-coefficient-items.ensures.runs
     c.into_iter-coefficient-iterator.ensures.into_iter_gives loop.yielded_by (subst P end c.next.ensures.steps) (c.join_strands.ensures ∙ loop.invariant.2) in
-    record { runs = both.0; lists = both.1; }
+    record { runs = both.0; lists = both.1 }

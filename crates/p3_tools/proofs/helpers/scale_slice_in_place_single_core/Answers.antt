@@ -1,6 +1,6 @@
-use Rattle.std.proofs.Common.{◌≡◌, ◌+◌, ◌*◌, ◌++◌, length, map, take, drop, arith, rules, ap, sym, subst, ◌∙◌}
+use Rattle.std.proofs.Common.{◌≡◌, ◌+◌, ◌*◌, ◌++◌, map, take, drop, arith, rules, ap, sym, subst, ◌∙◌}
 use Rattle.std.proofs.Math.Nat.{suc-mul}
-use Rattle.p3_tools.proofs.GroupSteps.{mapped_group, scaled_lanes, group_fits, groups_fit}
+use Rattle.p3_tools.proofs.GroupSteps.{mapped_group, scaled_lanes}
 use Rattle.p3_tools.proofs.helpers.scale_slice_in_place_single_core.Goals as goal
 
 pub loop-i-preserved : goal.loop-i-preserved
