@@ -6,7 +6,7 @@ use p3_bench_prime::extensions::F17x2;
 use p3_bench_prime::small::F17;
 use p3_field::extension::{ExtField, ExtensionShape, FrobeniusExtendable, HasFrobenius};
 use p3_field::{
-    AlgebraIdentity, BasedVectorSpace, InMemory, PrimeCharacteristicRing, PrimeField64,
+    AlgebraIdentity, BasedVectorSpace, InMemory, Packable, PrimeCharacteristicRing, PrimeField64,
 };
 use std::alloc::{AllocError, Allocator, Global};
 use std::process::Abort;
@@ -21,7 +21,7 @@ fn three_and_five<F: PrimeField64, A: Allocator + Copy>(alloc: A) -> Result<Vec<
 }
 
 /// The powers or zeros that a call makes, so many of them.
-fn items_made<F: PrimeField64 + InMemory, A: Allocator + Copy>(
+fn items_made<F: PrimeField64 + InMemory + Packable, A: Allocator + Copy>(
     alloc: A,
     call: &str,
     count: usize,
@@ -31,8 +31,13 @@ fn items_made<F: PrimeField64 + InMemory, A: Allocator + Copy>(
         "zero_vec" => F::zero_vec_in(alloc, count),
         "collect_n" => three.powers().collect_n_in::<F, A>(alloc, count),
         "take" => three.powers().take(count).collect_in::<F, A>(alloc),
-        "shifted collect_n" => three.shifted_powers(F::two()).collect_n_in::<F, A>(alloc, count),
-        "shifted take" => three.shifted_powers(F::two()).take(count).collect_in::<F, A>(alloc),
+        "shifted collect_n" => three
+            .shifted_powers(F::two())
+            .collect_n_in::<F, A>(alloc, count),
+        "shifted take" => three
+            .shifted_powers(F::two())
+            .take(count)
+            .collect_in::<F, A>(alloc),
         _ => Err(AllocError),
     }
 }
@@ -63,7 +68,7 @@ fn reconstituted<F: PrimeField64 + InMemory, A: Allocator + Copy>(
 
 /// The vector that a call makes, of so many items where the call takes their number. Coefficients, and
 /// values of coefficients, ask for one growth more, that of the list that is handed over.
-fn made<F: PrimeField64 + InMemory, A: Allocator + Copy>(
+fn made<F: PrimeField64 + InMemory + Packable, A: Allocator + Copy>(
     alloc: A,
     call: &str,
     count: usize,
@@ -91,7 +96,7 @@ fn are_items<F: PrimeField64>(values: &[F], count: usize, items: Option<&str>) -
 
 /// Whether a call gives its items where as many growths pass as it needs, or is refused at the first growth
 /// that doesn't pass, and keeps no block.
-fn grows<F: PrimeField64 + InMemory>(
+fn grows<F: PrimeField64 + InMemory + Packable>(
     alloc: Global,
     passing: u64,
     call: &str,
@@ -109,7 +114,7 @@ fn grows<F: PrimeField64 + InMemory>(
 
 /// Asserts that a call gives so many items, and those of a text where one is told, where so many growths
 /// pass, and no fewer, and that it keeps no block.
-fn assert_growths<F: PrimeField64 + InMemory>(
+fn assert_growths<F: PrimeField64 + InMemory + Packable>(
     rt: &(impl Abort + AllocGlobal),
     call: &str,
     count: usize,
@@ -125,33 +130,57 @@ fn assert_growths<F: PrimeField64 + InMemory>(
 }
 
 /// The lengths at which growths are counted.
-const LENGTHS: [usize; 6] = [0, 1, 2, 9, 100, 1000];
+const LENGTHS: [usize; 9] = [0, 1, 2, 9, 15, 16, 17, 100, 1000];
 
-/// The calls that take a number of items, each with the growths that it asks for where there are items.
-const COUNTED: [(&str, u64); 5] = [
-    ("zero_vec", 1),
-    ("collect_n", 1),
-    ("take", 1),
-    ("flattened zeros", 2),
-    ("reconstituted zeros", 2),
+/// The calls that take a number of items, each with the growths that it asks for where there are one to
+/// fifteen items, and where there are more.
+const COUNTED: [(&str, u64, u64); 5] = [
+    ("zero_vec", 1, 1),
+    ("collect_n", 1, 2),
+    ("take", 1, 2),
+    ("flattened zeros", 2, 2),
+    ("reconstituted zeros", 2, 2),
 ];
 
 /// Calls, the number of their items, the items and the growths that are needed.
-const CALLS: [(&str, usize, &str, u64); 7] = [
+const CALLS: [(&str, usize, &str, u64); 9] = [
     ("zero_vec", 2, "0,0", 1),
     ("zero_vec", 0, "", 0),
     ("shifted collect_n", 4, "2,6,1,3", 1),
     ("shifted take", 4, "2,6,1,3", 1),
+    (
+        "shifted collect_n",
+        16,
+        "2,6,1,3,9,10,13,5,15,11,16,14,8,7,4,12",
+        2,
+    ),
+    (
+        "shifted take",
+        17,
+        "2,6,1,3,9,10,13,5,15,11,16,14,8,7,4,12,2",
+        2,
+    ),
     ("collect_n", 0, "", 0),
     ("flattened", 2, "3,5", 2),
     ("reconstituted", 2, "3,5", 2),
 ];
 
+/// The growths that a call asks for: none without items, `few` for one to fifteen, and `many` for more.
+fn needed_at(items: usize, few: u64, many: u64) -> u64 {
+    if items == 0 {
+        0
+    } else if items < 16 {
+        few
+    } else {
+        many
+    }
+}
+
 /// Asserts the growths of all calls.
-fn assert_all_growths<F: PrimeField64 + InMemory>(rt: &(impl Abort + AllocGlobal)) {
+fn assert_all_growths<F: PrimeField64 + InMemory + Packable>(rt: &(impl Abort + AllocGlobal)) {
     for n in LENGTHS {
-        for (call, needed) in COUNTED {
-            assert_growths::<F>(rt, call, n, None, if n == 0 { 0 } else { needed });
+        for (call, few, many) in COUNTED {
+            assert_growths::<F>(rt, call, n, None, needed_at(n, few, many));
         }
     }
     for (call, count, items, needed) in CALLS {
@@ -227,12 +256,19 @@ fn growths_of_an_orbit(rt: HostRuntime) {
 }
 
 /// Zeros and powers with ample memory.
-fn assert_ample<F: PrimeField64 + InMemory>(rt: &(impl Abort + AllocGlobal)) -> Result<(), Fail> {
+fn assert_ample<F: PrimeField64 + InMemory + Packable>(
+    rt: &(impl Abort + AllocGlobal),
+) -> Result<(), Fail> {
     let three = F::from_u64(3);
     assert!(rt; is_list("0,0", &F::zero_vec(rt.alloc(), 2)?));
-    let powers = three.shifted_powers(F::two()).collect_n::<F>(rt.alloc(), 4)?;
+    let powers = three
+        .shifted_powers(F::two())
+        .collect_n::<F>(rt.alloc(), 4)?;
     assert!(rt; is_list("2,6,1,3", &powers));
-    let bounded = three.shifted_powers(F::two()).take(4).collect::<F>(rt.alloc())?;
+    let bounded = three
+        .shifted_powers(F::two())
+        .take(4)
+        .collect::<F>(rt.alloc())?;
     assert!(rt; is_list("2,6,1,3", &bounded));
     Ok(())
 }

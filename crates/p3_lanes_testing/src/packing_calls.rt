@@ -68,7 +68,7 @@ fn lists_agree<F: Field, P: PackedField<F>>(
     match row.call {
         "store_block" => stored::<F, P>(alloc, row),
         "packed_powers" | "packed_shifted_powers" => Ok(are_powers::<F, P>(row)),
-        "collect" => are_taken(alloc, F::zero(), row),
+        "collect" => are_taken::<F, P>(alloc, F::zero(), row),
         "scale_slice_in_place_single_core" => scaled::<F, P>(alloc, row),
         "add_scaled_slice_in_place" => added::<F, P>(alloc, row),
         "add_slices" => slices_agree::<F, P>(alloc, row),

@@ -5,6 +5,7 @@ use p3_bench_prime::binomial_constants::BinomialConstants;
 use p3_bench_prime::form::Form;
 use p3_bench_prime::fp::Fp;
 use p3_ext::extension::{Binomial, ExtField};
+use p3_ring::packed_ring::PackedRing;
 use p3_ring::powers::BoundedPowers;
 use p3_ring::ring::PrimeCharacteristicRing;
 use std::alloc::{AllocError, Global};
@@ -42,9 +43,9 @@ fn hold_at<F: Field>(terms: &[F], indices: &str, values: &str, generator: F) -> 
     expected.next().is_none()
 }
 
-/// Whether a list of powers has the row's length, and at the row's indices the row's values. Coefficients
-/// are those of the powers of a generator.
-pub(crate) fn are_taken<F: Field>(
+/// Whether a list of powers, made by packings P, has the row's length, and at the row's indices the row's
+/// values. Coefficients are those of the powers of a generator.
+pub(crate) fn are_taken<F: Field, P: PackedRing<F>>(
     alloc: Global,
     generator: F,
     row: Row<'_>,
@@ -55,7 +56,7 @@ pub(crate) fn are_taken<F: Field>(
     let Some((length, values)) = row.answer.split_once('|') else {
         return Ok(None);
     };
-    let taken = powers.collect::<R>(alloc)?;
+    let taken = powers.collect::<P>(alloc)?;
     Ok(Some(
         length.parse::<usize>() == Ok(taken.len())
             && hold_at(&taken, row.argument(3), values, generator),
@@ -97,6 +98,9 @@ impl<W: BinomialConstants<D>, const D: usize> ExtensionPowers<D> for W {
         generator: ExtField<Fp<W>, D, Binomial<Fp<W>>, Fp<W>>,
         row: Row<'_>,
     ) -> Result<Option<bool>, AllocError> {
-        are_taken(alloc, generator, row)
+        are_taken::<
+            ExtField<Fp<W>, D, Binomial<Fp<W>>, Fp<W>>,
+            ExtField<Fp<W>, D, Binomial<Fp<W>>, Fp<W>>,
+        >(alloc, generator, row)
     }
 }
