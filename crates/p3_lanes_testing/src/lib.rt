@@ -33,6 +33,8 @@ mod packing_tables;
 #[cfg(test)]
 mod packing_types;
 #[cfg(test)]
+mod power_growths;
+#[cfg(test)]
 mod power_lists;
 #[cfg(test)]
 mod rows;

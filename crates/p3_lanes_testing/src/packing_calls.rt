@@ -5,6 +5,7 @@ use crate::packing_list_calls::{added, are_powers, scaled};
 use crate::packing_quotients::{quotient, scalar_quotient};
 use crate::packing_slices::{lengths_agree, loaded, slices_agree, stored};
 use crate::packing_sums::{counted_columnwise_agree, sums_agree};
+use crate::power_growths::lists_grow;
 use crate::power_lists::are_taken;
 use crate::rows::{Row, holds, packing, packings, value_at, values};
 use p3_base::field::Field;
@@ -69,6 +70,7 @@ fn lists_agree<F: Field, P: PackedField<F>>(
         "store_block" => stored::<F, P>(alloc, row),
         "packed_powers" | "packed_shifted_powers" => Ok(are_powers::<F, P>(row)),
         "collect" => are_taken::<F, P>(alloc, F::zero(), row),
+        "growths of collect" => Ok(lists_grow::<F, P>(alloc, row)),
         "scale_slice_in_place_single_core" => scaled::<F, P>(alloc, row),
         "add_scaled_slice_in_place" => added::<F, P>(alloc, row),
         "add_slices" => slices_agree::<F, P>(alloc, row),

@@ -2,7 +2,7 @@
 //! The slices are empty: where a signature names a type, it is known that its values have room.
 use crate::packing_calls::{any_agrees, row_agrees};
 use crate::packing_columns::counted_columns_agree;
-use crate::packing_list_tables::{LISTS, POWERS};
+use crate::packing_list_tables::{LISTS, POWER_GROWTHS, POWERS, POWERS_OF_31, WORKED_POWERS};
 use crate::packing_sum_tables::{COLUMNS, SUMS, WORKED_COLUMNS, WORKED_SUMS};
 use crate::packing_tables::{BLOCKS, OPERATIONS, THREE_LANES, WORKED_BLOCKS};
 use crate::power_lists::ExtensionPowers;
@@ -196,7 +196,10 @@ fn packings_by_blocks(rt: HostRuntime) -> Result<(), Fail> {
 #[test]
 fn lists_of_packings(rt: HostRuntime) -> Result<(), Fail> {
     assert_table(&rt, LISTS)?;
-    assert_table(&rt, POWERS)
+    assert_table(&rt, POWERS)?;
+    assert_table(&rt, WORKED_POWERS)?;
+    assert_table(&rt, POWERS_OF_31)?;
+    assert_table(&rt, POWER_GROWTHS)
 }
 
 #[test]
