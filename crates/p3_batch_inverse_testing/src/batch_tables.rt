@@ -1,13 +1,15 @@
-//! Rows of batch inversion: what the closure answers, the entries and the answers. The first row over
-//! `f17` is worked by hand, all others are outside values.
+//! Rows of batch inversion: what the closure answers, the entries and the answers. The first three rows
+//! over `f17` are worked by hand, all others are outside values.
 
-/// The closure's answer, the entries and the answers. `identity` answers its argument, `one` one, and
-/// `inverse` the inverse.
+/// The closure's answer, the entries and the answers. `identity` answers its argument, `zero` zero,
+/// `one` one, and `inverse` the inverse.
 pub(crate) type Row = (&'static str, &'static str, &'static str);
 
 /// Over `f17`.
-pub(crate) const OVER_F17: [Row; 7] = [
+pub(crate) const OVER_F17: [Row; 9] = [
     ("identity", "2 3", "1 12"),
+    ("one", "0 2", "2 0"),
+    ("zero", "2 3", "0 0"),
     ("identity", "", ""),
     ("one", "8 10", "10 8"),
     ("inverse", "16 1 15 1", "16 1 8 1"),
@@ -63,11 +65,23 @@ pub(crate) const OVER_GOLDILOCKS: [Row; 3] = [
 /// Over `z15`.
 pub(crate) const OVER_Z15: [Row; 1] = [("identity", "8 2 7 2 7 2 13 14 4", "8 2 7 2 7 2 13 11 1")];
 
+/// Over `f17x2`.
+pub(crate) const OVER_F17X2: [Row; 2] = [
+    ("one", "9,16 0,0 10,8", "0,0 15,11 0,0"),
+    (
+        "inverse",
+        "0,1 8,8 1,2 6,14 9,0 1,2 10,8 0,2 11,6 1,9 1,0 0,1 9,6 2,1 2,4 1,15 16,10",
+        "0,6 1,16 3,11 12,6 2,0 3,11 1,6 0,3 10,10 4,15 1,0 0,6 11,4 2,16 10,14 3,6 12,1",
+    ),
+];
+
 /// The entries and their inverses.
 pub(crate) type Inverses = (&'static str, &'static str);
 
-/// Over `f17`, the first two worked by hand.
-pub(crate) const INVERSES_F17: [Inverses; 8] = [
+/// Over `f17`, the first four worked by hand.
+pub(crate) const INVERSES_F17: [Inverses; 10] = [
+    ("", ""),
+    ("1 2 3 4", "1 9 6 13"),
     ("2 3", "9 6"),
     ("5", "7"),
     ("1 9 2 5", "1 2 9 7"),
@@ -136,5 +150,26 @@ pub(crate) const INVERSES_Z15: [Inverses; 3] = [
     (
         "14 14 8 1 8 14 14 2 14 2 1 8 1 14 2 14 7 8 8 13 11 4 13 13 13 13 13 14 4 2 13 13 7 1 2 7 8 8 7 8",
         "14 14 2 1 2 14 14 8 14 8 1 2 1 14 8 14 13 2 2 7 11 4 7 7 7 7 7 14 4 8 7 7 13 1 8 13 2 2 13 2",
+    ),
+];
+
+/// Over `f17x2`.
+pub(crate) const INVERSES_F17X2: [Inverses; 5] = [
+    ("16,0 9,11 9,15", "16,0 11,13 9,2"),
+    (
+        "9,0 12,16 2,8 10,16 16,16 8,1 1,2 12,9",
+        "2,0 16,7 15,8 15,10 9,8 11,5 3,11 4,14",
+    ),
+    (
+        "3,0 9,2 5,0 8,15 2,15 9,16 4,2 5,0 9,2 1,2 1,0 15,9 9,14 10,16",
+        "6,0 9,15 7,0 8,2 4,4 6,12 1,8 7,0 9,15 3,11 1,0 2,9 3,1 15,10",
+    ),
+    (
+        "9,5 11,9 8,8 2,6 15,9 8,4 8,8 9,16 9,2 10,2 14,13 0,15 16,16 1,0 16,6 15,15 6,16 11,0 2,3 1,3 8,12 16,16 15,5",
+        "10,2 2,3 1,16 16,3 2,9 9,4 1,16 6,12 9,15 9,5 4,6 0,14 9,8 1,0 7,8 13,4 11,16 14,0 11,9 15,6 7,15 9,8 12,13",
+    ),
+    (
+        "16,0 1,0 13,14 14,15 8,0 3,12 0,1 15,1 0,1 1,0 16,16 16,16 1,16 1,2 9,2 9,0 14,1 4,15 1,15 16,10 4,16 8,2 1,6 15,12 13,8 1,1 0,1 2,10 1,3 9,0 8,0 16,16 2,11 1,9 2,0 0,2 2,16 10,2 1,1",
+        "16,0 1,0 5,9 1,5 15,0 10,11 0,6 15,16 0,6 1,0 9,8 9,8 8,8 3,11 9,15 2,0 8,14 1,9 3,6 12,1 16,4 8,15 10,8 12,4 12,7 8,9 0,6 7,16 15,6 2,0 15,0 9,8 16,14 4,15 9,0 0,3 2,1 9,5 8,9",
     ),
 ];
