@@ -15,6 +15,8 @@ mod prime_tables;
 mod prime_types;
 #[cfg(test)]
 mod prime_values;
+#[cfg(test)]
+mod readme;
 pub mod refusing;
 #[cfg(test)]
 mod residues;
