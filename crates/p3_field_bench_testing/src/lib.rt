@@ -3,6 +3,8 @@
 #![tactic(auto)]
 
 #[cfg(test)]
+mod example_runs;
+#[cfg(test)]
 mod laws;
 #[cfg(test)]
 mod outside_runs;

@@ -1,5 +1,6 @@
 //! Runs of the calculator, over sources and sinks in memory.
 
+use crate::example_runs::EXAMPLE_FILES;
 use crate::worked_runs::{EXAMPLES, FAULTS, INVERSES, LINES, Run, WITHOUT_A_FIELD};
 use p3_field_bench::{MemSink, MemSource, engine, engine_in};
 use p3_field_testing::refusing::Refusing;
@@ -34,6 +35,7 @@ fn assert_texts(rt: &(impl Abort + AllocGlobal), rows: &[Run]) -> Result<(), Fai
 
 #[test]
 fn worked_runs(rt: HostRuntime) -> Result<(), Fail> {
+    assert_texts(&rt, &EXAMPLE_FILES)?;
     assert_texts(&rt, &EXAMPLES)?;
     assert_texts(&rt, &WITHOUT_A_FIELD)?;
     assert_texts(&rt, &FAULTS)?;
