@@ -13,6 +13,7 @@ pub use Rattle.p3_theory.specs.Lanes.Rows
 pub use Rattle.p3_theory.specs.Lanes.VectorLanes
 pub use Rattle.p3_theory.specs.Lists.ListOrder
 pub use Rattle.p3_theory.specs.Lists.PairedLists
+pub use Rattle.p3_theory.specs.Lists.TabulatedPlaces
 pub use Rattle.p3_theory.specs.Polynomials.Coefficients
 pub use Rattle.p3_theory.specs.Polynomials.HornerFold
 pub use Rattle.p3_theory.specs.Polynomials.Polynomial
@@ -46,6 +47,7 @@ pub use Rattle.p3_spaces.specs.CoefficientSums
 pub use Rattle.p3_spaces.specs.Streams
 pub use Rattle.p3_tools.specs.BackwardRuns
 pub use Rattle.p3_tools.specs.PairedRuns
+pub use Rattle.p3_tools.specs.Strands
 pub use Rattle.p3_array.specs.ArrayFields
 pub use Rattle.p3_array.specs.ArrayEquality
 pub use Rattle.p3_packings.specs.CappedPowers
