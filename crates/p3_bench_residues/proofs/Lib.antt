@@ -1,3 +1,4 @@
 pub mod Euclid
 pub mod Remainders
 pub mod Reductions
+pub mod PowerQuotients

@@ -2,7 +2,7 @@ use Rattle.std.proofs.Common.{◌≡◌, ◌+◌, ◌*◌, ◌/◌, ◌%◌, sym
 use Rattle.std.proofs.Math.Nat.{mod-add-div, mod-lt}
 use Rattle.std.proofs.lemmas.Nat.Gcd.{IsGcd-from_mod, IsGcd-from_zero}
 use Rattle.p3_bench_residues.proofs.Euclid.{size-step, combinations-step, inverse_of_true, inverse_of_false, no_inverse}
-use Rattle.p3_bench_residues.proofs.inverse.inverse_modulo.Goals as goal
+use Rattle.p3_bench_residues.proofs.inverse.inverse_by_divisions.Goals as goal
 
 pub loop-rest-preserved : goal.loop-rest-preserved
 loop-rest-preserved c =

@@ -1,7 +1,7 @@
 use Rattle.std.proofs.Common.{◌≡◌, ◌+◌, ◌*◌, ℕ}
 use Rattle.std.specs.Int.{IsGcd}
 use Rattle.p3_bench_residues.proofs.Euclid.{AreCombinations}
-use Rattle.p3_bench_residues.proofs.inverse.inverse_modulo.Given as goal
+use Rattle.p3_bench_residues.proofs.inverse.inverse_by_divisions.Given as goal
 
 abbrev pub invariant-loop-rest : goal.invariant-loop-rest
 invariant-loop-rest l = record {
