@@ -1,5 +1,5 @@
 -- Quotients by powers of two modulo an odd number, and the powers of two in a number.
-use Rattle.std.proofs.Common.{◌≡◌, ◌<◌, ◌≤◌, ◌+◌, ◌-◌, ◌*◌, ◌/◌, ◌%◌, ◌^◌, ℕ, zero, suc, refl, ap, ap₂, arith, ◌∙◌, sym, subst}
+use Rattle.std.proofs.Common.{◌≡◌, ◌<◌, ◌≤◌, ◌+◌, ◌-◌, ◌*◌, ◌/◌, ◌%◌, ◌^◌, ℕ, zero, suc, ap, ap₂, arith, ◌∙◌, sym, subst}
 use Rattle.std.specs.Int.{◌∣◌, bit_at, trailing_zeros, w64}
 use Rattle.std.proofs.Math.Nat.{
   add-mul-mod_self_left,

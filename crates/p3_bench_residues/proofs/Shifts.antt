@@ -1,5 +1,5 @@
 -- The steps of the extended Euclidean algorithm by shifts.
-use Rattle.std.proofs.Common.{◌≡◌, ◌≢◌, ◌<◌, ◌≤◌, ◌+◌, ◌-◌, ◌*◌, ◌/◌, ◌%◌, ◌^◌, ℕ, Bool, true, false, not, refl, ap, ap₂, arith, inl, inr, ◌∙◌, sym, subst}
+use Rattle.std.proofs.Common.{◌≡◌, ◌≢◌, ◌<◌, ◌≤◌, ◌+◌, ◌-◌, ◌*◌, ◌%◌, ◌^◌, ℕ, Bool, true, false, not, refl, ap, arith, inl, inr, ◌∙◌, sym, subst}
 use Rattle.std.specs.Int.{◌∣◌}
 use Rattle.std.proofs.Math.Bool.{beq}
 use Rattle.std.proofs.Math.Nat.{
@@ -49,9 +49,10 @@ combinations-scaled n value last r s t f p false h =
 combinations-scaled n value last r s t f p true h =
     let regrouped : s * f * value ≡ f * (s * value) = omega arith in
     let joined : f * (last * p) ≡ last * (p * f) = omega arith in
-    let same : f * r * p ≡ r * (p * f) = omega arith in
-    (ap (λ z. z % n) regrouped ∙ multiple_of_same n f (s * value) (last * p) h.0 ∙ ap (λ z. z % n) joined,
-     sym (ap (λ z. (t * value + z) % n) same) ∙ h.1)
+    let same : f * r * p ≡ r * (p * f) = omega arith in (
+      ap (λ z. z % n) regrouped ∙ multiple_of_same n f (s * value) (last * p) h.0 ∙ ap (λ z. z % n) joined,
+      sym (ap (λ z. (t * value + z) % n) same) ∙ h.1,
+    )
 
 -- both numbers change places
 combinations-turned : (n value last rest s t : ℕ) (negative : Bool) → AreCombinations n value last rest s t negative → AreCombinations n value rest last t s (not negative)
@@ -214,8 +215,8 @@ module _ (n value s k r : ℕ) (above_one : 1 < n) (odd : n % 2 ≡ 1) (small : 
       let none : 0 * 2 ^ k ≡ 0 = omega arith in
       let opposite : (r * value + 1) % n ≡ 0 % n =
       power_cancels n odd k (r * value + 1) 0
-        (ap (λ z. z % n) spread ∙ sym (add-mod_first (r * value * 2 ^ k) (1 * 2 ^ k) n) ∙ ap (λ z. (z + 1 * 2 ^ k) % n) times_power
-        ∙ add-mod_first (s * value) (1 * 2 ^ k) n ∙ e ∙ sym (zero-mod n) ∙ ap (λ z. z % n) (sym none)) in
+      (ap (λ z. z % n) spread ∙ sym (add-mod_first (r * value * 2 ^ k) (1 * 2 ^ k) n) ∙ ap (λ z. (z + 1 * 2 ^ k) % n) times_power
+      ∙ add-mod_first (s * value) (1 * 2 ^ k) n ∙ e ∙ sym (zero-mod n) ∙ ap (λ z. z % n) (sym none)) in
       let zero_is : (r * value + 1) % n ≡ 0 = opposite ∙ zero-mod n in
       let one : 1 % n ≡ 1 = mod-eq_of_lt above_one in
       let less = below 1 0 zero_is (λ o. let bad : 1 ≡ 0 = sym one ∙ o in omega (arith, bad)) in

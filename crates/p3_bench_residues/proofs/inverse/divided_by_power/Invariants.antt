@@ -1,4 +1,4 @@
-use Rattle.std.proofs.Common.{◌≡◌, ◌≤◌, ◌+◌, ◌*◌, ◌%◌, ◌^◌, ◌-◌, ℕ}
+use Rattle.std.proofs.Common.{◌≡◌, ◌≤◌, ◌*◌, ◌%◌, ◌^◌, ◌-◌, ℕ}
 use Rattle.p3_bench_residues.proofs.inverse.divided_by_power.Given as goal
 
 abbrev pub invariant-loop-left : goal.invariant-loop-left

@@ -1,13 +1,12 @@
-use Rattle.std.proofs.Common.{◌≡◌, ◌+◌, ◌-◌, ◌*◌, ◌/◌, ◌%◌, ◌^◌, ◌∙◌, ℕ, not, ap, arith, subst, sym}
-use Rattle.std.specs.Int.{◌∣◌, abs_diff, trailing_zeros, w64}
+use Rattle.std.proofs.Common.{◌≡◌, ◌-◌, ◌*◌, ◌/◌, ◌^◌, ◌∙◌, not, ap, arith, subst, sym}
+use Rattle.std.specs.Int.{◌∣◌, trailing_zeros, w64}
 use Rattle.std.proofs.Math.Bool.{beq}
 use Rattle.std.proofs.Math.Facts.{Fits-lt-pow}
-use Rattle.std.proofs.Math.Nat.{min-eq_left, min-eq_right}
 use Rattle.std.proofs.lemmas.Bool.{lt-ltb, le-ltb}
 use Rattle.std.proofs.lemmas.Nat.Gcd.{dvd_refl, dvd-zero}
 use Rattle.p3_bench_residues.proofs.Euclid.{no_inverse}
 use Rattle.p3_bench_residues.proofs.PowerQuotients.{trailing_zeros_dropped}
-use Rattle.p3_bench_residues.proofs.Shifts.{AreShifted, scaled_is, sum_small, lesser, greater, turned_is, kept_is, answer_of_true, answer_of_false}
+use Rattle.p3_bench_residues.proofs.Shifts.{scaled_is, sum_small, lesser, greater, turned_is, kept_is, answer_of_true, answer_of_false}
 use Rattle.p3_bench_residues.proofs.inverse.inverse_by_shifts.Goals.{then-less, else-less}
 use Rattle.p3_bench_residues.proofs.inverse.inverse_by_shifts.Goals as goal
 
@@ -36,13 +35,13 @@ loop-rest-preserved c =
           let difference : c.abs_diff-rest.result ≡ l.last - q = omega (arith, c.abs_diff-rest.ensures, w.if-less.true) in
           let sign = ap (λ b. not (beq l.negative b)) (lt-ltb q l.last w.if-less.true) ∙ turned_is l.negative in
           rw (lo, difference, w.last_coefficient-is, kept, sign)
-            (lesser n c.args.value l.last l.rest l.last_coefficient l.coefficient l.shifts z q l.negative l.invariant c.loop-rest-test.true whole w.if-less.true)
+          (lesser n c.args.value l.last l.rest l.last_coefficient l.coefficient l.shifts z q l.negative l.invariant c.loop-rest-test.true whole w.if-less.true)
       | else-less w ↦
           let lo : c.min-last.result ≡ l.last = omega (arith, c.min-last.ensures, w.if-less.false) in
           let difference : c.abs_diff-rest.result ≡ q - l.last = omega (arith, c.abs_diff-rest.ensures, w.if-less.false) in
           let sign = ap (λ b. not (beq l.negative b)) (le-ltb q l.last w.if-less.false) ∙ kept_is l.negative in
           rw (lo, difference, w.last_coefficient-is, kept, sign)
-            (greater n c.args.value l.last l.rest l.last_coefficient l.coefficient l.shifts z q l.negative l.invariant c.loop-rest-test.true whole w.if-less.false)
+          (greater n c.args.value l.last l.rest l.last_coefficient l.coefficient l.shifts z q l.negative l.invariant c.loop-rest-test.true whole w.if-less.false)
     ]
 
 pub returns-then-last-ne1 : goal.returns-then-last-ne1
