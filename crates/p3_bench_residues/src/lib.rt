@@ -4,6 +4,7 @@
 pub mod goldilocks_words;
 pub mod inverse;
 pub mod montgomery;
+mod odd_modulus;
 pub mod remainder;
 pub mod short_words;
 pub mod two_adic_powers;

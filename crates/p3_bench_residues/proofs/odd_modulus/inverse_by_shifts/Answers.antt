@@ -7,8 +7,8 @@ use Rattle.std.proofs.lemmas.Nat.Gcd.{dvd_refl, dvd-zero}
 use Rattle.p3_bench_residues.proofs.Euclid.{no_inverse}
 use Rattle.p3_bench_residues.proofs.PowerQuotients.{trailing_zeros_dropped}
 use Rattle.p3_bench_residues.proofs.Shifts.{scaled_is, sum_small, lesser, greater, turned_is, kept_is, answer_of_true, answer_of_false}
-use Rattle.p3_bench_residues.proofs.inverse.inverse_by_shifts.Goals.{then-less, else-less}
-use Rattle.p3_bench_residues.proofs.inverse.inverse_by_shifts.Goals as goal
+use Rattle.p3_bench_residues.proofs.odd_modulus.inverse_by_shifts.Goals.{then-less, else-less}
+use Rattle.p3_bench_residues.proofs.odd_modulus.inverse_by_shifts.Goals as goal
 
 pub overflow_add-coefficient : goal.overflow_add-coefficient
 overflow_add-coefficient c =

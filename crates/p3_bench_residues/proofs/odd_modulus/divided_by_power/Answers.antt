@@ -1,5 +1,5 @@
 use Rattle.p3_bench_residues.proofs.PowerQuotients.{quotient_by_greater}
-use Rattle.p3_bench_residues.proofs.inverse.divided_by_power.Goals as goal
+use Rattle.p3_bench_residues.proofs.odd_modulus.divided_by_power.Goals as goal
 
 pub loop-left-preserved : goal.loop-left-preserved
 loop-left-preserved c =

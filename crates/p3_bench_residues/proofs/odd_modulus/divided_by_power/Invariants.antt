@@ -1,5 +1,5 @@
 use Rattle.std.proofs.Common.{◌≡◌, ◌≤◌, ◌*◌, ◌%◌, ◌^◌, ◌-◌, ℕ}
-use Rattle.p3_bench_residues.proofs.inverse.divided_by_power.Given as goal
+use Rattle.p3_bench_residues.proofs.odd_modulus.divided_by_power.Given as goal
 
 abbrev pub invariant-loop-left : goal.invariant-loop-left
 invariant-loop-left l = record {

@@ -1,6 +1,6 @@
 use Rattle.std.proofs.Common.{◌≡◌, ◌+◌, ◌*◌, ◌%◌, ℕ, refl, arith}
 use Rattle.p3_bench_residues.proofs.PowerQuotients.{square_of_multiple}
-use Rattle.p3_bench_residues.proofs.inverse.negated_inverse.Goals as goal
+use Rattle.p3_bench_residues.proofs.odd_modulus.negated_inverse.Goals as goal
 
 pub returns : goal.returns
 returns c =
