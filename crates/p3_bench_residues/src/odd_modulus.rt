@@ -2,10 +2,9 @@
 ghost use Rattle.std.specs.Prelude.{◌≡◌, ◌<◌, ◌≤◌, ◌+◌, ◌*◌, ◌%◌, ◌^◌, ℕ, MatchOption};
 ghost use Rattle.p3_bench_residues.specs.Inverses.{IsInverseModulo};
 
-/// By shifts, modulo an odd number: the zeros below the lowest digit of one number are dropped, and
-/// the lesser number is subtracted from the greater. Each number, times two to the power of all
-/// shifts so far, is, up to its sign, its coefficient times the value. That power is divided out at
-/// the end.
+/// By shifts, modulo an odd number: the trailing zeros of one number are dropped, and the lesser
+/// number is subtracted from the greater. Each number, times two to the power of all shifts so far,
+/// is, up to its sign, its coefficient times the value. That power is divided out at the end.
 pub(crate) fn inverse_by_shifts(value: u64, modulus: u64) -> Option<u64>
     requires above { 1 < modulus }
     requires odd { modulus % 2 ≡ 1 }
