@@ -1,3 +1,2 @@
 pub mod PairedRuns
 pub mod BackwardRuns
-pub mod Strands

@@ -10,7 +10,6 @@ ghost use Rattle.p3_theory.specs.Rings.Powers.{eval};
 ghost use Rattle.p3_theory.specs.Lists.PairedLists.{zip_with};
 ghost use Rattle.p3_tools.specs.BackwardRuns.{RunsBackward, IfYieldsBackward};
 ghost use Rattle.p3_tools.specs.PairedRuns.{RunInPairs, IfBothYield};
-ghost use Rattle.p3_tools.specs.Strands.{joined};
 
 use p3_base::field::Field;
 use p3_base::packed_traits::{PackedField, PackedValue};
@@ -180,7 +179,8 @@ fn join_strands<Acc, X>(s0: Acc, s1: Acc, s2: Acc, s3: Acc, x: X) -> Acc
 where
     X: PrimeCharacteristicRing,
     Acc: Algebra<X>,
-    ensures { result ≡ joined Acc.ops (⟦<Acc as Algebra<X>>⟧.embed x) s0 s1 s2 s3 }
+    ensures { let point = ⟦<Acc as Algebra<X>>⟧.embed x in
+        result ≡ Acc.ops.add (Acc.ops.mul (Acc.ops.add (Acc.ops.mul (Acc.ops.add (Acc.ops.mul s0 point) s1) point) s2) point) s3 }
 {
     ((s0 * x + s1) * x + s2) * x + s3
 }

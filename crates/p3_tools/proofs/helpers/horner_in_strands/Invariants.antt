@@ -1,6 +1,6 @@
 use Rattle.std.proofs.Common.{◌≡◌}
 use Rattle.std.specs.Prelude.{fold}
-use Rattle.p3_tools.specs.Strands.{joined}
+use Rattle.p3_tools.proofs.TurningStrands.{joined}
 use Rattle.p3_tools.proofs.helpers.horner_in_strands.Given as goal
 
 abbrev pub invariant-loop-coefficient : goal.invariant-loop-coefficient
