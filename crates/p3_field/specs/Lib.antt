@@ -47,7 +47,6 @@ pub use Rattle.p3_spaces.specs.CoefficientSums
 pub use Rattle.p3_spaces.specs.Streams
 pub use Rattle.p3_tools.specs.BackwardRuns
 pub use Rattle.p3_tools.specs.PairedRuns
-pub use Rattle.p3_tools.specs.Strands
 pub use Rattle.p3_array.specs.ArrayFields
 pub use Rattle.p3_array.specs.ArrayEquality
 pub use Rattle.p3_packings.specs.CappedPowers
