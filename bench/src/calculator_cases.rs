@@ -20,16 +20,18 @@ fn mixed(sum: u64, bytes: &[u8]) -> u64 {
     bytes.iter().fold(sum, |sum, b| sum.wrapping_mul(31).wrapping_add(*b as u64))
 }
 
+/// Runs the proved calculator; how many bytes it wrote.
 fn library(input: &[u8], output: &mut [u8]) -> usize {
     unsafe { p3_speed_calculator(input.as_ptr(), input.len(), output.as_mut_ptr(), output.len()) }
 }
 
+/// The row of a field.
 fn case(field: &str) -> Case {
     let input = lines(field).leak().as_bytes();
-    Case {
-        name: format!("calculator over {field}, a line"),
-        operations: 1000,
-        library: Box::new(move |rounds| {
+    Case::new(
+        format!("calculator over {field}, a line"),
+        1000,
+        move |rounds| {
             let mut output = vec![0; 1 << 13];
             let mut sum = 0;
             for _ in 0..rounds {
@@ -37,17 +39,18 @@ fn case(field: &str) -> Case {
                 sum = mixed(sum, &output[..count]);
             }
             sum
-        }),
-        plain: Box::new(move |rounds| {
+        },
+        move |rounds| {
             let mut sum = 0;
             for _ in 0..rounds {
                 sum = mixed(sum, &calculator::run(input));
             }
             sum
-        }),
-    }
+        },
+    )
 }
 
+/// All rows of the calculator.
 pub fn cases() -> Vec<Case> {
     vec![case("f17x4"), case("bbx4")]
 }

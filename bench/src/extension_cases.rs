@@ -9,18 +9,12 @@ fn mixed(value: &[u64; 8]) -> u64 {
     value.iter().fold(0, |sum, c| sum.wrapping_mul(0x9e37_79b9_7f4a_7c15).wrapping_add(*c))
 }
 
+/// The first value, as far as the degree goes.
 static VALUE: [u64; 8] = [2, 3, 5, 7, 11, 13, 1, 4];
+/// The factor, and what is added to an inverse.
 static OTHER: [u64; 8] = [3, 1, 4, 1, 5, 9, 2, 6];
 
-fn case(name: &str, library: impl Fn(u64) -> u64 + 'static, plain: impl Fn(u64) -> u64 + 'static) -> Case {
-    Case {
-        name: name.to_string(),
-        operations: 1,
-        library: Box::new(library),
-        plain: Box::new(plain),
-    }
-}
-
+/// The rows of one extension.
 fn cases_of<E: Extension + 'static>(name: &str, extension: u32, degree: usize) -> Vec<Case> {
     // hidden from the compiler, so that no side is compiled for these numbers alone
     let (start, other) = black_box((&VALUE, &OTHER));
@@ -31,22 +25,25 @@ fn cases_of<E: Extension + 'static>(name: &str, extension: u32, degree: usize) -
         mixed(&value)
     };
     vec![
-        case(
-            &format!("{name} product"),
+        Case::new(
+            format!("{name} product"),
+            1,
             move |k| over(&|v| unsafe {
                 p3_speed_extension_products(extension, v.as_mut_ptr(), degree, other.as_ptr(), degree, k)
             }),
             move |k| over(&|v| product_chain::<E>(v, &other[..degree], k)),
         ),
-        case(
-            &format!("{name} square"),
+        Case::new(
+            format!("{name} square"),
+            1,
             move |k| over(&|v| unsafe {
                 p3_speed_extension_squares(extension, v.as_mut_ptr(), degree, k)
             }),
             move |k| over(&|v| square_chain::<E>(v, k)),
         ),
-        case(
-            &format!("{name} try_inverse"),
+        Case::new(
+            format!("{name} try_inverse"),
+            1,
             move |k| over(&|v| unsafe {
                 p3_speed_extension_inverses(extension, v.as_mut_ptr(), degree, other.as_ptr(), degree, k)
             }),
@@ -55,6 +52,7 @@ fn cases_of<E: Extension + 'static>(name: &str, extension: u32, degree: usize) -
     ]
 }
 
+/// All rows of the extensions.
 pub fn cases() -> Vec<Case> {
     let mut cases = cases_of::<F17x2>("f17x2", 0, 2);
     cases.extend(cases_of::<F17x4>("f17x4", 1, 4));

@@ -2,6 +2,7 @@
 use crate::calls::*;
 use crate::extensions::{BabyBearx4, Extension, F17x4};
 use crate::lanes;
+use crate::places::{self, PLACES};
 use crate::residues::{BabyBear, F17, Goldilocks, Residue};
 use crate::table::Case;
 use std::hint::black_box;
@@ -18,42 +19,51 @@ fn units(order: u64, seed: u64, length: usize) -> &'static [u64] {
     (0..length).map(|_| next()).collect::<Vec<_>>().leak()
 }
 
-fn case(name: String, operations: usize, library: impl Fn(u64) -> u64 + 'static, plain: impl Fn(u64) -> u64 + 'static) -> Case {
-    Case {
-        name,
-        operations: operations as u64,
-        library: Box::new(library),
-        plain: Box::new(plain),
-    }
-}
-
+/// A call of the library over two lists: the type, how many lanes, the lists and the rounds.
 type SliceCall = unsafe extern "C" fn(u32, u32, *const u64, usize, *const u64, usize, u64) -> u64;
 
+/// A plain loop over two lists.
+type SliceLoop = fn(&[u64], &[u64], u64) -> u64;
+
+/// The rows of packings of N lanes.
 fn packing_cases<F: Residue, const N: usize>(name: &str, field: u32) -> Vec<Case> {
     let (left, right) = (units(F::ORDER, 1, LENGTH), units(F::ORDER, 2, LENGTH));
-    let row = |word: &str, operations: usize, call: SliceCall, plain: fn(&[u64], &[u64], u64) -> u64| {
-        case(
-            format!("{name} {word}, {N} lanes"),
-            operations,
-            move |k| unsafe { call(field, N as u32, left.as_ptr(), LENGTH, right.as_ptr(), LENGTH, k) },
-            move |k| plain(left, right, k),
-        )
+    let over = move |call: SliceCall| {
+        move |k| unsafe { call(field, N as u32, left.as_ptr(), LENGTH, right.as_ptr(), LENGTH, k) }
     };
+    let row = |word: &str, operations: usize, call: SliceCall, plain: SliceLoop| {
+        let name = format!("{name} {word}, {N} lanes");
+        Case::new(name, operations as u64, over(call), move |k| plain(left, right, k))
+    };
+    let row_at_places = |word: &str, call: SliceCall, copies: [SliceLoop; PLACES]| Case {
+        name: format!("{name} {word}, {N} lanes"),
+        operations: LENGTH as u64,
+        library: Box::new(over(call)),
+        plain: places::calls(copies, move |copy, k| copy(left, right, k)),
+    };
+    let sums = [lanes::sums::<F, N, 0>, lanes::sums::<F, N, 1>, lanes::sums::<F, N, 2>, lanes::sums::<F, N, 3>];
+    let differences = [
+        lanes::differences::<F, N, 0>,
+        lanes::differences::<F, N, 1>,
+        lanes::differences::<F, N, 2>,
+        lanes::differences::<F, N, 3>,
+    ];
     vec![
-        row("packed sums", LENGTH, p3_speed_lane_sums, lanes::sums::<F, N>),
-        row("packed differences", LENGTH, p3_speed_lane_differences, lanes::differences::<F, N>),
+        row_at_places("packed sums", p3_speed_lane_sums, sums),
+        row_at_places("packed differences", p3_speed_lane_differences, differences),
         row("packed slice products", LENGTH, p3_speed_lane_slice_products, lanes::slice_products::<F, N>),
         row("packed product chain", N, p3_speed_lane_products, lanes::products::<F, N>),
         row("packed dot product", LENGTH, p3_speed_lane_dot_products, lanes::dot_products::<F, N>),
     ]
 }
 
+/// The rows of packed extensions.
 fn extension_cases<E: Extension>(name: &str, extension: u32, width: usize) -> Vec<Case> {
     let (left, right) = (units(E::ORDER, 3, 4 * width), units(E::ORDER, 4, 4 * width));
     let row = |word: &str, call: SliceCall, plain: fn(&[u64], &[u64], usize, u64) -> u64| {
-        case(
+        Case::new(
             format!("{name} packed {word}, {width} lanes"),
-            width,
+            width as u64,
             move |k| unsafe { call(extension, width as u32, left.as_ptr(), left.len(), right.as_ptr(), right.len(), k) },
             move |k| plain(left, right, width, k),
         )
@@ -64,16 +74,18 @@ fn extension_cases<E: Extension>(name: &str, extension: u32, width: usize) -> Ve
     ]
 }
 
+/// The row of batch inversion.
 fn inversion_case<F: Residue>(name: &str, field: u32) -> Case {
     let numbers = units(F::ORDER, 5, LENGTH);
-    case(
+    Case::new(
         format!("{name} batch inversion"),
-        LENGTH,
+        LENGTH as u64,
         move |k| unsafe { p3_speed_inversions(field, numbers.as_ptr(), LENGTH, k) },
         move |k| lanes::inversions::<F>(numbers, k),
     )
 }
 
+/// All rows of lanes.
 pub fn cases() -> Vec<Case> {
     let mut cases = packing_cases::<F17, 4>("f17", 0);
     cases.extend(packing_cases::<F17, 8>("f17", 0));

@@ -6,9 +6,11 @@ mod extension_cases;
 mod extensions;
 mod lane_cases;
 mod lanes;
+mod places;
 mod prime_cases;
 mod primes;
 mod residues;
+mod sums;
 mod table;
 
 fn main() {

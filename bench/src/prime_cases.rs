@@ -1,5 +1,6 @@
 //! The rows of the prime types.
 use crate::calls::*;
+use crate::places;
 use crate::primes;
 use crate::residues::{BabyBear, F17, Goldilocks, Residue};
 use crate::table::Case;
@@ -19,17 +20,13 @@ fn numbers(order: u64, seed: u64) -> Vec<u64> {
     (0..LENGTH).map(|_| next()).collect()
 }
 
+/// A row of a type.
 fn case<L, P>(type_name: &str, name: &str, operations: u64, library: L, plain: P) -> Case
 where
     L: Fn(u64) -> u64 + 'static,
     P: Fn(u64) -> u64 + 'static,
 {
-    Case {
-        name: format!("{type_name} {name}"),
-        operations,
-        library: Box::new(library),
-        plain: Box::new(plain),
-    }
+    Case::new(format!("{type_name} {name}"), operations, library, plain)
 }
 
 /// Pairs of slices that both sides take.
@@ -39,7 +36,28 @@ struct Inputs {
     right: &'static [u64],
 }
 
+/// The sums of slices in place, whose times depend on where the loop lies: at each place.
+fn sums_in_place<F: Residue>(name: &str, i: &Inputs) -> Case {
+    let Inputs { field, left, right } = *i;
+    let copies = [
+        primes::added_slices::<F, 0>,
+        primes::added_slices::<F, 1>,
+        primes::added_slices::<F, 2>,
+        primes::added_slices::<F, 3>,
+    ];
+    Case {
+        name: format!("{name} slice sums in place"),
+        operations: LENGTH as u64,
+        library: Box::new(move |k| unsafe {
+            p3_speed_added_slices(field, left.as_ptr(), LENGTH, right.as_ptr(), LENGTH, k)
+        }),
+        plain: places::calls(copies, move |copy, k| copy(left, right, k)),
+    }
+}
+
+/// The rows of slices.
 fn slice_cases<F: Residue>(name: &str, i: Inputs) -> Vec<Case> {
+    let sums_in_place = sums_in_place::<F>(name, &i);
     let Inputs { field, left, right } = i;
     let point = black_box(3);
     let (l, r, n) = (left.as_ptr() as usize, right.as_ptr() as usize, LENGTH);
@@ -48,10 +66,8 @@ fn slice_cases<F: Residue>(name: &str, i: Inputs) -> Vec<Case> {
         case(name, "slice products", 1000,
             move |k| unsafe { p3_speed_multiplied_slices(field, at(l), n, at(r), n, k) },
             move |k| primes::multiplied_slices::<F>(left, right, k)),
-        case(name, "slice sums in place", 1000,
-            move |k| unsafe { p3_speed_added_slices(field, at(l), n, at(r), n, k) },
-            move |k| primes::added_slices::<F>(left, right, k)),
-        case(name, "sum of a slice", 1000,
+        sums_in_place,
+        case(name, "sum by Sum", 1000,
             move |k| unsafe { p3_speed_sums(field, at(l), n, k as usize) },
             move |k| primes::sums::<F>(left, k as usize)),
         case(name, "dot product", 1000,
@@ -66,6 +82,7 @@ fn slice_cases<F: Residue>(name: &str, i: Inputs) -> Vec<Case> {
     ]
 }
 
+/// The rows of chains and lists of powers.
 fn chain_cases<F: Residue>(name: &str, field: u32) -> Vec<Case> {
     // hidden from the compiler, so that no side is compiled for these numbers alone
     let [start, factor, step, exponent] = black_box([5, 3, 7, EXPONENT]);
@@ -89,6 +106,7 @@ fn chain_cases<F: Residue>(name: &str, field: u32) -> Vec<Case> {
     ]
 }
 
+/// The rows of one type.
 fn cases_of<F: Residue>(name: &str, field: u32) -> Vec<Case> {
     let inputs = Inputs {
         field,
@@ -100,6 +118,7 @@ fn cases_of<F: Residue>(name: &str, field: u32) -> Vec<Case> {
     cases
 }
 
+/// All rows of the prime types.
 pub fn cases() -> Vec<Case> {
     let mut cases = cases_of::<F17>("f17", 0);
     cases.extend(cases_of::<BabyBear>("babybear", 1));

@@ -1,19 +1,40 @@
 //! Times pairs of calls that do the same work, and prints them side by side.
+use crate::places;
 use std::time::Instant;
+
+/// A side of a row: what it does so many rounds of, and the number that it answers.
+pub type Call = Box<dyn Fn(u64) -> u64>;
 
 /// One row: what the proved library and plain Rust do, and how many operations that is.
 pub struct Case {
     pub name: String,
     pub operations: u64,
-    pub library: Box<dyn Fn(u64) -> u64>,
-    pub plain: Box<dyn Fn(u64) -> u64>,
+    pub library: Call,
+    /// The plain loop, or copies of it that lie at different places.
+    pub plain: Vec<Call>,
+}
+
+impl Case {
+    /// A row whose plain loop is there once.
+    pub fn new<L, P>(name: String, operations: u64, library: L, plain: P) -> Self
+    where
+        L: Fn(u64) -> u64 + 'static,
+        P: Fn(u64) -> u64 + 'static,
+    {
+        Case {
+            name,
+            operations,
+            library: Box::new(library),
+            plain: vec![Box::new(plain)],
+        }
+    }
 }
 
 const RUNS: usize = 75;
 const NANOSECONDS_A_RUN: u64 = 3_000_000;
 
 /// Nanoseconds that the call takes, and its answer.
-fn time(call: &dyn Fn(u64) -> u64, rounds: u64) -> (f64, u64) {
+fn time(call: &Call, rounds: u64) -> (f64, u64) {
     let start = Instant::now();
     let answer = call(std::hint::black_box(rounds));
     (start.elapsed().as_nanos() as f64, answer)
@@ -23,7 +44,8 @@ fn time(call: &dyn Fn(u64) -> u64, rounds: u64) -> (f64, u64) {
 fn rounds_of(case: &Case) -> u64 {
     let mut rounds = 1;
     loop {
-        let taken = (0..3).map(|_| time(&case.plain, rounds).0).fold(f64::INFINITY, f64::min);
+        let runs = (0..3).map(|_| time(&case.plain[0], rounds).0);
+        let taken = runs.fold(f64::INFINITY, f64::min);
         if taken > NANOSECONDS_A_RUN as f64 / 2.0 || rounds > 1 << 40 {
             return rounds;
         }
@@ -31,36 +53,64 @@ fn rounds_of(case: &Case) -> u64 {
     }
 }
 
+/// The time in the middle; the times are sorted then.
 fn median(times: &mut [f64]) -> f64 {
     times.sort_by(f64::total_cmp);
     times[times.len() / 2]
 }
 
-/// Runs both sides in turn, checks that they answer the same, and prints the row: the best of each
-/// side and their ratio, the median of each, and the median of the ratios of runs next to each other.
+/// The least of the places' best times and medians, as far as they were taken.
+struct Least {
+    best: f64,
+    median: f64,
+}
+
+impl Least {
+    /// Before any time was taken.
+    const NONE: Self = Least {
+        best: f64::INFINITY,
+        median: f64::INFINITY,
+    };
+
+    /// Takes the times of one more place, each of so many operations.
+    fn take(&mut self, mut times: Vec<f64>, operations: f64) {
+        let middle = median(&mut times);
+        self.best = self.best.min(times[0] / operations);
+        self.median = self.median.min(middle / operations);
+    }
+}
+
+/// Runs both sides in turn, at each place of the plain loop, checks that they answer the same, and
+/// prints the row: the best of each side and their ratio, the median of each, both of the place where
+/// they are least, and the median of the ratios of all runs next to each other.
 fn print_row(case: &Case) -> bool {
     let rounds = rounds_of(case);
-    let each = (rounds * case.operations) as f64;
-    let (mut library, mut plain, mut ratios) = (Vec::new(), Vec::new(), Vec::new());
+    let operations = (rounds * case.operations) as f64;
+    let (mut library, mut plain, mut ratios) = (Least::NONE, Least::NONE, Vec::new());
     let mut agree = true;
-    for _ in 0..RUNS {
-        let (proved, answer) = time(&case.library, rounds);
-        let (written, wanted) = time(&case.plain, rounds);
-        library.push(proved / each);
-        plain.push(written / each);
-        ratios.push(proved / written);
-        agree &= answer == wanted;
+    for (place, copy) in case.plain.iter().enumerate() {
+        let held = places::shift(place);
+        let (mut library_times, mut plain_times) = (Vec::new(), Vec::new());
+        for _ in 0..RUNS {
+            let (proved, answer) = time(&case.library, rounds);
+            let (written, wanted) = time(copy, rounds);
+            library_times.push(proved);
+            plain_times.push(written);
+            ratios.push(proved / written);
+            agree &= answer == wanted;
+        }
+        drop(held);
+        library.take(library_times, operations);
+        plain.take(plain_times, operations);
     }
-    let medians = (median(&mut library), median(&mut plain));
-    let bests = (library[0], plain[0]);
     println!(
         "| {:<38} | {:>9.3} | {:>9.3} | {:>5.2} | {:>9.3} | {:>9.3} | {:>5.2} |{}",
         case.name,
-        bests.0,
-        bests.1,
-        bests.0 / bests.1,
-        medians.0,
-        medians.1,
+        library.best,
+        plain.best,
+        library.best / plain.best,
+        library.median,
+        plain.median,
         median(&mut ratios),
         if agree { "" } else { " THE VALUES DIFFER" },
     );
