@@ -1,9 +1,10 @@
 //! The rows of lanes, each operation counted a lane, and those of batch inversion.
+use crate::baby_bear::BabyBear;
 use crate::calls::*;
 use crate::extensions::{BabyBearx4, Extension, F17x4};
 use crate::lanes;
 use crate::places::{self, PLACES};
-use crate::residues::{BabyBear, F17, Goldilocks, Residue};
+use crate::residues::{F17, Goldilocks, Residue};
 use crate::table::Case;
 use std::hint::black_box;
 

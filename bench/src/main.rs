@@ -1,4 +1,5 @@
 //! The proved library beside plain Rust that does the same work, in one process and in turn.
+mod baby_bear;
 mod calculator;
 mod calculator_cases;
 mod calls;

@@ -1,4 +1,5 @@
-//! Where a loop lies in memory. The times of short loops depend on it, so some have several copies.
+//! Where a loop and its lists lie in memory. The times of short loops depend on it, so these are timed
+//! at several places.
 use crate::table::Call;
 use std::arch::asm;
 
@@ -28,8 +29,9 @@ where
     copies.into_iter().map(boxed).collect()
 }
 
-/// Memory that is held while a row is timed at a place, so that lists which are asked for after it
-/// lie `16 * place` bytes further on, in a line of 64 bytes.
-pub fn shift(place: usize) -> Vec<u8> {
-    std::hint::black_box(vec![0; 2032 + 16 * place])
+/// Blocks that are held while a row is timed at a place, as many as its number and each as long as
+/// the longest list of a row, so that lists which are asked for meanwhile lie elsewhere.
+pub fn held_blocks(place: usize) -> Vec<Vec<u8>> {
+    let blocks = (0..place).map(|_| vec![0; 8000]);
+    std::hint::black_box(blocks.collect())
 }

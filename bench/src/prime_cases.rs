@@ -1,8 +1,9 @@
 //! The rows of the prime types.
+use crate::baby_bear::BabyBear;
 use crate::calls::*;
 use crate::places;
 use crate::primes;
-use crate::residues::{BabyBear, F17, Goldilocks, Residue};
+use crate::residues::{F17, Goldilocks, Residue};
 use crate::table::Case;
 use std::hint::black_box;
 

@@ -73,7 +73,7 @@ impl Least {
     };
 
     /// Takes the times of one more place, each of so many operations.
-    fn take(&mut self, mut times: Vec<f64>, operations: f64) {
+    fn take(&mut self, mut times: [f64; RUNS], operations: f64) {
         let middle = median(&mut times);
         self.best = self.best.min(times[0] / operations);
         self.median = self.median.min(middle / operations);
@@ -86,22 +86,23 @@ impl Least {
 fn print_row(case: &Case) -> bool {
     let rounds = rounds_of(case);
     let operations = (rounds * case.operations) as f64;
-    let (mut library, mut plain, mut ratios) = (Least::NONE, Least::NONE, Vec::new());
+    let (mut library, mut plain) = (Least::NONE, Least::NONE);
+    // no memory is asked for between the runs, so that both sides' lists lie at the same addresses
+    let mut ratios = Vec::with_capacity(RUNS * case.plain.len());
     let mut agree = true;
     for (place, copy) in case.plain.iter().enumerate() {
-        let held = places::shift(place);
-        let (mut library_times, mut plain_times) = (Vec::new(), Vec::new());
-        for _ in 0..RUNS {
-            let (proved, answer) = time(&case.library, rounds);
-            let (written, wanted) = time(copy, rounds);
-            library_times.push(proved);
-            plain_times.push(written);
-            ratios.push(proved / written);
+        let held = places::held_blocks(place);
+        let (mut proved, mut written) = ([0.0; RUNS], [0.0; RUNS]);
+        for run in 0..RUNS {
+            let (answer, wanted);
+            (proved[run], answer) = time(&case.library, rounds);
+            (written[run], wanted) = time(copy, rounds);
+            ratios.push(proved[run] / written[run]);
             agree &= answer == wanted;
         }
         drop(held);
-        library.take(library_times, operations);
-        plain.take(plain_times, operations);
+        library.take(proved, operations);
+        plain.take(written, operations);
     }
     println!(
         "| {:<38} | {:>9.3} | {:>9.3} | {:>5.2} | {:>9.3} | {:>9.3} | {:>5.2} |{}",
