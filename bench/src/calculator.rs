@@ -22,6 +22,7 @@ enum Fault {
     NoInverse,
 }
 
+/// The next word of a line and what follows it, if there is one.
 fn next_word(line: &[u8]) -> Option<(&[u8], &[u8])> {
     let start = line.iter().position(|b| *b != b' ')?;
     let rest = &line[start..];
@@ -29,6 +30,7 @@ fn next_word(line: &[u8]) -> Option<(&[u8], &[u8])> {
     Some((&rest[..end], &rest[end..]))
 }
 
+/// The next word of a line that has to have one.
 fn word(line: &[u8]) -> Result<(&[u8], &[u8]), Fault> {
     next_word(line).ok_or(Fault::WordCount)
 }
@@ -46,6 +48,7 @@ fn words<const N: usize>(line: &[u8]) -> Result<[&[u8]; N], Fault> {
     Ok(found)
 }
 
+/// The number that a word of at most so many digits is, up to the greatest one.
 fn number(word: &[u8], digits: usize, most: u64) -> Option<u64> {
     if word.is_empty() || word.len() > digits {
         return None;
@@ -60,10 +63,12 @@ fn number(word: &[u8], digits: usize, most: u64) -> Option<u64> {
     (value <= most).then_some(value)
 }
 
+/// The register that a word names.
 fn register(word: &[u8]) -> Result<usize, Fault> {
     number(word, 2, 15).map(|r| r as usize).ok_or(Fault::BadRegister)
 }
 
+/// The registers that a line of so many words names.
 fn registers<const N: usize>(line: &[u8]) -> Result<[usize; N], Fault> {
     let words = words::<N>(line)?;
     let mut registers = [0; N];
@@ -73,6 +78,7 @@ fn registers<const N: usize>(line: &[u8]) -> Result<[usize; N], Fault> {
     Ok(registers)
 }
 
+/// Puts a value of four coefficients into a register.
 fn put<E: Extension>(bank: &mut Registers<E>, args: &[u8]) -> Result<(), Fault> {
     let (r, rest) = word(args)?;
     let coefficients = words::<4>(rest)?;
@@ -85,6 +91,7 @@ fn put<E: Extension>(bank: &mut Registers<E>, args: &[u8]) -> Result<(), Fault> 
     Ok(())
 }
 
+/// Writes a value's text.
 fn write_text<E: Extension>(x: E, output: &mut String) {
     let mut numbers = [0; 4];
     x.write(&mut numbers);
@@ -108,6 +115,7 @@ fn write_text<E: Extension>(x: E, output: &mut String) {
     output.push('\n');
 }
 
+/// Carries out a command on a field's registers.
 fn act<E: Extension>(
     command: &[u8],
     bank: &mut Registers<E>,
@@ -143,6 +151,7 @@ fn act<E: Extension>(
     Ok(())
 }
 
+/// Carries out a line.
 fn step(bank: &mut Bank, line: &[u8], output: &mut String) -> Result<(), Fault> {
     let Some((command, args)) = next_word(line) else {
         return Ok(());

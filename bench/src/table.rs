@@ -87,7 +87,7 @@ fn print_row(case: &Case) -> bool {
     let rounds = rounds_of(case);
     let operations = (rounds * case.operations) as f64;
     let (mut library, mut plain) = (Least::NONE, Least::NONE);
-    // no memory is asked for between the runs, so that both sides' lists lie at the same addresses
+    // no memory is asked for between the runs, so that lists lie at the same addresses in all of them
     let mut ratios = Vec::with_capacity(RUNS * case.plain.len());
     let mut agree = true;
     for (place, copy) in case.plain.iter().enumerate() {
