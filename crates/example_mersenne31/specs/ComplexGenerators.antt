@@ -3,7 +3,7 @@ use Rattle.std.specs.Prelude.{ℕ, List, [], ◌∷◌, refl}
 use Rattle.p3_field.specs.Ring.{Hom}
 use Rattle.p3_field.specs.Polynomial.{binomial}
 use Rattle.p3_field.specs.Residues.{residues, of_keeps}
-use Rattle.p3_theory.specs.FrobeniusMaps.TableEntries.{binomial-along}
+use Rattle.p3_field.specs.TableEntries.{binomial-along}
 use Rattle.p3_field.specs.TwoAdicCoefficients.{AreExtensionGenerators, GeneratorEquations, coefficients-along, entry, equations_generate}
 use Rattle.example_mersenne31.specs.Elements.{of, ops, is}
 use Rattle.example_mersenne31.specs.declared.words.TheConstants.{P}

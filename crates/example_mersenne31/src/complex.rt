@@ -60,7 +60,7 @@ fn generator_coefficient(bits: usize, i: usize) -> Mersenne31
 impl ComplexExtendable for Mersenne31 {
     ghost use Rattle.std.specs.Prelude.{[], ◌∷◌, get_or};
     ghost use Rattle.p3_field.specs.Values.{value_of};
-    ghost use Rattle.p3_bench_residues.specs.Halves.{two_has_inverse};
+    ghost use Rattle.p3_field.specs.Halves.{two_has_inverse};
 
     ghost complex_generator_coefficient = { λ i. of (get_or (12 ∷ 1 ∷ []) i 0) };
 

@@ -5,9 +5,8 @@ ghost use Rattle.example_mersenne31.specs.Elements.{of, ops, is};
 
 use crate::value::Mersenne31;
 use p3_field::extension::{
-    Binomial, BinomiallyExtendable, ByteCountFits, ExtensionAlgebra, ExtensionProduct,
+    Binomial, BinomiallyExtendable, ByteCountFits, ExtensionAlgebra, ExtensionProduct, ring_product,
 };
-use p3_products::binomial_extension::ring_product;
 
 impl ExtensionProduct<Mersenne31, 3, Binomial<Mersenne31>> for Mersenne31 {
     ghost ext_product_gives = { λ a b r. r ≡ quotient_mul ops 3 (binomial ops 3 (of 5)) a b };
@@ -37,7 +36,7 @@ impl ExtensionAlgebra<Mersenne31, 3, Binomial<Mersenne31>> for Mersenne31 {
 /// and of its square, each less one.
 impl BinomiallyExtendable<3> for Mersenne31 {
     ghost use Rattle.std.specs.Prelude.{[], ◌∷◌, codes, get_or};
-    ghost use Rattle.p3_theory.specs.ResidueRings.RootsOfUnity.{root_power, root_apart};
+    ghost use Rattle.p3_field.specs.RootsOfUnity.{root_power, root_apart};
 
     ghost w = { of 5 };
 

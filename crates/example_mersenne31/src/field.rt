@@ -7,10 +7,9 @@ ghost use Rattle.example_mersenne31.specs.declared.words.TheConstants.{P};
 
 use crate::value::Mersenne31;
 use crate::words::P;
-use p3_bench_residues::inverse::inverse_modulo;
 use p3_field::{
     Field, Inhabited, Packable, PrimeCharacteristicRing, PrimeField, PrimeField32, PrimeField64,
-    TwoAdicField,
+    TwoAdicField, inverse_modulo,
 };
 use std::ops::{Div, DivAssign};
 
@@ -57,7 +56,7 @@ impl Packable for Mersenne31 {}
 
 impl Field for Mersenne31 {
     ghost use Rattle.p3_field.specs.ValueLists.{values_where_given, values-residues};
-    ghost use Rattle.p3_bench_residues.specs.Inverses.{zero_is_not_one, same_where_equal};
+    ghost use Rattle.p3_field.specs.ResidueInverses.{zero_is_not_one, same_where_equal};
 
     ghost text = { λ x. decimal (canon x) };
 
@@ -159,7 +158,7 @@ impl PrimeField32 for Mersenne31 {
 /// The order less one is twice an odd number, so one and minus one are all there is.
 impl TwoAdicField for Mersenne31 {
     ghost use Rattle.p3_field.specs.TwoAdic.{repeated_squares};
-    ghost use Rattle.p3_theory.specs.ResidueRings.ResidueGenerators.{residue_generators, divides_residue_order};
+    ghost use Rattle.p3_field.specs.ResidueGenerators.{residue_generators, divides_residue_order};
 
     ghost two_adic = { repeated_squares ops 1 (of 2147483646) };
 

@@ -5,8 +5,7 @@ ghost use Rattle.example_mersenne31.specs.Elements.{of, ops};
 
 use crate::value::Mersenne31;
 use p3_field::Algebra;
-use p3_field::extension::{Binomial, ExtensionOverAlgebra, PackedProduct};
-use p3_products::binomial_extension::binomial_product;
+use p3_field::extension::{Binomial, ExtensionOverAlgebra, PackedProduct, binomial_product};
 
 impl<P: Algebra<Mersenne31>> PackedProduct<P, 2, Binomial<Mersenne31>> for Mersenne31 {
     ghost packed_product_gives = { λ a b r. r ≡ quotient_mul P.ops 2 (binomial P.ops 2 (P.embed (ops.neg ops.one))) a b };
@@ -20,7 +19,7 @@ impl<P: Algebra<Mersenne31>> PackedProduct<P, 2, Binomial<Mersenne31>> for Merse
 
 impl<P: Algebra<Mersenne31>> ExtensionOverAlgebra<P, 2, Binomial<Mersenne31>> for Mersenne31 {
     ghost use Rattle.std.proofs.Common.{◌∙◌, ap, sym};
-    ghost use Rattle.p3_theory.specs.FrobeniusMaps.TableEntries.{binomial-along};
+    ghost use Rattle.p3_field.specs.TableEntries.{binomial-along};
 
     ghost packed_products = { λ a b r h. h ∙ sym (ap (λ f. quotient_mul P.ops 2 f a b) (binomial-along P.embeds 2 (ops.neg ops.one))) };
 }
@@ -37,7 +36,7 @@ impl<P: Algebra<Mersenne31>> PackedProduct<P, 3, Binomial<Mersenne31>> for Merse
 
 impl<P: Algebra<Mersenne31>> ExtensionOverAlgebra<P, 3, Binomial<Mersenne31>> for Mersenne31 {
     ghost use Rattle.std.proofs.Common.{◌∙◌, ap, sym};
-    ghost use Rattle.p3_theory.specs.FrobeniusMaps.TableEntries.{binomial-along};
+    ghost use Rattle.p3_field.specs.TableEntries.{binomial-along};
 
     ghost packed_products = { λ a b r h. h ∙ sym (ap (λ f. quotient_mul P.ops 3 f a b) (binomial-along P.embeds 3 (of 5))) };
 }

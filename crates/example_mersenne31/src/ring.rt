@@ -49,7 +49,7 @@ impl IntegerQuotient for Mersenne31 {
 
 impl PrimeCharacteristicRing for Mersenne31 {
     ghost use Rattle.p3_field.specs.Residues.{residue_laws, is_of, is_difference};
-    ghost use Rattle.p3_bench_residues.specs.ResidueMultiples.{of_nat-order};
+    ghost use Rattle.p3_field.specs.ResidueMultiples.{of_nat-order};
 
     type PrimeSubfield = Self;
 

@@ -5,6 +5,7 @@ pub use Rattle.p3_theory.specs.Bases.Subfields
 pub use Rattle.p3_theory.specs.FrobeniusMaps.BinomialFrobenius
 pub use Rattle.p3_theory.specs.FrobeniusMaps.Frobenius
 pub use Rattle.p3_theory.specs.FrobeniusMaps.FrobeniusTable
+pub use Rattle.p3_theory.specs.FrobeniusMaps.TableEntries
 pub use Rattle.p3_theory.specs.Inverses.ListInverses
 pub use Rattle.p3_theory.specs.Lanes.Interleaves
 pub use Rattle.p3_theory.specs.Lanes.Lanes
@@ -21,7 +22,9 @@ pub use Rattle.p3_theory.specs.Polynomials.Text
 pub use Rattle.p3_theory.specs.Products.ComplexExtensions
 pub use Rattle.p3_theory.specs.Products.Trinomials
 pub use Rattle.p3_theory.specs.ResidueRings.BitLength
+pub use Rattle.p3_theory.specs.ResidueRings.ResidueGenerators
 pub use Rattle.p3_theory.specs.ResidueRings.Residues
+pub use Rattle.p3_theory.specs.ResidueRings.RootsOfUnity
 pub use Rattle.p3_theory.specs.Rings.Accumulation
 pub use Rattle.p3_theory.specs.Rings.BooleanForms
 pub use Rattle.p3_theory.specs.Rings.ColumnwiseProducts
@@ -43,6 +46,9 @@ pub use Rattle.p3_theory.specs.Roots.ValueLists
 pub use Rattle.p3_ring.specs.BoundedSequence
 pub use Rattle.p3_ring.specs.ChunkLengths
 pub use Rattle.p3_ring.specs.PackedPowers
+pub use Rattle.p3_bench_residues.specs.Halves
+pub use Rattle.p3_bench_residues.specs.Inverses as ResidueInverses
+pub use Rattle.p3_bench_residues.specs.ResidueMultiples
 pub use Rattle.p3_spaces.specs.CoefficientSums
 pub use Rattle.p3_spaces.specs.Streams
 pub use Rattle.p3_tools.specs.BackwardRuns

@@ -15,3 +15,4 @@ pub use p3_packed::packed_ext_field::{
     PackedBinomialExtensionField, PackedCubicTrinomialExtensionField, PackedExtField,
     PackedQuinticTrinomialExtensionField, Packing,
 };
+pub use p3_products::binomial_extension::{binomial_product, ring_product};

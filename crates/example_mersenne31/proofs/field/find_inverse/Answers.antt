@@ -1,4 +1,4 @@
-use Rattle.p3_bench_residues.specs.Inverses.{inverse_of_modulo, modulo_of_inverse}
+use Rattle.p3_field.specs.ResidueInverses.{inverse_of_modulo, modulo_of_inverse}
 use Rattle.example_mersenne31.specs.Elements.{canon, is}
 use Rattle.example_mersenne31.proofs.field.find_inverse.Goals as goal
 

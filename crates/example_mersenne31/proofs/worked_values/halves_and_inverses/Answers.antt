@@ -1,5 +1,5 @@
 use Rattle.std.specs.Prelude.{refl}
-use Rattle.p3_bench_residues.specs.Halves.{two_has_inverse}
+use Rattle.p3_field.specs.Halves.{two_has_inverse}
 use Rattle.example_mersenne31.specs.Elements.{of, is, same_word}
 use Rattle.example_mersenne31.proofs.worked_values.halves_and_inverses.Goals as goal
 

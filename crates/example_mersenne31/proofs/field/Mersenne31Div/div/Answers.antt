@@ -1,4 +1,4 @@
-use Rattle.p3_bench_residues.specs.Inverses.{divided}
+use Rattle.p3_field.specs.ResidueInverses.{divided}
 use Rattle.example_mersenne31.specs.Elements.{is}
 use Rattle.example_mersenne31.proofs.field.Mersenne31Div.div.Goals as goal
 
