@@ -1,10 +1,13 @@
 -- Two-adic generators of the extension by X^2 = -1, by the numbers of both coefficients.
 use Rattle.std.specs.Prelude.{ℕ, List, [], ◌∷◌, refl}
+use Rattle.p3_field.specs.{ExtField, Binomial}
 use Rattle.p3_field.specs.Ring.{Hom}
 use Rattle.p3_field.specs.Polynomial.{binomial}
 use Rattle.p3_field.specs.Residues.{residues, of_keeps}
 use Rattle.p3_field.specs.TableEntries.{binomial-along}
 use Rattle.p3_field.specs.TwoAdicCoefficients.{AreExtensionGenerators, GeneratorEquations, coefficients-along, entry, equations_generate}
+use Rattle.p3_field.specs.Values.{value_of}
+use Rattle.example_mersenne31.specs.declared.value.Mersenne31.{Mersenne31}
 use Rattle.example_mersenne31.specs.Elements.{of, ops, is}
 use Rattle.example_mersenne31.specs.declared.words.TheConstants.{P}
 
@@ -44,6 +47,10 @@ generator_table =
     (509778402 ∷ 800467507 ∷ []) ∷
     (311014874 ∷ 1584694829 ∷ []) ∷
     (1166849849 ∷ 1117296306 ∷ []) ∷ []
+
+-- the generator for so many bits
+abbrev pub generator : ℕ → ExtField Mersenne31 2 (Binomial Mersenne31) Mersenne31
+generator bits = value_of (of (entry generator_table bits 0) ∷ of (entry generator_table bits 1) ∷ []) refl
 
 -- X^2 + 1, on numbers
 abbrev by_minus_one : List ℕ

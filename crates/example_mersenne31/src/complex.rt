@@ -59,12 +59,12 @@ fn generator_coefficient(bits: usize, i: usize) -> Mersenne31
 /// The complex values of a field element with 12 + X as their generator.
 impl ComplexExtendable for Mersenne31 {
     ghost use Rattle.std.specs.Prelude.{[], ◌∷◌, get_or};
-    ghost use Rattle.p3_field.specs.Values.{value_of};
+    ghost use Rattle.example_mersenne31.specs.ComplexGenerators.{generator};
     ghost use Rattle.p3_field.specs.Halves.{two_has_inverse};
 
     ghost complex_generator_coefficient = { λ i. of (get_or (12 ∷ 1 ∷ []) i 0) };
 
-    ghost circle_two_adic = { λ bits. value_of (of (entry generator_table bits 0) ∷ of (entry generator_table bits 1) ∷ []) refl };
+    ghost circle_two_adic = { generator };
 
     const CIRCLE_TWO_ADICITY: usize = 31;
 

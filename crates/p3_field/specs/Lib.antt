@@ -75,6 +75,10 @@ pub use Rattle.p3_ext.specs.Shapes
 pub use Rattle.p3_ext.specs.ValueBytes
 pub use Rattle.p3_ext.specs.ValueOrder
 pub use Rattle.p3_ext.specs.Values
+pub use Rattle.p3_ext.specs.declared.extension.Binomial.{Binomial}
+pub use Rattle.p3_ext.specs.declared.extension.CubicTrinomial.{CubicTrinomial}
+pub use Rattle.p3_ext.specs.declared.extension.QuinticTrinomial.{QuinticTrinomial}
+pub use Rattle.p3_ext.specs.declared.extension.ext_field.ExtField.{ExtField}
 pub use Rattle.p3_runs.specs.FieldRuns
 pub use Rattle.p3_runs.specs.Runs
 pub use Rattle.p3_packed.specs.PackedValues
