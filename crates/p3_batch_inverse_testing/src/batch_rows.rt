@@ -143,12 +143,18 @@ trait ExtensionInverses<const D: usize>: Form<u32> {
     /// The value X.
     fn generator() -> Self::Value;
 
-    /// Asserts that each row agrees, at this generator, and that lists of many lengths ask for memory once.
+    /// `assert_rows` at this generator.
     fn assert_extension(
         rt: &(impl Abort + AllocGlobal),
         generator: Self::Value,
         rows: &[Row],
         inverses: &[Inverses],
+    ) -> Result<(), Fail>;
+
+    /// `assert_growths` at this generator.
+    fn assert_extension_growths(
+        rt: &(impl Abort + AllocGlobal),
+        generator: Self::Value,
     ) -> Result<(), Fail>;
 }
 
@@ -171,7 +177,13 @@ impl<W: BinomialConstants<D>, const D: usize> ExtensionInverses<D> for W {
         rows: &[Row],
         inverses: &[Inverses],
     ) -> Result<(), Fail> {
-        assert_rows(rt, generator, rows, inverses)?;
+        assert_rows(rt, generator, rows, inverses)
+    }
+
+    fn assert_extension_growths(
+        rt: &(impl Abort + AllocGlobal),
+        generator: ExtField<Fp<W>, D, Binomial<Fp<W>>, Fp<W>>,
+    ) -> Result<(), Fail> {
         assert_growths(rt, generator)
     }
 }
@@ -193,4 +205,10 @@ fn batch_inverses_of_extension_values(rt: HostRuntime) -> Result<(), Fail> {
         &OVER_F17X2,
         &INVERSES_F17X2,
     )
+}
+
+#[test]
+fn inverses_of_extension_values_ask_for_memory_once(rt: HostRuntime) -> Result<(), Fail> {
+    let generator = <Plain<M17> as ExtensionInverses<2>>::generator();
+    <Plain<M17> as ExtensionInverses<2>>::assert_extension_growths(&rt, generator)
 }
