@@ -1,6 +1,7 @@
 //! Lists of powers of a prime field's values and of extension values, told by the rows of tables.
 use crate::rows::Row;
 use p3_base::field::Field;
+use p3_base::packed_traits::Packable;
 use p3_bench_prime::binomial_constants::BinomialConstants;
 use p3_bench_prime::form::Form;
 use p3_bench_prime::fp::Fp;
@@ -63,6 +64,15 @@ pub(crate) fn are_taken<F: Field, P: PackedRing<F>>(
     ))
 }
 
+/// `are_taken` by the field itself, a packing of one lane.
+fn are_taken_alone<F: Field + Packable>(
+    alloc: Global,
+    generator: F,
+    row: Row<'_>,
+) -> Result<Option<bool>, AllocError> {
+    are_taken::<F, F>(alloc, generator, row)
+}
+
 /// Lists of powers over the extension of degree D by a binomial, implemented once for all fields: a call
 /// at a marker's own name passes the field's constants alone.
 pub(crate) trait ExtensionPowers<const D: usize>: Form<u32> {
@@ -98,9 +108,6 @@ impl<W: BinomialConstants<D>, const D: usize> ExtensionPowers<D> for W {
         generator: ExtField<Fp<W>, D, Binomial<Fp<W>>, Fp<W>>,
         row: Row<'_>,
     ) -> Result<Option<bool>, AllocError> {
-        are_taken::<
-            ExtField<Fp<W>, D, Binomial<Fp<W>>, Fp<W>>,
-            ExtField<Fp<W>, D, Binomial<Fp<W>>, Fp<W>>,
-        >(alloc, generator, row)
+        are_taken_alone(alloc, generator, row)
     }
 }
