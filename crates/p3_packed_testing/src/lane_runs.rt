@@ -1,14 +1,8 @@
 //! Runs of steps over vectors of packed extension values, and beside each the same run over the values
-//! of every lane alone. A run is told by three texts: the registers before, the steps, and the
-//! registers afterwards.
+//! of every lane alone, told by the rows of tables.
+use crate::rows::{Row, word};
+use crate::texts::values;
 use p3_base::field::Field;
-use p3_base::packed_traits::{Inhabited, Packable, PackedField};
-use p3_bench_packed::packed::Packed;
-use p3_bench_prime::binomial_constants::BinomialConstants;
-use p3_bench_prime::fp::Fp;
-use p3_bench_prime::trinomial_constants::TrinomialConstants;
-use p3_ext::extension::{Binomial, CubicTrinomial, ExtField, ExtensionOverAlgebra, ExtensionShape};
-use p3_packed::packed_ext_field::{PackedExtField, Packing};
 use p3_packings::extension_lanes::ExtensionLanes;
 use p3_ring::ring::PrimeCharacteristicRing;
 use p3_runs::steps::{Step, run_steps, steps_fit};
@@ -16,218 +10,79 @@ use p3_spaces::basis::BasedVectorSpace;
 use p3_vectorized::steps::run_lane_steps;
 use p3_vectorized::vectorized_ext::VectorizedExt;
 use std::alloc::{AllocError, Global};
-use std::marker::PhantomData;
 
-/// Runs over vectors of N packings of L values of an extension of degree D, implemented once for all
-/// fields: a call at a field's own name passes the field's constants alone.
-pub trait LaneRuns<const D: usize, const L: usize, const N: usize> {
-    /// What stands in a lane.
-    type Value: Copy;
+/// The greatest number of steps of a run.
+const MOST_STEPS: usize = 24;
 
-    /// A register, a vector of N packings. Of an associated type it is known that its values have room.
-    type Register: Copy;
+/// Vectors of one to three packings.
+pub(crate) type Vectors<F, EF, PE> = (
+    VectorizedExt<F, EF, PE, 1>,
+    VectorizedExt<F, EF, PE, 2>,
+    VectorizedExt<F, EF, PE, 3>,
+);
 
-    /// The value whose coefficients are the numbers of a text.
-    fn value(text: &str) -> Self::Value;
-
-    /// Puts the values into registers, L * N after L * N, carries out the steps by `run_lane_steps`
-    /// and reads the values back; whether the steps fit.
-    fn run(
-        registers: &mut Vec<Self::Register>,
-        values: &mut [Self::Value],
-        steps: &[Step],
-    ) -> Result<bool, AllocError>;
-
-    /// `run_steps` over the values of one lane; whether the steps fit.
-    fn run_lane(values: &mut [Self::Value], steps: &[Step]) -> bool;
-
-    /// Whether the values are the same.
-    fn same(left: &[Self::Value], right: &[Self::Value]) -> bool;
-}
-
-/// The extensions by `X^D = W` of the residues of a marker.
-pub struct OverBinomial<W>(PhantomData<W>);
-
-/// The extension by `X^3 = X + 1` of the residues of a marker.
-pub struct OverCubic<W>(PhantomData<W>);
-
-/// A register of N packings of L values.
-pub type Register<W, S, const D: usize, const L: usize, const N: usize> = VectorizedExt<
-    Fp<W>,
-    ExtField<Fp<W>, D, S, Fp<W>>,
-    PackedExtField<Fp<W>, D, S, Packed<Fp<W>, L>>,
-    N,
->;
-
-impl<W: BinomialConstants<D>, const D: usize, const N: usize> LaneRuns<D, 4, N>
-    for OverBinomial<W> {
-    type Value = ExtField<Fp<W>, D, Binomial<Fp<W>>, Fp<W>>;
-
-    type Register = Register<W, Binomial<Fp<W>>, D, 4, N>;
-
-    fn value(text: &str) -> ExtField<Fp<W>, D, Binomial<Fp<W>>, Fp<W>> {
-        value::<Fp<W>, ExtField<Fp<W>, D, Binomial<Fp<W>>, Fp<W>>>(text)
-    }
-
-    fn run(
-        registers: &mut Vec<Register<W, Binomial<Fp<W>>, D, 4, N>>,
-        values: &mut [ExtField<Fp<W>, D, Binomial<Fp<W>>, Fp<W>>],
-        steps: &[Step],
-    ) -> Result<bool, AllocError> {
-        <Packed<Fp<W>, 4> as PackedRuns<Fp<W>, Binomial<Fp<W>>, D, N>>::run_packed(
-            registers, values, steps,
-        )
-    }
-
-    fn run_lane(values: &mut [ExtField<Fp<W>, D, Binomial<Fp<W>>, Fp<W>>], steps: &[Step]) -> bool {
-        run_lane(values, steps)
-    }
-
-    fn same(
-        left: &[ExtField<Fp<W>, D, Binomial<Fp<W>>, Fp<W>>],
-        right: &[ExtField<Fp<W>, D, Binomial<Fp<W>>, Fp<W>>],
-    ) -> bool {
-        left == right
+/// `run_agrees` at the number of packings of a vector, the call's second word. Nothing is read of
+/// `_vectors`.
+pub(crate) fn counted_runs_agree<F, EF, PE>(
+    alloc: Global,
+    _vectors: Option<Vectors<F, EF, PE>>,
+    row: Row<'_>,
+) -> Result<Option<bool>, AllocError>
+where
+    F: Field,
+    EF: Field + BasedVectorSpace<F>,
+    PE: ExtensionLanes<F, EF>,
+{
+    match word(row.call, 1) {
+        "1" => run_agrees::<F, EF, PE, 1>(alloc, None, row),
+        "2" => run_agrees::<F, EF, PE, 2>(alloc, None, row),
+        "3" => run_agrees::<F, EF, PE, 3>(alloc, None, row),
+        _ => Ok(None),
     }
 }
 
-impl<W: BinomialConstants<D>, const D: usize, const N: usize> LaneRuns<D, 8, N>
-    for OverBinomial<W> {
-    type Value = ExtField<Fp<W>, D, Binomial<Fp<W>>, Fp<W>>;
-
-    type Register = Register<W, Binomial<Fp<W>>, D, 8, N>;
-
-    fn value(text: &str) -> ExtField<Fp<W>, D, Binomial<Fp<W>>, Fp<W>> {
-        value::<Fp<W>, ExtField<Fp<W>, D, Binomial<Fp<W>>, Fp<W>>>(text)
+/// Whether the row's steps make the registers after of the registers before, over vectors of N packings
+/// and over the values of each lane alone; `Ok(None)` where the steps can't be read or don't fit. That a
+/// vector is named tells that it has room; nothing is read of it.
+fn run_agrees<F, EF, PE, const N: usize>(
+    alloc: Global,
+    _vector: Option<VectorizedExt<F, EF, PE, N>>,
+    row: Row<'_>,
+) -> Result<Option<bool>, AllocError>
+where
+    F: Field,
+    EF: Field + BasedVectorSpace<F>,
+    PE: ExtensionLanes<F, EF>,
+{
+    let Some(list) = list_of(row.argument(1)) else {
+        return Ok(None);
+    };
+    let steps = &list[..];
+    let start = values::<F, EF>(alloc, row.argument(0))?;
+    let wanted = values::<F, EF>(alloc, row.answer)?;
+    let mut read = values::<F, EF>(alloc, row.argument(0))?;
+    let mut registers: Vec<VectorizedExt<F, EF, PE, N>> = Vec::new(alloc);
+    if !run_vectors(&mut registers, &mut read, steps)? {
+        return Ok(None);
     }
-
-    fn run(
-        registers: &mut Vec<Register<W, Binomial<Fp<W>>, D, 8, N>>,
-        values: &mut [ExtField<Fp<W>, D, Binomial<Fp<W>>, Fp<W>>],
-        steps: &[Step],
-    ) -> Result<bool, AllocError> {
-        <Packed<Fp<W>, 8> as PackedRuns<Fp<W>, Binomial<Fp<W>>, D, N>>::run_packed(
-            registers, values, steps,
-        )
+    if read.as_slice() != wanted.as_slice() {
+        return Ok(Some(false));
     }
-
-    fn run_lane(values: &mut [ExtField<Fp<W>, D, Binomial<Fp<W>>, Fp<W>>], steps: &[Step]) -> bool {
-        run_lane(values, steps)
+    let Some(lanes) = PE::LANES.checked_mul(N) else {
+        return Ok(None);
+    };
+    for lane in 0..lanes {
+        let mut scalars = every::<EF>(alloc, &start, lane, lanes)?;
+        let at_lane = every::<EF>(alloc, &wanted, lane, lanes)?;
+        if !run_lane(&mut scalars, steps) || scalars.as_slice() != at_lane.as_slice() {
+            return Ok(Some(false));
+        }
     }
-
-    fn same(
-        left: &[ExtField<Fp<W>, D, Binomial<Fp<W>>, Fp<W>>],
-        right: &[ExtField<Fp<W>, D, Binomial<Fp<W>>, Fp<W>>],
-    ) -> bool {
-        left == right
-    }
+    Ok(Some(true))
 }
 
-impl<W: TrinomialConstants<3, CubicTrinomial>, const N: usize> LaneRuns<3, 4, N> for OverCubic<W> {
-    type Value = ExtField<Fp<W>, 3, CubicTrinomial, Fp<W>>;
-
-    type Register = Register<W, CubicTrinomial, 3, 4, N>;
-
-    fn value(text: &str) -> ExtField<Fp<W>, 3, CubicTrinomial, Fp<W>> {
-        value::<Fp<W>, ExtField<Fp<W>, 3, CubicTrinomial, Fp<W>>>(text)
-    }
-
-    fn run(
-        registers: &mut Vec<Register<W, CubicTrinomial, 3, 4, N>>,
-        values: &mut [ExtField<Fp<W>, 3, CubicTrinomial, Fp<W>>],
-        steps: &[Step],
-    ) -> Result<bool, AllocError> {
-        <Packed<Fp<W>, 4> as PackedRuns<Fp<W>, CubicTrinomial, 3, N>>::run_packed(
-            registers, values, steps,
-        )
-    }
-
-    fn run_lane(values: &mut [ExtField<Fp<W>, 3, CubicTrinomial, Fp<W>>], steps: &[Step]) -> bool {
-        run_lane(values, steps)
-    }
-
-    fn same(
-        left: &[ExtField<Fp<W>, 3, CubicTrinomial, Fp<W>>],
-        right: &[ExtField<Fp<W>, 3, CubicTrinomial, Fp<W>>],
-    ) -> bool {
-        left == right
-    }
-}
-
-impl<W: TrinomialConstants<3, CubicTrinomial>, const N: usize> LaneRuns<3, 8, N> for OverCubic<W> {
-    type Value = ExtField<Fp<W>, 3, CubicTrinomial, Fp<W>>;
-
-    type Register = Register<W, CubicTrinomial, 3, 8, N>;
-
-    fn value(text: &str) -> ExtField<Fp<W>, 3, CubicTrinomial, Fp<W>> {
-        value::<Fp<W>, ExtField<Fp<W>, 3, CubicTrinomial, Fp<W>>>(text)
-    }
-
-    fn run(
-        registers: &mut Vec<Register<W, CubicTrinomial, 3, 8, N>>,
-        values: &mut [ExtField<Fp<W>, 3, CubicTrinomial, Fp<W>>],
-        steps: &[Step],
-    ) -> Result<bool, AllocError> {
-        <Packed<Fp<W>, 8> as PackedRuns<Fp<W>, CubicTrinomial, 3, N>>::run_packed(
-            registers, values, steps,
-        )
-    }
-
-    fn run_lane(values: &mut [ExtField<Fp<W>, 3, CubicTrinomial, Fp<W>>], steps: &[Step]) -> bool {
-        run_lane(values, steps)
-    }
-
-    fn same(
-        left: &[ExtField<Fp<W>, 3, CubicTrinomial, Fp<W>>],
-        right: &[ExtField<Fp<W>, 3, CubicTrinomial, Fp<W>>],
-    ) -> bool {
-        left == right
-    }
-}
-
-/// Runs over vectors of N packings P of values of an extension of F, implemented once for all packings:
-/// a call at a packing's own name passes the traits of the field and of the packing once.
-trait PackedRuns<
-    F: PrimeCharacteristicRing,
-    S: ExtensionShape,
-    const D: usize,
-    const N: usize,
->: Inhabited {
-    /// What stands in a lane.
-    type Value: Copy;
-
-    /// A register, a vector of N packings.
-    type Register: Copy;
-
-    /// `run_vectors` over registers of packings of this type.
-    fn run_packed(
-        registers: &mut Vec<Self::Register>,
-        values: &mut [Self::Value],
-        steps: &[Step],
-    ) -> Result<bool, AllocError>;
-}
-
-impl<
-    F: Field + ExtensionOverAlgebra<P, D, S> + Packable,
-    S: ExtensionShape,
-    P: PackedField<F> + Packing,
-    const D: usize,
-    const N: usize,
-> PackedRuns<F, S, D, N> for P {
-    type Value = ExtField<F, D, S, F>;
-
-    type Register = VectorizedExt<F, ExtField<F, D, S, F>, PackedExtField<F, D, S, P>, N>;
-
-    fn run_packed(
-        registers: &mut Vec<VectorizedExt<F, ExtField<F, D, S, F>, PackedExtField<F, D, S, P>, N>>,
-        values: &mut [ExtField<F, D, S, F>],
-        steps: &[Step],
-    ) -> Result<bool, AllocError> {
-        run_vectors(registers, values, steps)
-    }
-}
-
-/// `LaneRuns::run` over registers of any type.
+/// Puts the values into registers, a vector's lanes at a time, carries out the steps by `run_lane_steps`
+/// and reads the values back; whether the steps fit.
 fn run_vectors<F: Copy, EF: PrimeCharacteristicRing, PE: ExtensionLanes<F, EF>, const N: usize>(
     registers: &mut Vec<VectorizedExt<F, EF, PE, N>>,
     values: &mut [EF],
@@ -318,53 +173,13 @@ fn run_lane<EF: PrimeCharacteristicRing>(values: &mut [EF], steps: &[Step]) -> b
     fit
 }
 
-/// The greatest number of steps of a run.
-const MOST_STEPS: usize = 24;
-
-/// Whether the steps make the registers `after` of the registers `before`, over vectors of packings and
-/// over the values of each lane alone; `Ok(None)` where the steps can't be read or don't fit. Registers
-/// stand one after the other, the values of their lanes between spaces, and the coefficients of a value
-/// between commas.
-pub fn run_agrees<W: LaneRuns<D, L, N>, const D: usize, const L: usize, const N: usize>(
-    alloc: Global,
-    before: &str,
-    steps: &str,
-    after: &str,
-) -> Result<Option<bool>, AllocError> {
-    let Some(list) = list_of(steps) else {
-        return Ok(None);
-    };
-    let steps = &list[..];
-    let start = values::<W, D, L, N>(alloc, before)?;
-    let wanted = values::<W, D, L, N>(alloc, after)?;
-    let mut read = values::<W, D, L, N>(alloc, before)?;
-    let mut registers = Vec::new(alloc);
-    if !W::run(&mut registers, &mut read, steps)? {
-        return Ok(None);
-    }
-    if !W::same(&read, &wanted) {
-        return Ok(Some(false));
-    }
-    let Some(lanes) = L.checked_mul(N) else {
-        return Ok(None);
-    };
-    for lane in 0..lanes {
-        let mut scalars = every::<W, D, L, N>(alloc, &start, lane, lanes)?;
-        let at_lane = every::<W, D, L, N>(alloc, &wanted, lane, lanes)?;
-        if !W::run_lane(&mut scalars, steps) || !W::same(&scalars, &at_lane) {
-            return Ok(Some(false));
-        }
-    }
-    Ok(Some(true))
-}
-
 /// Every value of the list from `first` on, `step` after `step`.
-fn every<W: LaneRuns<D, L, N>, const D: usize, const L: usize, const N: usize>(
+fn every<EF: Copy>(
     alloc: Global,
-    values: &[W::Value],
+    values: &[EF],
     first: usize,
     step: usize,
-) -> Result<Vec<W::Value>, AllocError> {
+) -> Result<Vec<EF>, AllocError> {
     let mut found = Vec::new(alloc);
     for (i, value) in values.iter().enumerate() {
         if step != 0 && i % step == first {
@@ -372,32 +187,6 @@ fn every<W: LaneRuns<D, L, N>, const D: usize, const L: usize, const N: usize>(
         }
     }
     Ok(found)
-}
-
-/// The values of a text.
-fn values<W: LaneRuns<D, L, N>, const D: usize, const L: usize, const N: usize>(
-    alloc: Global,
-    text: &str,
-) -> Result<Vec<W::Value>, AllocError> {
-    let mut values = Vec::new(alloc);
-    for word in text.split_ascii_whitespace() {
-        values.push(W::value(word))?;
-    }
-    Ok(values)
-}
-
-/// The value of a text.
-fn value<F: Field, EF: BasedVectorSpace<F>>(text: &str) -> EF {
-    EF::from_basis_coefficients_fn(|d: usize| -> F { coefficient::<F>(text, d) })
-}
-
-/// The coefficient at an index of a text, zero past its end.
-fn coefficient<F: Field>(text: &str, index: usize) -> F {
-    let number = match text.split(',').nth(index) {
-        Some(word) => word.parse::<u32>().unwrap_or(0),
-        None => 0,
-    };
-    F::from_u32(number)
 }
 
 /// The steps of a text, and after them steps that change nothing.

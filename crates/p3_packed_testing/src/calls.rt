@@ -1,0 +1,229 @@
+//! The calls of the tables over the extensions of the bench. The functions that choose the number of lanes
+//! are generic over the marker of a field: a test then passes the field's constants alone.
+use crate::extension_calls::{BaseCalls, PackedCalls, PackedRuns};
+use crate::rows::{Row, word};
+use crate::{call_tables as tables, lane_run_tables as runs};
+use p3_bench_packed::packed::Packed;
+use p3_bench_prime::baby_bear::BabyBearModulus;
+use p3_bench_prime::binomial_constants::BinomialConstants;
+use p3_bench_prime::form::{Form, Plain};
+use p3_bench_prime::fp::Fp;
+use p3_bench_prime::montgomery::Montgomery;
+use p3_bench_prime::small::{M17, M31};
+use p3_bench_prime::trinomial_constants::TrinomialConstants;
+use p3_ext::extension::{Binomial, CubicTrinomial, QuinticTrinomial};
+use std::alloc::{AllocError, Global};
+use std::process::Abort;
+use std::test::Fail;
+
+/// A row's call over packings of 1, 4 or 8 values of the extension by `X^2 = W`.
+fn over_quadratic<W: BinomialConstants<2>>(
+    alloc: Global,
+    row: Row<'_>,
+) -> Result<Option<bool>, AllocError> {
+    match row.lanes {
+        "1" => {
+            <Packed<Fp<W>, 1> as PackedCalls<Fp<W>, Binomial<Fp<W>>, 2>>::agrees(alloc, None, row)
+        }
+        "4" => {
+            <Packed<Fp<W>, 4> as PackedCalls<Fp<W>, Binomial<Fp<W>>, 2>>::agrees(alloc, None, row)
+        }
+        "8" => {
+            <Packed<Fp<W>, 8> as PackedCalls<Fp<W>, Binomial<Fp<W>>, 2>>::agrees(alloc, None, row)
+        }
+        _ => Ok(None),
+    }
+}
+
+/// The same of the extension by `X^4 = W`.
+fn over_quartic<W: BinomialConstants<4>>(
+    alloc: Global,
+    row: Row<'_>,
+) -> Result<Option<bool>, AllocError> {
+    match row.lanes {
+        "1" => {
+            <Packed<Fp<W>, 1> as PackedCalls<Fp<W>, Binomial<Fp<W>>, 4>>::agrees(alloc, None, row)
+        }
+        "4" => {
+            <Packed<Fp<W>, 4> as PackedCalls<Fp<W>, Binomial<Fp<W>>, 4>>::agrees(alloc, None, row)
+        }
+        "8" => {
+            <Packed<Fp<W>, 8> as PackedCalls<Fp<W>, Binomial<Fp<W>>, 4>>::agrees(alloc, None, row)
+        }
+        _ => Ok(None),
+    }
+}
+
+/// The same of the extension by `X^3 = X + 1`.
+fn over_cubic<W: TrinomialConstants<3, CubicTrinomial>>(
+    alloc: Global,
+    row: Row<'_>,
+) -> Result<Option<bool>, AllocError> {
+    match row.lanes {
+        "1" => <Packed<Fp<W>, 1> as PackedCalls<Fp<W>, CubicTrinomial, 3>>::agrees(
+            alloc, None, row,
+        ),
+        "4" => <Packed<Fp<W>, 4> as PackedCalls<Fp<W>, CubicTrinomial, 3>>::agrees(
+            alloc, None, row,
+        ),
+        "8" => <Packed<Fp<W>, 8> as PackedCalls<Fp<W>, CubicTrinomial, 3>>::agrees(
+            alloc, None, row,
+        ),
+        _ => Ok(None),
+    }
+}
+
+/// The same of the extension by `X^5 = 1 - X^2`.
+fn over_quintic<W: TrinomialConstants<5, QuinticTrinomial>>(
+    alloc: Global,
+    row: Row<'_>,
+) -> Result<Option<bool>, AllocError> {
+    match row.lanes {
+        "1" => {
+            <Packed<Fp<W>, 1> as PackedCalls<Fp<W>, QuinticTrinomial, 5>>::agrees(alloc, None, row)
+        }
+        "4" => {
+            <Packed<Fp<W>, 4> as PackedCalls<Fp<W>, QuinticTrinomial, 5>>::agrees(alloc, None, row)
+        }
+        "8" => {
+            <Packed<Fp<W>, 8> as PackedCalls<Fp<W>, QuinticTrinomial, 5>>::agrees(alloc, None, row)
+        }
+        _ => Ok(None),
+    }
+}
+
+/// The same of the field itself, which is an extension of its own.
+fn over_base<W: Form<u32>>(alloc: Global, row: Row<'_>) -> Result<Option<bool>, AllocError> {
+    match row.lanes {
+        "1" => <Packed<Fp<W>, 1> as BaseCalls<Fp<W>>>::base_agrees(alloc, None, row),
+        "4" => <Packed<Fp<W>, 4> as BaseCalls<Fp<W>>>::base_agrees(alloc, None, row),
+        "8" => <Packed<Fp<W>, 8> as BaseCalls<Fp<W>>>::base_agrees(alloc, None, row),
+        _ => Ok(None),
+    }
+}
+
+/// A row's run over vectors of packings of 4 or 8 values of the extension by `X^2 = W`.
+fn runs_over_quadratic<W: BinomialConstants<2>>(
+    alloc: Global,
+    row: Row<'_>,
+) -> Result<Option<bool>, AllocError> {
+    match row.lanes {
+        "4" => {
+            <Packed<Fp<W>, 4> as PackedRuns<Fp<W>, Binomial<Fp<W>>, 2>>::runs_agree(
+                alloc, None, row,
+            )
+        }
+        "8" => {
+            <Packed<Fp<W>, 8> as PackedRuns<Fp<W>, Binomial<Fp<W>>, 2>>::runs_agree(
+                alloc, None, row,
+            )
+        }
+        _ => Ok(None),
+    }
+}
+
+/// The same of the extension by `X^4 = W`.
+fn runs_over_quartic<W: BinomialConstants<4>>(
+    alloc: Global,
+    row: Row<'_>,
+) -> Result<Option<bool>, AllocError> {
+    match row.lanes {
+        "4" => {
+            <Packed<Fp<W>, 4> as PackedRuns<Fp<W>, Binomial<Fp<W>>, 4>>::runs_agree(
+                alloc, None, row,
+            )
+        }
+        "8" => {
+            <Packed<Fp<W>, 8> as PackedRuns<Fp<W>, Binomial<Fp<W>>, 4>>::runs_agree(
+                alloc, None, row,
+            )
+        }
+        _ => Ok(None),
+    }
+}
+
+/// The same of the extension by `X^3 = X + 1`.
+fn runs_over_cubic<W: TrinomialConstants<3, CubicTrinomial>>(
+    alloc: Global,
+    row: Row<'_>,
+) -> Result<Option<bool>, AllocError> {
+    match row.lanes {
+        "4" => {
+            <Packed<Fp<W>, 4> as PackedRuns<Fp<W>, CubicTrinomial, 3>>::runs_agree(alloc, None, row)
+        }
+        "8" => {
+            <Packed<Fp<W>, 8> as PackedRuns<Fp<W>, CubicTrinomial, 3>>::runs_agree(alloc, None, row)
+        }
+        _ => Ok(None),
+    }
+}
+
+/// Whether a row's run has its registers after; `Ok(None)` where there is none.
+fn run_agrees(alloc: Global, row: Row<'_>) -> Result<Option<bool>, AllocError> {
+    match row.field {
+        "f17x2" => runs_over_quadratic::<Plain<M17>>(alloc, row),
+        "f31t3" => runs_over_cubic::<Plain<M31>>(alloc, row),
+        "bbx4" => runs_over_quartic::<Montgomery<BabyBearModulus>>(alloc, row),
+        _ => Ok(None),
+    }
+}
+
+/// Whether the call of a line has its answer; `Ok(None)` where the line can't be read or names no call.
+fn agrees(alloc: Global, line: &str) -> Result<Option<bool>, AllocError> {
+    let Some(row) = Row::read(line) else {
+        return Ok(None);
+    };
+    if word(row.call, 0) == "run_lane_steps" {
+        return run_agrees(alloc, row);
+    }
+    match row.field {
+        "f17" => over_base::<Plain<M17>>(alloc, row),
+        "f17x2" => over_quadratic::<Plain<M17>>(alloc, row),
+        "f17x4" => over_quartic::<Plain<M17>>(alloc, row),
+        "f17t5" => over_quintic::<Plain<M17>>(alloc, row),
+        "f31t3" => over_cubic::<Plain<M31>>(alloc, row),
+        "bbx4" => over_quartic::<Montgomery<BabyBearModulus>>(alloc, row),
+        _ => Ok(None),
+    }
+}
+
+/// Asserts that the call of each line has its answer.
+fn assert_table(rt: &(impl Abort + AllocGlobal), table: &str) -> Result<(), Fail> {
+    for line in table.lines() {
+        if !line.is_empty() {
+            assert_eq!(rt; agrees(rt.alloc(), line)?, Some(true), "{line}");
+        }
+    }
+    Ok(())
+}
+
+#[test]
+fn calls_worked_by_hand(rt: HostRuntime) -> Result<(), Fail> {
+    assert_table(&rt, tables::BY_HAND)
+}
+
+#[test]
+fn outside_calls(rt: HostRuntime) -> Result<(), Fail> {
+    assert_table(&rt, tables::OVER_F17)?;
+    assert_table(&rt, tables::OVER_F17X2)?;
+    assert_table(&rt, tables::OVER_F17X4)?;
+    assert_table(&rt, tables::OVER_F31T3)?;
+    assert_table(&rt, tables::OVER_F17T5)?;
+    assert_table(&rt, tables::OVER_BBX4)
+}
+
+#[test]
+fn each_call_by_the_definitions(rt: HostRuntime) -> Result<(), Fail> {
+    assert_table(&rt, tables::EACH_OVER_F17X2)?;
+    assert_table(&rt, tables::EACH_OVER_F31T3)?;
+    assert_table(&rt, tables::EACH_OVER_F17T5)?;
+    assert_table(&rt, tables::EACH_OVER_BBX4)
+}
+
+#[test]
+fn runs_over_vectors(rt: HostRuntime) -> Result<(), Fail> {
+    assert_table(&rt, runs::RUNS_BY_HAND)?;
+    assert_table(&rt, runs::RUNS_OVER_F17X2)?;
+    assert_table(&rt, runs::RUNS_OVER_F31T3)?;
+    assert_table(&rt, runs::RUNS_OVER_BBX4)
+}

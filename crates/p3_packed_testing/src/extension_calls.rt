@@ -1,0 +1,114 @@
+//! Calls on packings P of values of an extension of F, implemented once for all packings.
+use crate::column_calls::Rooms;
+use crate::lane_runs::{Vectors, counted_runs_agree};
+use crate::row_calls::row_agrees;
+use crate::rows::Row;
+use p3_base::field::Field;
+use p3_base::packed_traits::{Inhabited, Packable, PackedField};
+use p3_ext::extension::{ExtField, ExtensionOverAlgebra, ExtensionShape, FrobeniusExtendable};
+use p3_packed::packed_ext_field::{PackedExtField, Packing};
+use p3_ring::ring::PrimeCharacteristicRing;
+use std::alloc::{AllocError, Global};
+
+/// The types that calls on packings P of values of an extension of F make values of.
+pub(crate) type ExtensionRooms<F, S, P, const D: usize> = Rooms<
+    F,
+    ExtField<F, D, S, F>,
+    PackedExtField<F, D, S, P>,
+>;
+
+/// Calls on packings of this type of the values of an extension of F: a call at a packing's own name passes
+/// the traits of the field and of the packing once.
+pub(crate) trait PackedCalls<
+    F: PrimeCharacteristicRing,
+    S: ExtensionShape,
+    const D: usize,
+>: Inhabited {
+    /// The types that calls make values of. Of an associated type it is known that its values have room.
+    type Rooms: Drop;
+
+    /// `row_agrees` over packings of this type. Nothing is read of `rooms`.
+    fn agrees(
+        alloc: Global,
+        rooms: Option<Self::Rooms>,
+        row: Row<'_>,
+    ) -> Result<Option<bool>, AllocError>;
+}
+
+impl<
+    F: FrobeniusExtendable<D, S> + ExtensionOverAlgebra<P, D, S> + Packable,
+    S: ExtensionShape,
+    P: PackedField<F> + Packing,
+    const D: usize,
+> PackedCalls<F, S, D> for P {
+    type Rooms = ExtensionRooms<F, S, P, D>;
+
+    fn agrees(
+        alloc: Global,
+        rooms: Option<ExtensionRooms<F, S, P, D>>,
+        row: Row<'_>,
+    ) -> Result<Option<bool>, AllocError> {
+        row_agrees::<F, ExtField<F, D, S, F>, PackedExtField<F, D, S, P>>(alloc, rooms, row)
+    }
+}
+
+/// Runs over vectors of packings of this type of the values of an extension of F.
+pub(crate) trait PackedRuns<
+    F: PrimeCharacteristicRing,
+    S: ExtensionShape,
+    const D: usize,
+>: Inhabited {
+    /// Vectors of one to three packings.
+    type Vectors: Copy;
+
+    /// `counted_runs_agree` over packings of this type. Nothing is read of `vectors`.
+    fn runs_agree(
+        alloc: Global,
+        vectors: Option<Self::Vectors>,
+        row: Row<'_>,
+    ) -> Result<Option<bool>, AllocError>;
+}
+
+impl<
+    F: FrobeniusExtendable<D, S> + ExtensionOverAlgebra<P, D, S> + Packable,
+    S: ExtensionShape,
+    P: PackedField<F> + Packing,
+    const D: usize,
+> PackedRuns<F, S, D> for P {
+    type Vectors = Vectors<F, ExtField<F, D, S, F>, PackedExtField<F, D, S, P>>;
+
+    fn runs_agree(
+        alloc: Global,
+        vectors: Option<Vectors<F, ExtField<F, D, S, F>, PackedExtField<F, D, S, P>>>,
+        row: Row<'_>,
+    ) -> Result<Option<bool>, AllocError> {
+        counted_runs_agree::<F, ExtField<F, D, S, F>, PackedExtField<F, D, S, P>>(
+            alloc, vectors, row,
+        )
+    }
+}
+
+/// Calls on packings of this type of the values of F, which is an extension of itself.
+pub(crate) trait BaseCalls<F: PrimeCharacteristicRing>: Inhabited {
+    /// The types that calls make values of.
+    type BaseRooms: Drop;
+
+    /// `row_agrees` over packings of this type. Nothing is read of `rooms`.
+    fn base_agrees(
+        alloc: Global,
+        rooms: Option<Self::BaseRooms>,
+        row: Row<'_>,
+    ) -> Result<Option<bool>, AllocError>;
+}
+
+impl<F: Field + Packable, P: PackedField<F> + Packing> BaseCalls<F> for P {
+    type BaseRooms = Rooms<F, F, P>;
+
+    fn base_agrees(
+        alloc: Global,
+        rooms: Option<Rooms<F, F, P>>,
+        row: Row<'_>,
+    ) -> Result<Option<bool>, AllocError> {
+        row_agrees::<F, F, P>(alloc, rooms, row)
+    }
+}
