@@ -139,7 +139,7 @@ fn agrees<F: PrimeField64 + RingSums>(alloc: Global, line: &str) -> Result<bool,
 }
 
 /// Asserts the lines of a table.
-fn assert_combinations<F: PrimeField64>(
+fn assert_combinations<F: PrimeField64 + RingSums>(
     rt: &(impl Abort + AllocGlobal),
     table: &str,
 ) -> Result<(), Fail> {
