@@ -1,4 +1,4 @@
-ghost use Rattle.std.specs.Prelude.{◌≡◌, ◌<◌, ◌+◌, ◌-◌, ◌*◌, ◌%◌, ◌^◌, ℕ, length, ⊤};
+ghost use Rattle.std.specs.Prelude.{◌≡◌, ◌≤◌, ◌<◌, ◌+◌, ◌-◌, ◌*◌, ◌%◌, ◌^◌, ℕ, length, ⊤};
 ghost use Rattle.p3_bench_residues.specs.Forms.{IsForm};
 
 use crate::fp::Fp;
@@ -13,16 +13,27 @@ pub trait Word: Copy {
     /// The number that a word is.
     ghost number: { Self → ℕ };
 
+    /// A number that is above all words.
+    ghost LIMIT: { ℕ };
+
     /// Words that are one number are one word.
     ghost same_number: { (v w : Self) → number v ≡ number w → v ≡ w };
 
     /// The number that a word is.
     fn to_u64(self) -> u64
         ensures { result ≡ number self };
+
+    /// A number of two words, `low + 2^64 * high`, and the word more.
+    fn add_to(self, low: u64, high: u64) -> (u64, u64)
+        requires { low + 2 ^ 64 * high + LIMIT ≤ 2 ^ 32 * LIMIT }
+        ensures below { result.0 + 2 ^ 64 * result.1 < low + 2 ^ 64 * high + LIMIT }
+        ensures value { result.0 + 2 ^ 64 * result.1 ≡ low + 2 ^ 64 * high + number self };
 }
 
 impl Word for u32 {
     ghost number = { λ w. w };
+
+    ghost LIMIT = { 2 ^ 32 };
 
     ghost same_number = { λ v w h. h };
 
@@ -30,16 +41,31 @@ impl Word for u32 {
     fn to_u64(self) -> u64 {
         self as u64
     }
+
+    /// So many words of 32 bits as fit make no second word.
+    #[inline]
+    fn add_to(self, low: u64, high: u64) -> (u64, u64) {
+        (low + self as u64, high)
+    }
 }
 
 impl Word for u64 {
     ghost number = { λ w. w };
+
+    ghost LIMIT = { 2 ^ 64 };
 
     ghost same_number = { λ v w h. h };
 
     #[inline]
     fn to_u64(self) -> u64 {
         self
+    }
+
+    #[inline]
+    fn add_to(self, low: u64, high: u64) -> (u64, u64) {
+        let (sum, carried) = low.overflowing_add(self);
+        let carry = if carried { 1 } else { 0 };
+        (sum, high + carry)
     }
 }
 
@@ -62,6 +88,9 @@ pub trait Form<T: Word>: Copy {
     ghost GENERATOR: { ℕ };
 
     ghost is_form: { IsForm ORDER number canon word };
+
+    /// A word stands for the residue of so many times its number.
+    ghost scale: { ℕ };
 
     /// The order: how many residues there are. It is two or more.
     const ORDER: u64;
@@ -118,11 +147,18 @@ pub trait Form<T: Word>: Copy {
         ensures below { number result < ORDER }
         ensures half { (canon result + canon result) % ORDER ≡ canon stored };
 
+    /// The word of the sum of residues, from the sum of their words.
+    fn reduce_sum(sum: u128) -> T
+        ensures below { number result < ORDER }
+        ensures value { canon result ≡ (sum * scale) % ORDER };
+
     /// The word of the sum of the products of residues, position by position.
     fn dot_product(u: &[Fp<Self, T>], v: &[Fp<Self, T>]) -> T
         requires { length u.now ≡ length v.now }
         ensures below { number result < ORDER }
         ensures value { canon result ≡ sum_of_products (λ x. canon x.word) u.now v.now % ORDER };
+
+    ghost scaled: { (w : T) → number w < ORDER → canon w ≡ (T.number w * scale) % ORDER };
 }
 
 /// A form in words of 32 bits whose order is below 2^31, so that two words add up to a word.
@@ -165,6 +201,7 @@ impl<M> Copy for Plain<M> {}
 
 impl<M: Modulus> Form<u32> for Plain<M> {
     ghost use Rattle.p3_bench_residues.specs.Forms.{plain, order_below};
+    ghost use Rattle.p3_bench_prime.specs.WordSums.{scaled_by_one};
 
     ghost ORDER = { M.ORDER };
 
@@ -177,6 +214,10 @@ impl<M: Modulus> Form<u32> for Plain<M> {
     ghost GENERATOR = { M.GENERATOR };
 
     ghost is_form = { plain M.ORDER M.above_one (order_below M.ORDER M.fits) };
+
+    ghost scale = { 1 };
+
+    ghost scaled = { scaled_by_one };
 
     const ORDER: u64 = M::ORDER as u64;
 
@@ -225,6 +266,11 @@ impl<M: Modulus> Form<u32> for Plain<M> {
     #[inline]
     fn half(stored: u32) -> u32 {
         halve_word(stored, M::ORDER)
+    }
+
+    #[inline]
+    fn reduce_sum(sum: u128) -> u32 {
+        remainder_of_sum(sum, M::ORDER)
     }
 
     /// The sum of the products of the words, which is reduced once, at the end.
