@@ -148,9 +148,9 @@ pub trait Form<T: Word>: Copy {
         ensures half { (canon result + canon result) % ORDER ≡ canon stored };
 
     /// The word of the sum of residues, from the sum of their words.
-    fn reduce_sum(sum: u128) -> T
+    fn reduce_sum(words: u128) -> T
         ensures below { number result < ORDER }
-        ensures value { canon result ≡ (sum * scale) % ORDER };
+        ensures value { canon result ≡ (words * scale) % ORDER };
 
     /// The word of the sum of the products of residues, position by position.
     fn dot_product(u: &[Fp<Self, T>], v: &[Fp<Self, T>]) -> T
@@ -269,8 +269,8 @@ impl<M: Modulus> Form<u32> for Plain<M> {
     }
 
     #[inline]
-    fn reduce_sum(sum: u128) -> u32 {
-        remainder_of_sum(sum, M::ORDER)
+    fn reduce_sum(words: u128) -> u32 {
+        remainder_of_sum(words, M::ORDER)
     }
 
     /// The sum of the products of the words, which is reduced once, at the end.

@@ -104,8 +104,8 @@ impl Form<u64> for GoldilocksForm {
     }
 
     #[inline]
-    fn reduce_sum(sum: u128) -> u64 {
-        reduce128(sum)
+    fn reduce_sum(words: u128) -> u64 {
+        reduce128(words)
     }
 
     /// The sum of the products of the words, which is reduced once, at the end.

@@ -148,8 +148,8 @@ impl<M: MontgomeryModulus> Form<u32> for Montgomery<M> {
     }
 
     #[inline]
-    fn reduce_sum(sum: u128) -> u32 {
-        remainder_of_sum(sum, M::ORDER)
+    fn reduce_sum(words: u128) -> u32 {
+        remainder_of_sum(words, M::ORDER)
     }
 
     /// The sum of the products of the words, which is reduced once, at the end.
