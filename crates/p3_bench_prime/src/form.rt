@@ -13,27 +13,16 @@ pub trait Word: Copy {
     /// The number that a word is.
     ghost number: { Self → ℕ };
 
-    /// A number that is above all words.
-    ghost LIMIT: { ℕ };
-
     /// Words that are one number are one word.
     ghost same_number: { (v w : Self) → number v ≡ number w → v ≡ w };
 
     /// The number that a word is.
     fn to_u64(self) -> u64
         ensures { result ≡ number self };
-
-    /// A number of two words, `low + 2^64 * high`, and the word more.
-    fn add_to(self, low: u64, high: u64) -> (u64, u64)
-        requires { low + 2 ^ 64 * high + LIMIT ≤ 2 ^ 32 * LIMIT }
-        ensures below { result.0 + 2 ^ 64 * result.1 < low + 2 ^ 64 * high + LIMIT }
-        ensures value { result.0 + 2 ^ 64 * result.1 ≡ low + 2 ^ 64 * high + number self };
 }
 
 impl Word for u32 {
     ghost number = { λ w. w };
-
-    ghost LIMIT = { 2 ^ 32 };
 
     ghost same_number = { λ v w h. h };
 
@@ -41,31 +30,16 @@ impl Word for u32 {
     fn to_u64(self) -> u64 {
         self as u64
     }
-
-    /// So many words of 32 bits as fit make no second word.
-    #[inline]
-    fn add_to(self, low: u64, high: u64) -> (u64, u64) {
-        (low + self as u64, high)
-    }
 }
 
 impl Word for u64 {
     ghost number = { λ w. w };
-
-    ghost LIMIT = { 2 ^ 64 };
 
     ghost same_number = { λ v w h. h };
 
     #[inline]
     fn to_u64(self) -> u64 {
         self
-    }
-
-    #[inline]
-    fn add_to(self, low: u64, high: u64) -> (u64, u64) {
-        let (sum, carried) = low.overflowing_add(self);
-        let carry = if carried { 1 } else { 0 };
-        (sum, high + carry)
     }
 }
 
@@ -91,6 +65,8 @@ pub trait Form<T: Word>: Copy {
 
     /// A word stands for the residue of so many times its number.
     ghost scale: { ℕ };
+
+    ghost scaled: { (w : T) → number w < ORDER → canon w ≡ (number w * scale) % ORDER };
 
     /// The order: how many residues there are. It is two or more.
     const ORDER: u64;
@@ -147,6 +123,12 @@ pub trait Form<T: Word>: Copy {
         ensures below { number result < ORDER }
         ensures half { (canon result + canon result) % ORDER ≡ canon stored };
 
+    /// A number of two words, `low + 2^64 * high`, and the word of a residue more.
+    fn add_to(stored: T, low: u64, high: u64) -> (u64, u64)
+        requires below { number stored < ORDER }
+        requires fits { low + 2 ^ 64 * high + ORDER ≤ 2 ^ 32 * ORDER }
+        ensures { result.0 + 2 ^ 64 * result.1 ≡ low + 2 ^ 64 * high + number stored };
+
     /// The word of the sum of residues, from the sum of their words.
     fn reduce_sum(words: u128) -> T
         ensures below { number result < ORDER }
@@ -157,8 +139,15 @@ pub trait Form<T: Word>: Copy {
         requires { length u.now ≡ length v.now }
         ensures below { number result < ORDER }
         ensures value { canon result ≡ sum_of_products (λ x. canon x.word) u.now v.now % ORDER };
+}
 
-    ghost scaled: { (w : T) → number w < ORDER → canon w ≡ (T.number w * scale) % ORDER };
+/// A number of two words and a word of 32 bits more, where so many were added that the low word holds them.
+#[inline]
+pub(crate) fn add_short(word: u32, low: u64, high: u64) -> (u64, u64)
+    requires { low + 2 ^ 32 ≤ 2 ^ 64 }
+    ensures { result.0 + 2 ^ 64 * result.1 ≡ low + 2 ^ 64 * high + word }
+{
+    (low + word as u64, high)
 }
 
 /// A form in words of 32 bits whose order is below 2^31, so that two words add up to a word.
@@ -266,6 +255,11 @@ impl<M: Modulus> Form<u32> for Plain<M> {
     #[inline]
     fn half(stored: u32) -> u32 {
         halve_word(stored, M::ORDER)
+    }
+
+    #[inline]
+    fn add_to(stored: u32, low: u64, high: u64) -> (u64, u64) {
+        add_short(stored, low, high)
     }
 
     #[inline]

@@ -103,6 +103,14 @@ impl Form<u64> for GoldilocksForm {
         halve_u64::<P>(stored)
     }
 
+    /// The low words are added up, and the carries are counted.
+    #[inline]
+    fn add_to(stored: u64, low: u64, high: u64) -> (u64, u64) {
+        let (sum, carried) = low.overflowing_add(stored);
+        let carry = if carried { 1 } else { 0 };
+        (sum, high + carry)
+    }
+
     #[inline]
     fn reduce_sum(words: u128) -> u64 {
         reduce128(words)

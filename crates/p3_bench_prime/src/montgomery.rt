@@ -1,7 +1,7 @@
 //! Residues in Montgomery's form: the word holds the residue times 2^32.
 ghost use Rattle.std.specs.Prelude.{◌≡◌, ◌<◌, ◌*◌, ◌%◌, ◌^◌, ℕ, refl, ⊤};
 
-use crate::form::{Form, ShortForm};
+use crate::form::{Form, ShortForm, add_short};
 use crate::fp::Fp;
 use crate::short_sums::{ShortWord, sum_products};
 use p3_bench_residues::montgomery::{montgomery_product, montgomery_sum};
@@ -145,6 +145,11 @@ impl<M: MontgomeryModulus> Form<u32> for Montgomery<M> {
     #[inline]
     fn half(stored: u32) -> u32 {
         halve_word(stored, M::ORDER)
+    }
+
+    #[inline]
+    fn add_to(stored: u32, low: u64, high: u64) -> (u64, u64) {
+        add_short(stored, low, high)
     }
 
     #[inline]
