@@ -123,7 +123,7 @@ pub trait Form<T: Word>: Copy {
         ensures below { number result < ORDER }
         ensures half { (canon result + canon result) % ORDER ≡ canon stored };
 
-    /// A number of two words, `low + 2^64 * high`, and the word of a residue more.
+    /// Adds the word of a residue to a number of two words, `low + 2^64 * high`.
     fn add_to(stored: T, low: u64, high: u64) -> (u64, u64)
         requires below { number stored < ORDER }
         requires fits { low + 2 ^ 64 * high + ORDER ≤ 2 ^ 32 * ORDER }
@@ -141,7 +141,7 @@ pub trait Form<T: Word>: Copy {
         ensures value { canon result ≡ sum_of_products (λ x. canon x.word) u.now v.now % ORDER };
 }
 
-/// A number of two words and a word of 32 bits more, where so many were added that the low word holds them.
+/// Adds a word of 32 bits to a number of two words, where the low word has room for it.
 #[inline]
 pub(crate) fn add_short(word: u32, low: u64, high: u64) -> (u64, u64)
     requires { low + 2 ^ 32 ≤ 2 ^ 64 }
