@@ -1,3 +1,4 @@
 mod ArrayItems
 mod PowerEntries
+mod WordBlocks
 mod WordProducts

@@ -1,3 +1,4 @@
 pub mod Elements
 pub mod ComplexNumbers
 pub mod ComplexTower
+pub mod WordSums

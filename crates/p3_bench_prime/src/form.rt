@@ -1,4 +1,4 @@
-ghost use Rattle.std.specs.Prelude.{◌≡◌, ◌<◌, ◌+◌, ◌-◌, ◌*◌, ◌%◌, ◌^◌, ℕ, length, ⊤};
+ghost use Rattle.std.specs.Prelude.{◌≡◌, ◌≤◌, ◌<◌, ◌+◌, ◌-◌, ◌*◌, ◌%◌, ◌^◌, ℕ, length, ⊤};
 ghost use Rattle.p3_bench_residues.specs.Forms.{IsForm};
 
 use crate::fp::Fp;
@@ -63,6 +63,11 @@ pub trait Form<T: Word>: Copy {
 
     ghost is_form: { IsForm ORDER number canon word };
 
+    /// A word stands for the residue of so many times its number.
+    ghost scale: { ℕ };
+
+    ghost scaled: { (w : T) → number w < ORDER → canon w ≡ (number w * scale) % ORDER };
+
     /// The order: how many residues there are. It is two or more.
     const ORDER: u64;
 
@@ -118,11 +123,31 @@ pub trait Form<T: Word>: Copy {
         ensures below { number result < ORDER }
         ensures half { (canon result + canon result) % ORDER ≡ canon stored };
 
+    /// Adds the word of a residue to a number of two words, `low + 2^64 * high`.
+    fn add_to(stored: T, low: u64, high: u64) -> (u64, u64)
+        requires below { number stored < ORDER }
+        requires fits { low + 2 ^ 64 * high + ORDER ≤ 2 ^ 32 * ORDER }
+        ensures { result.0 + 2 ^ 64 * result.1 ≡ low + 2 ^ 64 * high + number stored };
+
+    /// The word of the sum of residues, from the sum of their words.
+    fn reduce_sum(words: u128) -> T
+        ensures below { number result < ORDER }
+        ensures value { canon result ≡ (words * scale) % ORDER };
+
     /// The word of the sum of the products of residues, position by position.
     fn dot_product(u: &[Fp<Self, T>], v: &[Fp<Self, T>]) -> T
         requires { length u.now ≡ length v.now }
         ensures below { number result < ORDER }
         ensures value { canon result ≡ sum_of_products (λ x. canon x.word) u.now v.now % ORDER };
+}
+
+/// Adds a word of 32 bits to a number of two words, where the low word has room for it.
+#[inline]
+pub(crate) fn add_short(word: u32, low: u64, high: u64) -> (u64, u64)
+    requires { low + 2 ^ 32 ≤ 2 ^ 64 }
+    ensures { result.0 + 2 ^ 64 * result.1 ≡ low + 2 ^ 64 * high + word }
+{
+    (low + word as u64, high)
 }
 
 /// A form in words of 32 bits whose order is below 2^31, so that two words add up to a word.
@@ -165,6 +190,7 @@ impl<M> Copy for Plain<M> {}
 
 impl<M: Modulus> Form<u32> for Plain<M> {
     ghost use Rattle.p3_bench_residues.specs.Forms.{plain, order_below};
+    ghost use Rattle.p3_bench_prime.specs.WordSums.{scaled_by_one};
 
     ghost ORDER = { M.ORDER };
 
@@ -177,6 +203,10 @@ impl<M: Modulus> Form<u32> for Plain<M> {
     ghost GENERATOR = { M.GENERATOR };
 
     ghost is_form = { plain M.ORDER M.above_one (order_below M.ORDER M.fits) };
+
+    ghost scale = { 1 };
+
+    ghost scaled = { scaled_by_one };
 
     const ORDER: u64 = M::ORDER as u64;
 
@@ -225,6 +255,16 @@ impl<M: Modulus> Form<u32> for Plain<M> {
     #[inline]
     fn half(stored: u32) -> u32 {
         halve_word(stored, M::ORDER)
+    }
+
+    #[inline]
+    fn add_to(stored: u32, low: u64, high: u64) -> (u64, u64) {
+        add_short(stored, low, high)
+    }
+
+    #[inline]
+    fn reduce_sum(words: u128) -> u32 {
+        remainder_of_sum(words, M::ORDER)
     }
 
     /// The sum of the products of the words, which is reduced once, at the end.

@@ -41,6 +41,7 @@ impl Form<u64> for GoldilocksForm {
     ghost use Rattle.std.proofs.Common.{lit<};
     ghost use Rattle.p3_bench_residues.specs.Forms.{plain};
     ghost use Rattle.p3_bench_residues.specs.declared.goldilocks_words.TheConstants.{P};
+    ghost use Rattle.p3_bench_prime.specs.WordSums.{scaled_by_one};
 
     ghost ORDER = { P };
 
@@ -53,6 +54,10 @@ impl Form<u64> for GoldilocksForm {
     ghost GENERATOR = { 7 };
 
     ghost is_form = { plain P (lit< tt) (lit< tt) };
+
+    ghost scale = { 1 };
+
+    ghost scaled = { scaled_by_one };
 
     const ORDER: u64 = P;
 
@@ -96,6 +101,19 @@ impl Form<u64> for GoldilocksForm {
     #[inline]
     fn half(stored: u64) -> u64 {
         halve_u64::<P>(stored)
+    }
+
+    /// The low words are added up, and the carries are counted.
+    #[inline]
+    fn add_to(stored: u64, low: u64, high: u64) -> (u64, u64) {
+        let (sum, carried) = low.overflowing_add(stored);
+        let carry = if carried { 1 } else { 0 };
+        (sum, high + carry)
+    }
+
+    #[inline]
+    fn reduce_sum(words: u128) -> u64 {
+        reduce128(words)
     }
 
     /// The sum of the products of the words, which is reduced once, at the end.

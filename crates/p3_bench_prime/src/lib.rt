@@ -19,3 +19,4 @@ pub mod trinomial_constants;
 pub mod two_adic;
 pub mod two_adic_constants;
 mod two_adic_extensions;
+mod word_sums;

@@ -1,10 +1,11 @@
 //! Residues in Montgomery's form: the word holds the residue times 2^32.
-ghost use Rattle.std.specs.Prelude.{◌≡◌, ◌<◌, ◌*◌, ◌%◌, ◌^◌, ℕ, ⊤};
+ghost use Rattle.std.specs.Prelude.{◌≡◌, ◌<◌, ◌*◌, ◌%◌, ◌^◌, ℕ, refl, ⊤};
 
-use crate::form::{Form, ShortForm};
+use crate::form::{Form, ShortForm, add_short};
 use crate::fp::Fp;
 use crate::short_sums::{ShortWord, sum_products};
 use p3_bench_residues::montgomery::{montgomery_product, montgomery_sum};
+use p3_bench_residues::remainder::remainder_of_sum;
 use p3_bench_residues::short_words::{add_words, halve_word, negate_word, subtract_words};
 use std::alloc::AllocError;
 use std::marker::PhantomData;
@@ -98,6 +99,10 @@ impl<M: MontgomeryModulus> Form<u32> for Montgomery<M> {
 
     ghost is_form = { montgomery M.ORDER (2 ^ 32) M.SCALE_INVERSE M.undoes_scale M.above_one (order_below M.ORDER M.fits) };
 
+    ghost scale = { M.SCALE_INVERSE };
+
+    ghost scaled = { λ w h. refl };
+
     const ORDER: u64 = M::ORDER as u64;
 
     const GENERATOR: u64 = M::GENERATOR as u64;
@@ -140,6 +145,16 @@ impl<M: MontgomeryModulus> Form<u32> for Montgomery<M> {
     #[inline]
     fn half(stored: u32) -> u32 {
         halve_word(stored, M::ORDER)
+    }
+
+    #[inline]
+    fn add_to(stored: u32, low: u64, high: u64) -> (u64, u64) {
+        add_short(stored, low, high)
+    }
+
+    #[inline]
+    fn reduce_sum(words: u128) -> u32 {
+        remainder_of_sum(words, M::ORDER)
     }
 
     /// The sum of the products of the words, which is reduced once, at the end.

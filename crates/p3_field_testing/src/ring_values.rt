@@ -8,9 +8,9 @@ use crate::texts::{parts, sides};
 use p3_bench_prime::baby_bear::BabyBear;
 use p3_bench_prime::small::F17;
 use p3_field::{
-    Algebra, Field, PrimeCharacteristicRing, PrimeField32, PrimeField64, SpongePaddingValue,
-    chunked_linear_combination, chunked_mixed_dot_product, dispatch_chunked_mixed_dot_product,
-    exp_const_u64, sum_array,
+    Algebra, Field, PrimeCharacteristicRing, PrimeField32, PrimeField64, RingSums,
+    SpongePaddingValue, chunked_linear_combination, chunked_mixed_dot_product,
+    dispatch_chunked_mixed_dot_product, exp_const_u64, sum_array,
 };
 use std::alloc::{AllocError, Global};
 use std::process::Abort;
@@ -120,12 +120,12 @@ fn is_sum_of_slices<F: PrimeField64>(slice: &mut [F], other: &[F], sum: &str) ->
 }
 
 /// Whether the sum of a list of three values is this.
-fn is_sum_of_three<F: PrimeField64>(values: &[F], sum: &str) -> bool {
+fn is_sum_of_three<F: PrimeField64 + RingSums>(values: &[F], sum: &str) -> bool {
     values.len() == 3 && is_list(sum, &[sum_array::<F, 3>(values)])
 }
 
 /// Whether the call of a line on two lists has its answer.
-fn agrees<F: PrimeField64>(alloc: Global, line: &str) -> Result<bool, AllocError> {
+fn agrees<F: PrimeField64 + RingSums>(alloc: Global, line: &str) -> Result<bool, AllocError> {
     let (call, arguments, answer) = parts(line);
     let (left, right) = sides(arguments, '|');
     let mut values_left: Vec<F> = values(alloc, left)?;
@@ -139,7 +139,7 @@ fn agrees<F: PrimeField64>(alloc: Global, line: &str) -> Result<bool, AllocError
 }
 
 /// Asserts the lines of a table.
-fn assert_combinations<F: PrimeField64>(
+fn assert_combinations<F: PrimeField64 + RingSums>(
     rt: &(impl Abort + AllocGlobal),
     table: &str,
 ) -> Result<(), Fail> {

@@ -5,12 +5,12 @@ ghost use Rattle.p3_theory.specs.Rings.Powers.{power};
 ghost use Rattle.p3_theory.specs.Polynomials.Polynomial.{quotient_mul, binomial};
 ghost use Rattle.p3_theory.specs.Rings.Multiples.{of_nat, of_int, two};
 ghost use Rattle.p3_theory.specs.Rings.DotProduct.{dot};
-ghost use Rattle.p3_ring.specs.ChunkLengths.{IsChunkLength};
+ghost use Rattle.p3_ring.specs.ChunkLengths.{IsBatchLength};
 ghost use Rattle.p3_theory.specs.Rings.Operators.{Gives, GivesOne, Folds, sum_list, product_list};
 
 use crate::linear_combination::chunked_linear_combination;
 use crate::powers::Powers;
-use crate::sums::sum_of_products;
+use crate::sums::{sum_in_pairs, sum_of_products};
 use p3_integers::integers::{IntegerQuotient, Quotient};
 use std::alloc::{AllocError, Allocator, Global};
 use std::iter::{Product, Sum};
@@ -345,9 +345,7 @@ pub trait PrimeCharacteristicRing: Copy
         ensures empty { len ≡ 0 → IsOk result }
     {
         let mut zeros = Vec::with_capacity(alloc, len)?;
-        for _ in 0..len {
-            zeros.push(Self::zero())?;
-        }
+        zeros.resize(len, Self::zero())?;
         Ok(zeros)
     }
 
@@ -376,6 +374,15 @@ pub trait PrimeCharacteristicRing: Copy
 /// among the supertraits of the ring trait itself; here they are a trait of their own, since each
 /// supertrait is passed again with every call at a concrete type.
 pub trait RingSums: PrimeCharacteristicRing + Sum<Self> + Product<Self> {
+    /// The sum of the values, eight at a time and each eight in pairs, where a type does no better. What
+    /// `sum_array` runs; this project's own.
+    #[inline]
+    fn sum_slice(values: &[Self]) -> Self
+        ensures { result ≡ sum_list Self.ops values.now }
+    {
+        sum_in_pairs(values)
+    }
+
     /// A sum is zero and then the items, added one after the other.
     ghost sums: { Folds Self.can_sum Self.sum_gives Self.Sum.is_complete (sum_list Self.ops) };
 
@@ -396,7 +403,7 @@ pub trait Algebra<F: PrimeCharacteristicRing>: PrimeCharacteristicRing
     /// The element of F as an element of the algebra.
     ghost embed: { F → Self };
 
-    /// How many values `batched_linear_combination` takes at a time.
+    /// How many values `batched_linear_combination` takes at a time; 0 is all of them.
     const BATCHED_LC_CHUNK: usize;
 
     ghost BATCHED_LC_CHUNK: { ℕ };
@@ -430,8 +437,8 @@ pub trait Algebra<F: PrimeCharacteristicRing>: PrimeCharacteristicRing
         sum_of_products(Self::zero(), a, f)
     }
 
-    /// `batched_linear_combination` is written for seven counts of values at a time.
-    ghost chunk_length: { IsChunkLength BATCHED_LC_CHUNK };
+    /// `batched_linear_combination` is written for seven counts of values at a time, and for all at once.
+    ghost chunk_length: { IsBatchLength BATCHED_LC_CHUNK };
 
     /// The embedding keeps zero, one, sums, negations and products.
     ghost embeds: { Hom F.ops Self.ops embed };
@@ -451,13 +458,14 @@ pub trait Algebra<F: PrimeCharacteristicRing>: PrimeCharacteristicRing
     ghost mixed_mul_assigns: { Gives ⟦<Self as MulAssign<F>>⟧.can_mul_assign ⟦<Self as MulAssign<F>>⟧.mul_assign_gives (λ x f. Self.ops.mul x (embed f)) };
 
     /// The sum of the products of values and elements of F, position by position, in chunks of
-    /// `BATCHED_LC_CHUNK`. The slices have one length.
+    /// `BATCHED_LC_CHUNK`, or at once where that is 0. The slices have one length.
     #[inline]
     final fn batched_linear_combination(values: &[Self], coeffs: &[F]) -> Self
         requires { length values.now ≡ length coeffs.now }
         ensures { result ≡ dot Self.ops values.now (map embed coeffs.now) }
     {
         match Self::BATCHED_LC_CHUNK {
+            0 => Self::mixed_dot_product(values, coeffs),
             1 => chunked_linear_combination::<1, Self, F>(values, coeffs),
             2 => chunked_linear_combination::<2, Self, F>(values, coeffs),
             4 => chunked_linear_combination::<4, Self, F>(values, coeffs),
@@ -477,9 +485,9 @@ impl<R: PrimeCharacteristicRing> Algebra<R> for R {
 
     ghost embed = { λ x. x };
 
-    const BATCHED_LC_CHUNK: usize = 8;
+    const BATCHED_LC_CHUNK: usize = 0;
 
-    ghost BATCHED_LC_CHUNK = { 8 };
+    ghost BATCHED_LC_CHUNK = { 0 };
 
     /// The ring's own sum of products.
     #[inline]
@@ -487,7 +495,7 @@ impl<R: PrimeCharacteristicRing> Algebra<R> for R {
         R::dot_product(a, f)
     }
 
-    ghost chunk_length = { (3, lit< tt, refl) };
+    ghost chunk_length = { (7, lit< tt, refl) };
 
     ghost embeds = { identity R.ops };
 

@@ -3,7 +3,7 @@ ghost use Rattle.p3_theory.specs.Rings.DotProduct.{dot};
 ghost use Rattle.p3_theory.specs.Rings.Operators.{Gives, sum_list};
 ghost use Rattle.p3_theory.specs.Rings.Ring.{Ops, RingLaws};
 
-use crate::ring::PrimeCharacteristicRing;
+use crate::ring::{PrimeCharacteristicRing, RingSums};
 use std::ops::{Add, Mul};
 
 /// The sum of at most four values, in pairs.
@@ -34,9 +34,9 @@ fn sum_up_to_eight<R: PrimeCharacteristicRing>(input: &[R]) -> R
     }
 }
 
-/// The sum of the values, eight at a time.
+/// The sum of the values, eight at a time and each eight in pairs.
 #[inline]
-fn sum_slice<R: PrimeCharacteristicRing>(input: &[R]) -> R
+pub(crate) fn sum_in_pairs<R: PrimeCharacteristicRing>(input: &[R]) -> R
     ensures { result ≡ sum_list R.ops input.now }
 {
     if input.len() <= 8 {
@@ -56,13 +56,13 @@ fn sum_slice<R: PrimeCharacteristicRing>(input: &[R]) -> R
     }
 }
 
-/// The sum of a slice of N values, eight at a time and each eight in pairs. Upstream's `sum_array`.
+/// The sum of a slice of N values, by the type's own `sum_slice`. Upstream's `sum_array`.
 #[inline]
-pub fn sum_array<R: PrimeCharacteristicRing, const N: usize>(input: &[R]) -> R
+pub fn sum_array<R: RingSums, const N: usize>(input: &[R]) -> R
     requires { length input.now ≡ N }
     ensures { result ≡ sum_list R.ops input.now }
 {
-    sum_slice(&input[..N])
+    R::sum_slice(&input[..N])
 }
 
 /// The sum of the products of values and elements of another type, position by position, and `zero`

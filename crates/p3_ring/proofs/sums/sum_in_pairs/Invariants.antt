@@ -1,6 +1,6 @@
 use Rattle.std.proofs.Common.{◌≡◌, ◌≤◌, ◌-◌, length, drop}
 use Rattle.p3_theory.specs.Rings.Operators.{sum_list}
-use Rattle.p3_ring.proofs.sums.sum_slice.Given as goal
+use Rattle.p3_ring.proofs.sums.sum_in_pairs.Given as goal
 
 abbrev pub invariant-loop-start : goal.invariant-loop-start
 invariant-loop-start g l =

@@ -1,7 +1,7 @@
 use Rattle.std.proofs.Common.{arith, sym, ◌∙◌, ap, drop}
 use Rattle.p3_theory.specs.Rings.Operators.{sum_list}
 use Rattle.p3_theory.specs.Rings.DotProduct.{sum-chunk, sum-step}
-use Rattle.p3_ring.proofs.sums.sum_slice.Goals as goal
+use Rattle.p3_ring.proofs.sums.sum_in_pairs.Goals as goal
 
 pub loop-start-init : goal.loop-start-init
 loop-start-init g c =
