@@ -2,7 +2,7 @@
 ghost use Rattle.std.specs.Prelude.{◌≡◌, ◌<◌, ◌+◌, ◌*◌, ◌%◌, ◌^◌};
 
 use crate::remainder::remainder_of_sum;
-use crate::short_words::subtract_words;
+use crate::short_words::{reduce_once, subtract_words};
 
 /// The residue that is `low + 2^32 * high` once it is multiplied by 2^32. The inverse is that of the
 /// order modulo 2^32: it gives a multiple of the order that ends in the 32 bits of `low`, so that
@@ -47,5 +47,20 @@ pub fn montgomery_sum(sum: u128, order: u32, inverse: u32) -> u32
 {
     let low = (sum & 0xffff_ffff) as u32;
     let high = remainder_of_sum(sum >> 32, order);
+    montgomery_reduce(low, high, order, inverse)
+}
+
+/// The residue that is a sum of at most four products of residues once it is multiplied by 2^32. What
+/// stands above the low 32 bits of such a sum is below twice the order.
+#[inline]
+pub fn montgomery_short_sum(sum: u64, order: u32, inverse: u32) -> u32
+    requires fits { order < 2 ^ 31 }
+    requires inverse { (order * inverse) % 2 ^ 32 ≡ 1 }
+    requires short { sum < 2 ^ 33 * order }
+    ensures below { result < order }
+    ensures value { (result * 2 ^ 32) % order ≡ sum % order }
+{
+    let low = (sum & 0xffff_ffff) as u32;
+    let high = reduce_once((sum >> 32) as u32, order);
     montgomery_reduce(low, high, order, inverse)
 }
