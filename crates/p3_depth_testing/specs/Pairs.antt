@@ -29,7 +29,7 @@ module _ {P : Type 0} (at : places.Ghosts P) where
   pub same_sides : (a b : Deep P at) → a.x ≡ b.x → a.y ≡ b.y → a ≡ b
   same_sides a b e f =
       let by : (x y : Residue) (d : Option (Bor (Unit {0}))) → d ≡ held x.word y.word at.place → Deep P at
-          = λ x y d h. record { x = x; y = y; depths = d; of = record {}; noted = h } in
+      = λ x y d h. record { x = x; y = y; depths = d; of = record {}; noted = h } in
       let d : a.depths ≡ b.depths = a.noted ∙ ap₂ (λ (u : Residue) (v : Residue). held u.word v.word at.place) e f ∙ sym b.noted in
       (subst₃ (λ x y t. (k : t ≡ held x.word y.word at.place) → by a.x a.y a.depths a.noted ≡ by x y t k) e f d
       (λ k. ap (by a.x a.y a.depths) (held_once _ _ a.noted k))) b.noted

@@ -62,6 +62,22 @@ impl<'a, P: Place> Deep<'a, P> {
         }
     }
 
+    /// The value with two sides.
+    pub fn of_sides(x: Residue, y: Residue, depths: &'a Depths) -> Self
+        requires { depths.ref_ptr ≡ P.place }
+        ensures { result ≡ pair P.Place x y }
+    {
+        if x.word == y.word {
+            return Self::alike(x);
+        }
+        Deep {
+            x,
+            y,
+            depths: Some(depths),
+            of: PhantomData,
+        }
+    }
+
     /// What two values give, at a depth.
     fn joined(x: Residue, y: Residue, left: &Self, right: &Self, depth: u16) -> Self
         requires { left.now.x ≡ left.now.y → right.now.x ≡ right.now.y → x ≡ y }

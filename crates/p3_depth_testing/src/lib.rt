@@ -4,4 +4,6 @@
 
 pub mod deep;
 pub mod depths;
+#[cfg(test)]
+mod power_depths;
 pub mod residue;

@@ -1,0 +1,50 @@
+ghost use Rattle.std.specs.Prelude.{◌≡◌};
+
+use crate::deep::{Deep, Place};
+use crate::depths::Depths;
+use crate::residue::Residue;
+use p3_ring::ring::PrimeCharacteristicRing;
+use std::alloc::{AllocError, Global};
+use std::marker::Brand;
+use std::test::Fail;
+
+/// The depth of the power 1023 in a list of 1025 powers that `collect` fills.
+fn collected_depth<P: Place>(alloc: Global, depths: &Depths) -> Result<Option<u16>, AllocError>
+    requires { depths.ref_ptr ≡ P.place }
+{
+    let base = Deep::<P>::of_sides(Residue::of(14), Residue::of(0), depths);
+    let powers = base.powers().take(1025).collect::<Deep<P>>(alloc)?;
+    match powers.get(1023) {
+        Some(power) => Ok(Some(power.depth())),
+        None => Ok(None),
+    }
+}
+
+/// The depth of the power 1023 by one chain of products.
+fn chained_depth<P: Place>(depths: &Depths) -> u16
+    requires { depths.ref_ptr ≡ P.place }
+{
+    let base = Deep::<P>::of_sides(Residue::of(14), Residue::of(0), depths);
+    let mut power = Deep::<P>::one();
+    for _ in 0..1023 {
+        power *= base;
+    }
+    power.depth()
+}
+
+#[test]
+fn eight_chains_are_shallow(rt: HostRuntime) -> Result<(), Fail> {
+    let depths = Depths::new();
+    let depth = collected_depth::<Brand>(rt.alloc(), &depths)?.ok_or("no power 1023")?;
+    assert!(rt; 120 <= depth, "{depth}");
+    assert!(rt; depth <= 200, "{depth}");
+    Ok(())
+}
+
+#[test]
+fn one_chain_is_deep(rt: HostRuntime) -> Result<(), Fail> {
+    let depths = Depths::new();
+    let depth = chained_depth::<Brand>(&depths);
+    assert!(rt; 1000 < depth, "{depth}");
+    Ok(())
+}
