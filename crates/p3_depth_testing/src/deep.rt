@@ -9,7 +9,8 @@ use std::alloc::AllocError;
 use std::marker::{Brand, PhantomData};
 use std::ops::{Add, AddAssign, Mul, MulAssign, Neg, Sub, SubAssign};
 
-/// Where the one table of depths lies.
+/// Where the table of depths lies. All values of a ring refer to the table there, so the reference
+/// tells no two of them apart.
 pub trait Place {
     ghost place: { ℕ × ℕ };
 }
@@ -18,7 +19,11 @@ impl Place for Brand {
     ghost place = { (0, 0) };
 }
 
-/// Two residues, and where they are unlike the table of depths. A contract sees no depth.
+/// A pair of residues, side by side a ring. A pair of unlike sides also refers to the table of depths,
+/// in which each operation notes how deep the products lie that made its result: a product one deeper
+/// than its deeper factor, a sum, difference, negation or half as deep as its deeper side. The depth is
+/// noted for the first side. It is in a cell, so no contract and no comparison sees it. A pair of two
+/// like sides is a multiple of one, which is made with no table at hand, and its depth is 0.
 pub struct Deep<'a, P: Place> {
     x: Residue,
     y: Residue,
@@ -78,7 +83,7 @@ impl<'a, P: Place> Deep<'a, P> {
         }
     }
 
-    /// What two values give, at a depth.
+    /// The value with two sides that an operation made of two values, noted at a depth.
     fn joined(x: Residue, y: Residue, left: &Self, right: &Self, depth: u16) -> Self
         requires { left.now.x ≡ left.now.y → right.now.x ≡ right.now.y → x ≡ y }
         ensures { result ≡ pair P.Place x y }

@@ -1,5 +1,5 @@
-//! Tests that read how deep the products lie that make a value: a ring whose values refer to a table
-//! of depths, which contracts do not see.
+//! How deep the products lie that make an entry of a list of powers, read at run time: a ring of pairs
+//! whose values refer to a table of depths, which contracts do not see.
 #![tactic(auto)]
 
 pub mod deep;

@@ -20,7 +20,7 @@ fn collected_depth<P: Place>(alloc: Global, depths: &Depths) -> Result<Option<u1
     }
 }
 
-/// The depth of the power 1023 by one chain of products.
+/// The depth of the power 1023 where each power is the one before, times the base.
 fn chained_depth<P: Place>(depths: &Depths) -> u16
     requires { depths.ref_ptr ≡ P.place }
 {
