@@ -4,6 +4,7 @@ use crate::deep::{Deep, Place};
 use crate::depths::Depths;
 use crate::residue::Residue;
 use p3_ring::ring::PrimeCharacteristicRing;
+use p3_tools::helpers::HornerIter;
 use std::alloc::{AllocError, Global};
 use std::marker::Brand;
 use std::test::Fail;
@@ -32,6 +33,16 @@ fn chained_depth<P: Place>(depths: &Depths) -> u16
     power.depth()
 }
 
+/// The depth of a polynomial of 1024 coefficients at a point.
+fn polynomial_depth<P: Place>(depths: &Depths) -> u16
+    requires { depths.ref_ptr ≡ P.place }
+{
+    let coefficient = Deep::<P>::of_sides(Residue::of(1), Residue::of(0), depths);
+    let point = Deep::<P>::of_sides(Residue::of(14), Residue::of(0), depths);
+    let value: Deep<P> = [coefficient; 1024].into_iter().horner(point);
+    value.depth()
+}
+
 #[test]
 fn eight_chains_are_shallow(rt: HostRuntime) -> Result<(), Fail> {
     let depths = Depths::new();
@@ -46,5 +57,14 @@ fn one_chain_is_deep(rt: HostRuntime) -> Result<(), Fail> {
     let depths = Depths::new();
     let depth = chained_depth::<Brand>(&depths);
     assert!(rt; 1000 < depth, "{depth}");
+    Ok(())
+}
+
+#[test]
+fn four_strands_are_shallow(rt: HostRuntime) -> Result<(), Fail> {
+    let depths = Depths::new();
+    let depth = polynomial_depth::<Brand>(&depths);
+    assert!(rt; 240 <= depth, "{depth}");
+    assert!(rt; depth <= 300, "{depth}");
     Ok(())
 }
