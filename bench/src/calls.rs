@@ -5,6 +5,7 @@ unsafe extern "C" {
     pub fn p3_speed_multiplied_slices(field: u32, left: *const u64, left_length: usize, right: *const u64, right_length: usize, rounds: u64) -> u64;
     pub fn p3_speed_added_slices(field: u32, left: *const u64, left_length: usize, right: *const u64, right_length: usize, rounds: u64) -> u64;
     pub fn p3_speed_sums(field: u32, numbers: *const u64, length: usize, rounds: usize) -> u64;
+    pub fn p3_speed_array_sums(field: u32, numbers: *const u64, length: usize, rounds: usize) -> u64;
     pub safe fn p3_speed_power_chain(field: u32, start: u64, step: u64, exponent: u64, count: u64) -> u64;
     pub fn p3_speed_dot_products(field: u32, left: *const u64, left_length: usize, right: *const u64, right_length: usize, rounds: usize) -> u64;
     pub fn p3_speed_linear_combinations(field: u32, left: *const u64, left_length: usize, right: *const u64, right_length: usize, rounds: usize) -> u64;
@@ -20,6 +21,9 @@ unsafe extern "C" {
     pub fn p3_speed_lane_slice_products(field: u32, lanes: u32, left: *const u64, left_length: usize, right: *const u64, right_length: usize, rounds: u64) -> u64;
     pub fn p3_speed_lane_products(field: u32, lanes: u32, left: *const u64, left_length: usize, right: *const u64, right_length: usize, rounds: u64) -> u64;
     pub fn p3_speed_lane_dot_products(field: u32, lanes: u32, left: *const u64, left_length: usize, right: *const u64, right_length: usize, rounds: u64) -> u64;
+    pub fn p3_speed_slice_sums(field: u32, lanes: u32, left: *const u64, left_length: usize, right: *const u64, right_length: usize, rounds: u64) -> u64;
+    pub fn p3_speed_slice_scalings(field: u32, lanes: u32, left: *const u64, left_length: usize, right: *const u64, right_length: usize, rounds: u64) -> u64;
+    pub fn p3_speed_scaled_slice_sums(field: u32, lanes: u32, left: *const u64, left_length: usize, right: *const u64, right_length: usize, rounds: u64) -> u64;
     pub fn p3_speed_packed_products(extension: u32, lanes: u32, value: *const u64, length: usize, factor: *const u64, factor_length: usize, count: u64) -> u64;
     pub fn p3_speed_packed_inverses(extension: u32, lanes: u32, value: *const u64, length: usize, factor: *const u64, factor_length: usize, count: u64) -> u64;
     pub fn p3_speed_inversions(field: u32, numbers: *const u64, length: usize, rounds: u64) -> u64;

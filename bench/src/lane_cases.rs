@@ -5,6 +5,7 @@ use crate::extensions::{BabyBearx4, Extension, F17x4};
 use crate::lanes;
 use crate::places::{self, PLACES};
 use crate::residues::{F17, Goldilocks, Residue};
+use crate::slices;
 use crate::table::Case;
 use std::hint::black_box;
 
@@ -58,6 +59,37 @@ fn packing_cases<F: Residue, const N: usize>(name: &str, field: u32) -> Vec<Case
     ]
 }
 
+/// The rows of calls over lists of residues, which the library takes N at a time.
+fn slice_cases<F: Residue, const N: usize>(name: &str, field: u32) -> Vec<Case> {
+    let (left, right) = (units(F::ORDER, 6, LENGTH), units(F::ORDER, 7, LENGTH));
+    let row = |word: &str, call: SliceCall, copies: [SliceLoop; PLACES]| Case {
+        name: format!("{name} {word}, {N} lanes"),
+        operations: LENGTH as u64,
+        library: Box::new(move |k| unsafe {
+            call(field, N as u32, left.as_ptr(), LENGTH, right.as_ptr(), LENGTH, k)
+        }),
+        plain: places::calls(copies, move |copy, k| copy(left, right, k)),
+    };
+    let sums = [slices::sums::<F, 0>, slices::sums::<F, 1>, slices::sums::<F, 2>, slices::sums::<F, 3>];
+    let scalings = [
+        slices::scalings::<F, 0>,
+        slices::scalings::<F, 1>,
+        slices::scalings::<F, 2>,
+        slices::scalings::<F, 3>,
+    ];
+    let scaled_sums = [
+        slices::scaled_sums::<F, 0>,
+        slices::scaled_sums::<F, 1>,
+        slices::scaled_sums::<F, 2>,
+        slices::scaled_sums::<F, 3>,
+    ];
+    vec![
+        row("add_slices", p3_speed_slice_sums, sums),
+        row("slice scaled", p3_speed_slice_scalings, scalings),
+        row("scaled slice added", p3_speed_scaled_slice_sums, scaled_sums),
+    ]
+}
+
 /// The rows of packed extensions.
 fn extension_cases<E: Extension>(name: &str, extension: u32, width: usize) -> Vec<Case> {
     let (left, right) = (units(E::ORDER, 3, 4 * width), units(E::ORDER, 4, 4 * width));
@@ -94,6 +126,12 @@ pub fn cases() -> Vec<Case> {
     cases.extend(packing_cases::<BabyBear, 8>("babybear", 1));
     cases.extend(packing_cases::<Goldilocks, 4>("goldilocks", 2));
     cases.extend(packing_cases::<Goldilocks, 8>("goldilocks", 2));
+    cases.extend(slice_cases::<F17, 4>("f17", 0));
+    cases.extend(slice_cases::<F17, 8>("f17", 0));
+    cases.extend(slice_cases::<BabyBear, 4>("babybear", 1));
+    cases.extend(slice_cases::<BabyBear, 8>("babybear", 1));
+    cases.extend(slice_cases::<Goldilocks, 4>("goldilocks", 2));
+    cases.extend(slice_cases::<Goldilocks, 8>("goldilocks", 2));
     for width in [4, 8] {
         cases.extend(extension_cases::<F17x4>("f17x4", 0, width));
         cases.extend(extension_cases::<BabyBearx4>("bbx4", 1, width));

@@ -11,6 +11,7 @@ mod places;
 mod prime_cases;
 mod primes;
 mod residues;
+mod slices;
 mod sums;
 mod table;
 

@@ -4,7 +4,8 @@
 //! 0, and so it is where the memory is refused.
 use p3_speed_lanes::batch_loops::run_inversions;
 use p3_speed_lanes::extension_loops::{PackedChain, PackedNumbers};
-use p3_speed_lanes::lane_loops::{LaneLoop, LaneNumbers};
+use p3_speed_lanes::lane_loops::{LaneLoop, LaneNumbers, PackingLoop};
+use p3_speed_lanes::slice_loops::SliceLoop;
 use std::alloc::Global;
 
 /// Adds the right slice of packings to the left one: a number that depends on all lanes.
@@ -22,7 +23,7 @@ pub extern "C" fn p3_speed_lane_sums(
         right,
         rounds,
     };
-    LaneLoop::Sums.run(field, lanes, alloc, numbers)
+    LaneLoop::Packings(PackingLoop::Sums).run(field, lanes, alloc, numbers)
 }
 
 /// Takes the right slice of packings from the left one.
@@ -40,7 +41,7 @@ pub extern "C" fn p3_speed_lane_differences(
         right,
         rounds,
     };
-    LaneLoop::Differences.run(field, lanes, alloc, numbers)
+    LaneLoop::Packings(PackingLoop::Differences).run(field, lanes, alloc, numbers)
 }
 
 /// Multiplies the left slice of packings by the right one, packing by packing.
@@ -58,7 +59,7 @@ pub extern "C" fn p3_speed_lane_slice_products(
         right,
         rounds,
     };
-    LaneLoop::SliceProducts.run(field, lanes, alloc, numbers)
+    LaneLoop::Packings(PackingLoop::SliceProducts).run(field, lanes, alloc, numbers)
 }
 
 /// Multiplies the first packing of the left slice by that of the right one.
@@ -76,7 +77,7 @@ pub extern "C" fn p3_speed_lane_products(
         right,
         rounds,
     };
-    LaneLoop::Products.run(field, lanes, alloc, numbers)
+    LaneLoop::Packings(PackingLoop::Products).run(field, lanes, alloc, numbers)
 }
 
 /// Writes the dot product of both slices over the first packing of the left one.
@@ -94,7 +95,61 @@ pub extern "C" fn p3_speed_lane_dot_products(
         right,
         rounds,
     };
-    LaneLoop::DotProducts.run(field, lanes, alloc, numbers)
+    LaneLoop::Packings(PackingLoop::DotProducts).run(field, lanes, alloc, numbers)
+}
+
+/// Adds the right list of residues to the left one, in packings: a number that depends on all of them.
+#[unsafe(no_mangle)]
+pub extern "C" fn p3_speed_slice_sums(
+    field: u32,
+    lanes: u32,
+    alloc: Global,
+    left: &[u64],
+    right: &[u64],
+    rounds: u64,
+) -> u64 {
+    let numbers = LaneNumbers {
+        left,
+        right,
+        rounds,
+    };
+    LaneLoop::Slices(SliceLoop::Sums).run(field, lanes, alloc, numbers)
+}
+
+/// Multiplies the left list of residues by the first item of the right one, in packings.
+#[unsafe(no_mangle)]
+pub extern "C" fn p3_speed_slice_scalings(
+    field: u32,
+    lanes: u32,
+    alloc: Global,
+    left: &[u64],
+    right: &[u64],
+    rounds: u64,
+) -> u64 {
+    let numbers = LaneNumbers {
+        left,
+        right,
+        rounds,
+    };
+    LaneLoop::Slices(SliceLoop::Scalings).run(field, lanes, alloc, numbers)
+}
+
+/// Adds the right list of residues, times its first item, to the left one, in packings.
+#[unsafe(no_mangle)]
+pub extern "C" fn p3_speed_scaled_slice_sums(
+    field: u32,
+    lanes: u32,
+    alloc: Global,
+    left: &[u64],
+    right: &[u64],
+    rounds: u64,
+) -> u64 {
+    let numbers = LaneNumbers {
+        left,
+        right,
+        rounds,
+    };
+    LaneLoop::Slices(SliceLoop::ScaledSums).run(field, lanes, alloc, numbers)
 }
 
 /// Multiplies the packed extension value by the factor, `count` times: a number that depends on all

@@ -82,6 +82,26 @@ pub extern "C" fn p3_speed_sums(field: u32, alloc: Global, numbers: &[u64], roun
     )
 }
 
+/// The same by `sum_array`, of a slice of 1000 numbers; 0 of any other.
+#[unsafe(no_mangle)]
+pub extern "C" fn p3_speed_array_sums(
+    field: u32,
+    alloc: Global,
+    numbers: &[u64],
+    rounds: usize,
+) -> u64
+    ensures { ⟦<PrimeFields as NumberedPrimes>⟧.rounds_answer field (SliceRounds.ArraySums numbers.entry rounds) result }
+{
+    PrimeFields::rounds(
+        field,
+        alloc,
+        SliceRounds::ArraySums {
+            numbers,
+            count: rounds,
+        },
+    )
+}
+
 /// The power `exponent` and `step` more, `count` times.
 #[unsafe(no_mangle)]
 pub extern "C" fn p3_speed_power_chain(
