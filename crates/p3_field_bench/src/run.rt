@@ -97,8 +97,10 @@ fn take_all<A: Allocator + Copy, W: Sink>(
     while at < bytes.len() {
         at += take_letters(&mut machine.line, &bytes[at..]);
         if at < bytes.len() {
-            take_byte(alloc, machine, writer, bytes[at])?;
-            at += 1;
+            match take_byte(alloc, machine, writer, bytes[at]) {
+                Err(stop) => return Err(stop),
+                Ok(()) => at += 1,
+            }
         }
     }
     Ok(())
