@@ -13,9 +13,7 @@ use crate::act::{
 use crate::commands::{Command, Operation, parse_command};
 use crate::faults::Fault;
 use crate::words::{next_word, one_word};
-use p3_calculator_fields::bank::{
-    Bank, Group, HighBank, MiddleBank, QuadraticBank, ResidueBank,
-};
+use p3_calculator_fields::bank::{Bank, Group, HighBank, MiddleBank, QuadraticBank, ResidueBank};
 use p3_calculator_fields::zeros::{zero_polynomials, zero_residues};
 use std::alloc::Allocator;
 
