@@ -1,7 +1,8 @@
 -- The state that the registers of a bank stand for.
 use Rattle.std.specs.Prelude.{List, ℕ, map}
 use Rattle.p3_calculator_fields.specs.declared.bank.Bank.{Bank}
-use Rattle.p3_calculator_fields.specs.declared.bank.Bank.TheVariants.{Empty, Residues, Quadratic, Middle, High}
+use Rattle.p3_calculator_fields.specs.declared.bank.Group.{Group}
+use Rattle.p3_calculator_fields.specs.declared.bank.Group.TheVariants.{Empty, Residues, Quadratic, Middle, High}
 use Rattle.p3_calculator_fields.specs.declared.bank.ResidueBank.{ResidueBank}
 use Rattle.p3_calculator_fields.specs.declared.bank.ResidueBank.TheVariants.{F2, F17, F17b, F31, Z15, BabyBear, KoalaBear, Goldilocks}
 use Rattle.p3_calculator_fields.specs.declared.bank.QuadraticBank.{QuadraticBank}
@@ -58,10 +59,14 @@ high_state (F2t5 regs) = state_at field_f2t5 (all_coefficients canon) regs
 high_state (F31x6 regs) = state_at field_f31x6 (all_coefficients canon) regs
 high_state (F17x8 regs) = state_at field_f17x8 (all_coefficients canon) regs
 
+-- the state of the registers of a group
+abbrev pub group_state : Group → Bank → State
+group_state Empty bank = no_field
+group_state Residues bank = residue_state bank.residues
+group_state Quadratic bank = quadratic_state bank.quadratic
+group_state Middle bank = middle_state bank.middle
+group_state High bank = high_state bank.high
+
 -- the state of the chosen field
 abbrev pub state_of : Bank → State
-state_of Empty = no_field
-state_of (Residues bank) = residue_state bank
-state_of (Quadratic bank) = quadratic_state bank
-state_of (Middle bank) = middle_state bank
-state_of (High bank) = high_state bank
+state_of bank = group_state bank.group bank

@@ -1,6 +1,7 @@
 -- What a byte changes between two bytes of the input.
-use Rattle.std.proofs.Common.{◌≡◌, ◌∙◌, ℕ, ◌+◌, ◌<◌, ◌≤◌, Bool, true, MatchBool, List, [], ◌∷◌, ◌++◌, length, take, drop, get_or, lt-ltb, refl, sym, ap, subst, arith, append_assoc, append-nil, length-append, Option, Result, Ok, Err}
-use Rattle.std.proofs.lemmas.List.{take_more, take_all, take-append-drop, length-take-le}
+use Rattle.std.proofs.Common.{◌≡◌, ◌∙◌, ℕ, ◌+◌, ◌-◌, ◌<◌, ◌≤◌, Bool, true, MatchBool, List, [], ◌∷◌, ◌++◌, length, take, drop, get_or, lt-ltb, refl, sym, ap, subst, arith, append_assoc, append-nil, length-append, Option, Result, Ok, Err}
+use Rattle.std.proofs.lemmas.List.{take_more, take_all, take-append-drop, length-take-le, length-drop}
+use Rattle.std.proofs.Math.Seq.{take-add, take-length}
 use Rattle.std.specs.List.{flat_map}
 use Rattle.p3_field_bench.specs.declared.machine.Machine.{Machine}
 use Rattle.p3_field_bench.specs.declared.faults.Fault.{Fault}
@@ -101,13 +102,13 @@ overlong m before text byte st ne long more =
     (subst (λ (l : List (List ℕ)). IsText l (text ++ fault_line m.number LongLine) 1) (sym all)
     (st.goes_on (b.0 ∷ b.1) (fault_line m.number LongLine) 1 (Faults LongLine, may, (refl, refl))))
 
--- a byte went into the buffer
-pub letter : (m after : Machine) (before text : List ℕ) (byte : ℕ) → Standing m before text → (byte ≡ 10 → ⊥) → state_of after.bank ≡ state_of m.bank → after.number ≡ m.number → pending_of after ≡ pending_of m ++ byte ∷ [] → Standing after (before ++ byte ∷ []) (text ++ [])
-letter m after before text byte st ne state number pending = record {
+-- letters went into the buffer
+pub letters : (m after : Machine) (before text bytes : List ℕ) → Standing m before text → HasNoEnd bytes → state_of after.bank ≡ state_of m.bank → after.number ≡ m.number → pending_of after ≡ pending_of m ++ bytes → Standing after (before ++ bytes) (text ++ [])
+letters m after before text bytes st ends state number pending = record {
   lines = st.lines;
   each = st.each;
-  bytes_are = ap (λ b. b ++ byte ∷ []) st.bytes_are ∙ append_assoc (flat_map ended st.lines) (pending_of m) (byte ∷ []) ∙ ap (λ l. flat_map ended st.lines ++ l) (sym pending);
-  pending = subst HasNoEnd (sym pending) (HasNoEnd-append (pending_of m) (byte ∷ []) st.pending (ne, tt));
+  bytes_are = ap (λ b. b ++ bytes) st.bytes_are ∙ append_assoc (flat_map ended st.lines) (pending_of m) bytes ∙ ap (λ l. flat_map ended st.lines ++ l) (sym pending);
+  pending = subst HasNoEnd (sym pending) (HasNoEnd-append (pending_of m) bytes st.pending ends);
   number = number ∙ st.number;
   goes_on = λ ls more status h.
       let same : IsTextFrom m.number (state_of m.bank) ls more status = subst (λ (n : ℕ). IsTextFrom n (state_of m.bank) ls more status) number (subst (λ (s : State). IsTextFrom after.number s ls more status) state h) in
@@ -137,6 +138,17 @@ carries_rest old new a b e bytes rest p = λ before text st.
 
 pub carries_none : (m : Machine) (a : Option (List ℕ)) → Carries m m a a (Ok tt) []
 carries_none m a = λ before text st. ([], Appends-nil a, subst (λ (t : List ℕ). Standing m (before ++ []) t) (sym (append-nil text)) (subst (λ (b : List ℕ). Standing m b text) (sym (append-nil before)) st))
+
+-- n letters of the bytes that are left
+pub over_letters : (old mid new : Machine) (a b : Option (List ℕ)) (bytes : List ℕ) (at n : ℕ) → Carries old mid a b (Ok tt) (take at bytes) → HasNoEnd (take n (take (length bytes - at) (drop at bytes)))
+    → state_of new.bank ≡ state_of mid.bank → new.number ≡ mid.number → pending_of new ≡ pending_of mid ++ take n (take (length bytes - at) (drop at bytes))
+    → Carries old new a b (Ok tt) (take (at + n) bytes)
+over_letters old mid new a b bytes at n so_far ends state number pending =
+    let part = take n (take (length bytes - at) (drop at bytes)) in
+    let rest : take (length bytes - at) (drop at bytes) ≡ drop at bytes = ap (λ m. take m (drop at bytes)) (sym (length-drop at bytes)) ∙ take-length (drop at bytes) in
+    let whole : take (at + n) bytes ≡ take at bytes ++ part = take-add at n bytes ∙ ap (λ l. take at bytes ++ take n l) (sym rest) in
+    let next : Carries mid new b b (Ok tt) part = λ before text st. ([], Appends-nil b, letters mid new before text part st ends state number pending) in
+    subst (λ (l : List ℕ). Carries old new a b (Ok tt) l) (sym whole) (carried_more old mid new a b b (Ok tt) (take at bytes) part so_far next)
 
 -- a loop's step over some bytes, its stop and its end
 pub turn : (old mid new : Machine) (a b c : Option (List ℕ)) (bytes : List ℕ) (i : ℕ) → i < length bytes → Carries old mid a b (Ok tt) (take i bytes) → Carries mid new b c (Ok tt) (get_or bytes i 0 ∷ []) → Carries old new a c (Ok tt) (take (i + 1) bytes)

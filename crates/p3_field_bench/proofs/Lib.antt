@@ -3,6 +3,7 @@ pub mod Digits
 pub mod Endings
 pub mod FieldValues
 pub mod InverseLemmas
+pub mod Letters
 pub mod LineLemmas
 pub mod OneText
 pub mod Pieces

@@ -4,7 +4,8 @@ use Rattle.std.specs.Str.{bytes_eq}
 use Rattle.std.proofs.lemmas.Bool.{cases_eq, eqb-true, ltb-true}
 use Rattle.p3_theory.specs.RingSolver.SolverSound.{and_true}
 use Rattle.p3_calculator_fields.specs.declared.bank.Bank.{Bank}
-use Rattle.p3_calculator_fields.specs.declared.bank.Bank.TheVariants.{Empty, Residues, Quadratic, Middle, High}
+use Rattle.p3_calculator_fields.specs.declared.bank.Group.{Group}
+use Rattle.p3_calculator_fields.specs.declared.bank.Group.TheVariants.{Empty, Residues, Quadratic, Middle, High}
 use Rattle.p3_calculator_fields.specs.declared.bank.ResidueBank.{ResidueBank}
 use Rattle.p3_calculator_fields.specs.declared.bank.ResidueBank.TheVariants.{F2, F17, F17b, F31, Z15, BabyBear, KoalaBear, Goldilocks}
 use Rattle.p3_calculator_fields.specs.declared.bank.QuadraticBank.{QuadraticBank}
@@ -13,7 +14,7 @@ use Rattle.p3_calculator_fields.specs.declared.bank.MiddleBank.{MiddleBank}
 use Rattle.p3_calculator_fields.specs.declared.bank.MiddleBank.TheVariants.{F31x3, F31t3, F17x4, BabyBearx4}
 use Rattle.p3_calculator_fields.specs.declared.bank.HighBank.{HighBank}
 use Rattle.p3_calculator_fields.specs.declared.bank.HighBank.TheVariants.{F31x5, F17t5, F2t5, F31x6, F17x8}
-use Rattle.p3_calculator_fields.specs.Bank.{state_of, residue_state, quadratic_state, middle_state, high_state}
+use Rattle.p3_calculator_fields.specs.Bank.{state_of, group_state, residue_state, quadratic_state, middle_state, high_state}
 use Rattle.p3_field_bench.specs.declared.commands.Command.{Command}
 use Rattle.p3_field_bench.specs.declared.commands.Command.TheVariants.{Field, Compute}
 use Rattle.p3_field_bench.specs.declared.commands.Operation.{Operation}
@@ -326,9 +327,12 @@ high_sound (F2t5 regs) = named_sound (codes "f2t5")
 high_sound (F31x6 regs) = named_sound (codes "f31x6")
 high_sound (F17x8 regs) = named_sound (codes "f17x8")
 
+group_sound : (group : Group) (bank : Bank) → Sound (group_state group bank).field
+group_sound Empty bank = tt
+group_sound Residues bank = residue_sound bank.residues
+group_sound Quadratic bank = quadratic_sound bank.quadratic
+group_sound Middle bank = middle_sound bank.middle
+group_sound High bank = high_sound bank.high
+
 pub bank_sound : (bank : Bank) → Sound (state_of bank).field
-bank_sound Empty = tt
-bank_sound (Residues bank) = residue_sound bank
-bank_sound (Quadratic bank) = quadratic_sound bank
-bank_sound (Middle bank) = middle_sound bank
-bank_sound (High bank) = high_sound bank
+bank_sound bank = group_sound bank.group bank

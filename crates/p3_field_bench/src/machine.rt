@@ -45,7 +45,7 @@ impl Machine {
         ensures state { state_of result.bank ≡ no_field }
     {
         Machine {
-            bank: Bank::Empty,
+            bank: Bank::new(),
             number: 1,
             line: Line::new(),
         }

@@ -100,8 +100,10 @@ impl MemSink {
         ensures room { IfOk result (λ s. room_left s ≡ room) }
         ensures fails { IfOk result (λ s. s.fails ≡ fails) }
     {
+        let mut store = Vec::with_capacity(alloc, room)?;
+        store.resize(room, 0)?;
         Ok(MemSink {
-            store: vec![in alloc; 0; room]?,
+            store,
             used: 0,
             fails,
             failed: false,

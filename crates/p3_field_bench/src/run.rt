@@ -1,10 +1,10 @@
-ghost use Rattle.std.specs.Prelude.{◌≡◌, ◌+◌, ◌-◌, ◌<◌, ◌≤◌, ◌^◌, ◌++◌, ◌∷◌, [], true, false, Err, List, ℕ, length};
+ghost use Rattle.std.specs.Prelude.{◌≡◌, ◌+◌, ◌-◌, ◌<◌, ◌≤◌, ◌^◌, ◌++◌, ◌∷◌, [], true, false, Err, List, ℕ, length, take};
 ghost use Rattle.std.specs.Io.KnownBytes.{Appends, Consumes, IsAtEnd};
-ghost use Rattle.p3_field_bench.specs.Standing.{Carries, StopsAtFailure, Ended, EndedAt, Finishes};
+ghost use Rattle.p3_field_bench.specs.Standing.{Carries, HasNoEnd, StopsAtFailure, Ended, EndedAt, Finishes};
 ghost use Rattle.p3_field_bench.specs.Text.{RunEnds, fault_line};
 
 use crate::faults::Fault;
-use crate::machine::{Machine, Stop};
+use crate::machine::{Line, Machine, Stop};
 use crate::report::FaultLine;
 use crate::step::step;
 use crate::streams::{Sink, Source, write_all};
@@ -63,7 +63,24 @@ fn take_byte<A: Allocator + Copy, W: Sink>(
     carry_out(alloc, machine, writer)
 }
 
-/// Takes bytes, one after another.
+/// Takes bytes up to the end of a line, as far as the line has room for them: how many they are.
+fn take_letters(line: &mut Line, bytes: &[u8]) -> usize
+    ensures count { result ≤ length bytes.now }
+    ensures bytes { take line.new.used line.new.bytes ≡ take line.old.used line.old.bytes ++ take result bytes.now }
+    ensures letters { HasNoEnd (take result bytes.now) }
+{
+    let used = line.used;
+    let most = bytes.len().min(256 - used);
+    let mut count = 0;
+    while count < most && bytes[count] != b'\n' {
+        line.bytes[used + count] = bytes[count];
+        count += 1;
+    }
+    line.used = used + count;
+    count
+}
+
+/// Takes bytes, the letters of each line at once.
 fn take_all<A: Allocator + Copy, W: Sink>(
     alloc: A,
     machine: &mut Machine,
@@ -76,10 +93,14 @@ fn take_all<A: Allocator + Copy, W: Sink>(
     ensures number { machine.new.number ≤ machine.old.number + length bytes.now }
     ensures failure { StopsAtFailure result (W.failed writer.old) (W.failed writer.new) }
 {
-    for byte in bytes {
-        match take_byte(alloc, machine, writer, *byte) {
-            Err(stop) => return Err(stop),
-            Ok(()) => {}
+    let mut at = 0;
+    while at < bytes.len() {
+        at += take_letters(&mut machine.line, &bytes[at..]);
+        if at < bytes.len() {
+            match take_byte(alloc, machine, writer, bytes[at]) {
+                Err(stop) => return Err(stop),
+                Ok(()) => at += 1,
+            }
         }
     }
     Ok(())

@@ -13,7 +13,7 @@ use crate::act::{
 use crate::commands::{Command, Operation, parse_command};
 use crate::faults::Fault;
 use crate::words::{next_word, one_word};
-use p3_calculator_fields::bank::{Bank, HighBank, MiddleBank, QuadraticBank, ResidueBank};
+use p3_calculator_fields::bank::{Bank, Group, HighBank, MiddleBank, QuadraticBank, ResidueBank};
 use p3_calculator_fields::zeros::{zero_polynomials, zero_residues};
 use std::alloc::Allocator;
 
@@ -74,23 +74,32 @@ fn open_high(name: &[u8]) -> Option<HighBank>
     }
 }
 
-/// The registers of a field, all zero, by the field's name.
-fn open(name: &[u8]) -> Option<Bank>
-    ensures { opened_as state_of result ≡ chosen (field_named name.now) }
+/// Chooses a field by its name, with all registers zero. A fault leaves the state as before.
+fn open(bank: &mut Bank, name: &[u8]) -> Result<(), Fault>
+    ensures chooses { silent result (state_of bank.new) ≡ chosen (field_named name.now) }
+    ensures kept { OnErr result (state_of bank.new ≡ state_of bank.old) }
 {
-    if let Some(bank) = open_residue(name) {
-        return Some(Bank::Residues(bank));
+    if let Some(chosen) = open_residue(name) {
+        bank.residues = chosen;
+        bank.group = Group::Residues;
+        return Ok(());
     }
-    if let Some(bank) = open_quadratic(name) {
-        return Some(Bank::Quadratic(bank));
+    if let Some(chosen) = open_quadratic(name) {
+        bank.quadratic = chosen;
+        bank.group = Group::Quadratic;
+        return Ok(());
     }
-    if let Some(bank) = open_middle(name) {
-        return Some(Bank::Middle(bank));
+    if let Some(chosen) = open_middle(name) {
+        bank.middle = chosen;
+        bank.group = Group::Middle;
+        return Ok(());
     }
-    match open_high(name) {
-        Some(bank) => Some(Bank::High(bank)),
-        None => None,
-    }
+    let Some(chosen) = open_high(name) else {
+        return Err(Fault::NoField);
+    };
+    bank.high = chosen;
+    bank.group = Group::High;
+    Ok(())
 }
 
 /// The line `field NAME`. A fault leaves the state as before.
@@ -101,11 +110,7 @@ fn choose(bank: &mut Bank, args: &[u8]) -> Result<(), Fault>
     let Some(name) = one_word(args) else {
         return Err(Fault::WordCount);
     };
-    let Some(new) = open(name) else {
-        return Err(Fault::NoField);
-    };
-    *bank = new;
-    Ok(())
+    open(bank, name)
 }
 
 /// Carries out a line at residues.
@@ -195,28 +200,12 @@ fn act_at<A: Allocator + Copy>(
     ensures computes { let old = state_of bank.old in ComputesAt old.field operation old.registers (words args.now) (outcome result (state_of bank.new)) }
     ensures kept { OnErr result (state_of bank.new ≡ state_of bank.old) }
 {
-    match *bank {
-        Bank::Empty => Err(Fault::NoField),
-        Bank::Residues(mut chosen) => {
-            let answer = act_at_residue(alloc, operation, &mut chosen, args);
-            *bank = Bank::Residues(chosen);
-            answer
-        }
-        Bank::Quadratic(mut chosen) => {
-            let answer = act_at_quadratic(alloc, operation, &mut chosen, args);
-            *bank = Bank::Quadratic(chosen);
-            answer
-        }
-        Bank::Middle(mut chosen) => {
-            let answer = act_at_middle(alloc, operation, &mut chosen, args);
-            *bank = Bank::Middle(chosen);
-            answer
-        }
-        Bank::High(mut chosen) => {
-            let answer = act_at_high(alloc, operation, &mut chosen, args);
-            *bank = Bank::High(chosen);
-            answer
-        }
+    match bank.group {
+        Group::Empty => Err(Fault::NoField),
+        Group::Residues => act_at_residue(alloc, operation, &mut bank.residues, args),
+        Group::Quadratic => act_at_quadratic(alloc, operation, &mut bank.quadratic, args),
+        Group::Middle => act_at_middle(alloc, operation, &mut bank.middle, args),
+        Group::High => act_at_high(alloc, operation, &mut bank.high, args),
     }
 }
 

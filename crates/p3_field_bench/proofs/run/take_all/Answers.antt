@@ -1,27 +1,44 @@
-use Rattle.std.proofs.Common.{◌∙◌, refl, arith}
-use Rattle.p3_field_bench.proofs.Carrying.{turn, stop, done, carries_none}
+use Rattle.std.proofs.Common.{◌∙◌, ◌+◌, refl, arith}
+use Rattle.p3_field_bench.proofs.Carrying.{turn, stop, done, carries_none, over_letters}
+use Rattle.p3_field_bench.proofs.Letters.{still_within}
 use Rattle.p3_field_bench.proofs.run.take_all.Goals as goal
 
 pub returns-in-Err-clause-carries : goal.returns-in-Err-clause-carries
 returns-in-Err-clause-carries g c =
     let told = g.W.Sink.contents in
-    let l = c.loop-byte in
-    stop c.args.machine.now l.machine c.take_byte.new.machine (told c.args.writer.now) (told l.writer) (told c.take_byte.new.writer) c.in-Err.stop c.args.bytes.now l.byte-index c.loop-byte-test.true l.invariant.2 c.in-Err.ensures.carries
+    let l = c.loop-at in
+    let t = c.take_letters-at in
+    let letters = over_letters c.args.machine.now l.machine _ (told c.args.writer.now) (told l.writer) c.args.bytes.now l.at t.result l.invariant.3 t.ensures.letters refl refl t.ensures.bytes in
+    stop c.args.machine.now _ c.take_byte.new.machine (told c.args.writer.now) (told l.writer) (told c.take_byte.new.writer) c.in-Err.stop c.args.bytes.now (l.at + t.result) c.if-at-bytes.true letters c.in-Err.ensures.carries
 
-pub loop-byte-preserved : goal.loop-byte-preserved
-loop-byte-preserved g c =
+pub loop-at-preserved-in-Ok : goal.loop-at-preserved-in-Ok
+loop-at-preserved-in-Ok g c =
     let told = g.W.Sink.contents in
-    let l = c.loop-byte in (
-      omega (arith, l.invariant.0, c.take_byte.ensures.number),
-      c.in-Ok.ensures.failure ∙ l.invariant.1,
-      turn c.args.machine.now l.machine c.take_byte.new.machine (told c.args.writer.now) (told l.writer) (told c.take_byte.new.writer) c.args.bytes.now l.byte-index c.loop-byte-test.true l.invariant.2 c.in-Ok.ensures.carries,
+    let l = c.loop-at in
+    let t = c.take_letters-at in
+    let letters = over_letters c.args.machine.now l.machine _ (told c.args.writer.now) (told l.writer) c.args.bytes.now l.at t.result l.invariant.3 t.ensures.letters refl refl t.ensures.bytes in (
+      omega (arith, c.if-at-bytes.true),
+      omega (arith, l.invariant.1, c.take_byte.ensures.number),
+      c.in-Ok.ensures.failure ∙ l.invariant.2,
+      turn c.args.machine.now _ c.take_byte.new.machine (told c.args.writer.now) (told l.writer) (told c.take_byte.new.writer) c.args.bytes.now (l.at + t.result) c.if-at-bytes.true letters c.in-Ok.ensures.carries,
     )
 
-pub loop-byte-init : goal.loop-byte-init
-loop-byte-init g c = (omega arith, refl, carries_none c.args.machine.now (g.W.Sink.contents c.args.writer.now))
+pub loop-at-preserved : goal.loop-at-preserved
+loop-at-preserved g c =
+    let told = g.W.Sink.contents in
+    let l = c.loop-at in
+    let t = c.take_letters-at in (
+      still_within c.args.bytes.now l.at t.result l.invariant.0 t.ensures.count,
+      omega (arith, l.invariant.1),
+      l.invariant.2,
+      over_letters c.args.machine.now l.machine _ (told c.args.writer.now) (told l.writer) c.args.bytes.now l.at t.result l.invariant.3 t.ensures.letters refl refl t.ensures.bytes,
+    )
+
+pub loop-at-init : goal.loop-at-init
+loop-at-init g c = (omega arith, omega arith, refl, carries_none c.args.machine.now (g.W.Sink.contents c.args.writer.now))
 
 pub returns-clause-carries : goal.returns-clause-carries
 returns-clause-carries g c =
     let told = g.W.Sink.contents in
-    let l = c.loop-byte in
-    done c.args.machine.now l.machine (told c.args.writer.now) (told l.writer) c.args.bytes.now l.byte-index c.loop-byte-test.false l.invariant.2
+    let l = c.loop-at in
+    done c.args.machine.now l.machine (told c.args.writer.now) (told l.writer) c.args.bytes.now l.at c.loop-at-test.false l.invariant.3
