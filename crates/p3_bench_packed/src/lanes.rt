@@ -37,7 +37,9 @@ impl<F: Packable, const N: usize> PackedValue for Packed<F, N> {
 
     #[inline]
     fn to_slice(&self, out: &mut [F]) {
-        out.copy_from_slice(&self.value);
+        for lane in 0..N {
+            out[lane] = self.value[lane];
+        }
     }
 
     #[inline]
