@@ -9,12 +9,13 @@ use p3_bench_prime::form::{Form, Plain};
 use p3_bench_prime::fp::Fp;
 use p3_bench_prime::montgomery::Montgomery;
 use p3_bench_prime::small::{M17, M31};
-use p3_ring::ring::PrimeCharacteristicRing;
+use p3_ring::ring::{Algebra, PrimeCharacteristicRing};
 use std::alloc::{AllocError, Global};
 use std::process::Abort;
 use std::test::Fail;
 
-/// Whether the call has this answer; none where it names no call, or the divisor has no inverse.
+/// Whether the call has this answer; none where it names no call, or the divisor, which is two for a
+/// half, has no inverse.
 fn operation_agrees<F: Field + Packable, const N: usize>(
     call: &str,
     x: FieldArray<F, N>,
@@ -28,6 +29,7 @@ fn operation_agrees<F: Field + Packable, const N: usize>(
         "mul" => x * y,
         "neg" => -x,
         "square" => x.square(),
+        "halve" => half::<F, FieldArray<F, N>>(x)?,
         "add scalar" => x + scalar,
         "sub scalar" => x - scalar,
         "mul scalar" => x * scalar,
@@ -38,6 +40,14 @@ fn operation_agrees<F: Field + Packable, const N: usize>(
         _ => return None,
     };
     Some(given == answer)
+}
+
+/// The half of a value; none where two has no inverse.
+fn half<F: Field, A: Algebra<F>>(x: A) -> Option<A> {
+    let two = F::two();
+    two.try_inverse()?;
+    let half = x.halve();
+    Some(half)
 }
 
 /// Whether the sum or product of arrays is the answer.

@@ -5,7 +5,7 @@
 pub(crate) type Call = (usize, &'static str, &'static str, &'static str);
 
 /// Over `f17`.
-pub(crate) const F17_CALLS: [Call; 24] = [
+pub(crate) const F17_CALLS: [Call; 26] = [
     (3, "mul", "1,2,3|4,5,6", "4,10,1"),
     (3, "div scalar", "1,2,3|2", "9,1,10"),
     (1, "div scalar", "15|2", "16"),
@@ -37,6 +37,8 @@ pub(crate) const F17_CALLS: [Call; 24] = [
     (4, "add", "0,0,0,0|8,10,0,1", "8,10,0,1"),
     (4, "sub", "10,10,10,10|16,16,16,16", "11,11,11,11"),
     (4, "add scalar", "8,0,9,9|5", "13,5,14,14"),
+    (4, "halve", "15,15,9,6", "16,16,13,3"),
+    (8, "halve", "15,6,2,9,0,14,1,8", "16,3,1,13,0,7,9,4"),
     (
         8,
         "mul",
