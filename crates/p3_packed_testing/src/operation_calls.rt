@@ -21,9 +21,11 @@ pub(crate) fn operations_agree<F: Field, EF: ExtensionField<F>, PE: PackedFieldE
     alloc: Global,
     row: Row<'_>,
 ) -> Result<Option<bool>, AllocError> {
+    let first = row.argument(0);
     let given = match word(row.call, 1) {
         "dot_product" | "mixed_dot_product" => products::<F, EF, PE>(alloc, row)?,
-        _ => operated::<F, EF, PE>(row),
+        "from" => operated::<F, EF, PE>(row.call, first, first),
+        _ => operated::<F, EF, PE>(row.call, first, row.argument(1)),
     };
     match given {
         Some(packing) => Ok(Some(holds::<F, EF, PE>(&packing, row.answer))),
@@ -31,21 +33,21 @@ pub(crate) fn operations_agree<F: Field, EF: ExtensionField<F>, PE: PackedFieldE
     }
 }
 
-/// What an operation answers.
+/// What an operation answers on two sides, of which the right one is of what the call's third word says.
 fn operated<F: Field, EF: ExtensionField<F>, PE: PackedFieldExtension<F, EF>>(
-    row: Row<'_>,
+    call: &str,
+    left: &str,
+    right: &str,
 ) -> Option<PE> {
-    let name = word(row.call, 1);
-    let (left, right) = (row.argument(0), row.argument(1));
-    let other = if name == "from" { left } else { right };
+    let name = word(call, 1);
     let x = packing::<F, EF, PE>(left);
-    match word(row.call, 2) {
-        "packing" => mixed_operation::<PE, PE::Base>(name, x, base_packing::<F, PE::Base>(other)),
+    match word(call, 2) {
+        "packing" => mixed_operation::<PE, PE::Base>(name, x, base_packing::<F, PE::Base>(right)),
         "scalar" => {
-            let scalar = coefficient::<F>(other, 0);
+            let scalar = coefficient::<F>(right, 0);
             mixed_operation::<PE, PE::Base>(name, x, PE::Base::broadcast(scalar))
         }
-        "value" => mixed_operation::<PE, EF>(name, x, value::<F, EF>(other)),
+        "value" => mixed_operation::<PE, EF>(name, x, value::<F, EF>(right)),
         _ if name == "halve" => half::<PE, EF>(x),
         _ => operation::<PE>(name, x, packing::<F, EF, PE>(right), right),
     }
