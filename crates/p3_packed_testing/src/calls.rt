@@ -2,7 +2,10 @@
 //! are generic over the marker of a field: a test then passes the field's constants alone.
 use crate::extension_calls::{BaseCalls, PackedCalls, PackedRuns};
 use crate::rows::{Row, word};
-use crate::{call_tables as tables, lane_run_tables as runs};
+use crate::{
+    call_tables as tables, columnwise_tables as columnwise, lane_run_tables as runs,
+    operation_tables as operations,
+};
 use p3_bench_packed::packed::Packed;
 use p3_bench_prime::baby_bear::BabyBearModulus;
 use p3_bench_prime::binomial_constants::BinomialConstants;
@@ -218,6 +221,22 @@ fn each_call_by_the_definitions(rt: HostRuntime) -> Result<(), Fail> {
     assert_table(&rt, tables::EACH_OVER_F31T3)?;
     assert_table(&rt, tables::EACH_OVER_F17T5)?;
     assert_table(&rt, tables::EACH_OVER_BBX4)
+}
+
+#[test]
+fn operations_on_packings(rt: HostRuntime) -> Result<(), Fail> {
+    assert_table(&rt, operations::OVER_F17X2)?;
+    assert_table(&rt, operations::OVER_F17X4)?;
+    assert_table(&rt, operations::OVER_F31T3)?;
+    assert_table(&rt, operations::OVER_F17T5)?;
+    assert_table(&rt, operations::OVER_BBX4)
+}
+
+#[test]
+fn columnwise_products(rt: HostRuntime) -> Result<(), Fail> {
+    assert_table(&rt, columnwise::OVER_F17X2)?;
+    assert_table(&rt, columnwise::OVER_F31T3)?;
+    assert_table(&rt, columnwise::OVER_BBX4)
 }
 
 #[test]

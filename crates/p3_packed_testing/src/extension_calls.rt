@@ -1,11 +1,14 @@
 //! Calls on packings P of values of an extension of F, implemented once for all packings.
 use crate::column_calls::Rooms;
 use crate::lane_runs::{Vectors, counted_runs_agree};
+use crate::operation_calls::total_agrees;
+use crate::quotient_calls::quotient_agrees;
 use crate::row_calls::row_agrees;
-use crate::rows::Row;
+use crate::rows::{Row, word};
 use p3_base::field::Field;
 use p3_base::packed_traits::{Inhabited, Packable, PackedField};
 use p3_ext::extension::{ExtField, ExtensionOverAlgebra, ExtensionShape, FrobeniusExtendable};
+use p3_packed::holds_scalar::HoldsScalar;
 use p3_packed::packed_ext_field::{PackedExtField, Packing};
 use p3_ring::ring::PrimeCharacteristicRing;
 use std::alloc::{AllocError, Global};
@@ -27,7 +30,8 @@ pub(crate) trait PackedCalls<
     /// The types that calls make values of. Of an associated type it is known that its values have room.
     type Rooms: Drop;
 
-    /// `row_agrees` over packings of this type. Nothing is read of `rooms`.
+    /// `row_agrees` over packings of this type, and its quotients, sums and products. Nothing is read of
+    /// `rooms`.
     fn agrees(
         alloc: Global,
         rooms: Option<Self::Rooms>,
@@ -38,7 +42,7 @@ pub(crate) trait PackedCalls<
 impl<
     F: FrobeniusExtendable<D, S> + ExtensionOverAlgebra<P, D, S> + Packable,
     S: ExtensionShape,
-    P: PackedField<F> + Packing,
+    P: PackedField<F> + HoldsScalar<F>,
     const D: usize,
 > PackedCalls<F, S, D> for P {
     type Rooms = ExtensionRooms<F, S, P, D>;
@@ -48,7 +52,15 @@ impl<
         rooms: Option<ExtensionRooms<F, S, P, D>>,
         row: Row<'_>,
     ) -> Result<Option<bool>, AllocError> {
-        row_agrees::<F, ExtField<F, D, S, F>, PackedExtField<F, D, S, P>>(alloc, rooms, row)
+        match word(row.call, 1) {
+            "div" => Ok(quotient_agrees::<F, S, P, D>(rooms, row)),
+            "sum" | "product" => {
+                total_agrees::<F, ExtField<F, D, S, F>, PackedExtField<F, D, S, P>>(alloc, row)
+            }
+            _ => row_agrees::<F, ExtField<F, D, S, F>, PackedExtField<F, D, S, P>>(
+                alloc, rooms, row,
+            ),
+        }
     }
 }
 

@@ -3,6 +3,7 @@ ghost use Rattle.std.specs.Prelude.{◌<◌, ℕ, IsTrue};
 ghost use Rattle.p3_theory.specs.Rings.Ring.{Invertible};
 ghost use Rattle.p3_theory.specs.Lanes.Lanes.{lane};
 
+use crate::operations::has_inverse;
 use crate::rows::Row;
 use crate::texts::{counted, holds, packing, packings, value, values};
 use p3_base::field::Field;
@@ -115,18 +116,8 @@ fn with_lane<F: Field, EF: Field + BasedVectorSpace<F>, PE: ExtensionLanes<F, EF
     Some(x)
 }
 
-/// Whether a value has an inverse.
-fn has_inverse<T: Field>(y: T) -> bool
-    ensures { IsTrue result → Invertible T.ops y }
-{
-    match y.try_inverse() {
-        Some(_) => true,
-        None => false,
-    }
-}
-
 /// Whether every lane has an inverse.
-fn have_inverses<F, EF: Field, PE: ExtensionLanes<F, EF>>(packed: PE) -> bool
+pub(crate) fn have_inverses<F, EF: Field, PE: ExtensionLanes<F, EF>>(packed: PE) -> bool
     ensures { IsTrue result → (k : ℕ) → k < PE.LANES → Invertible EF.ops (lane EF.ops PE.ext_lanes k packed) }
 {
     for lane in 0..PE::LANES {

@@ -8,6 +8,10 @@ mod calls;
 #[cfg(test)]
 mod column_calls;
 #[cfg(test)]
+mod columnwise_calls;
+#[cfg(test)]
+mod columnwise_tables;
+#[cfg(test)]
 mod extension_calls;
 #[cfg(test)]
 mod lane_calls;
@@ -15,6 +19,14 @@ mod lane_calls;
 mod lane_run_tables;
 #[cfg(test)]
 mod lane_runs;
+#[cfg(test)]
+mod operation_calls;
+#[cfg(test)]
+mod operation_tables;
+#[cfg(test)]
+mod operations;
+#[cfg(test)]
+mod quotient_calls;
 #[cfg(test)]
 mod row_calls;
 #[cfg(test)]

@@ -1,6 +1,8 @@
 //! Calls on packings of extension values, told by the rows of tables.
 use crate::column_calls::{Rooms, counted_columns_agree};
+use crate::columnwise_calls::counted_columnwise_agree;
 use crate::lane_calls::lanes_agree;
+use crate::operation_calls::operations_agree;
 use crate::rows::{Row, word};
 use crate::sequence_calls::sequences_agree;
 use p3_base::field::Field;
@@ -20,6 +22,10 @@ pub(crate) fn row_agrees<F: Field, EF: ExtensionField<F>, PE: PackedFieldExtensi
         }
         "packed_ext_powers" | "packed_ext_powers_capped" | "to_ext_iter" => {
             sequences_agree::<F, EF, PE>(alloc, row)
+        }
+        "packed_ext" => operations_agree::<F, EF, PE>(alloc, row),
+        "generic_batched_columnwise_dot_product" => {
+            counted_columnwise_agree::<F, EF, PE>(alloc, row)
         }
         _ => lanes_agree::<F, EF, PE>(alloc, row),
     }

@@ -7,7 +7,7 @@ pub(crate) struct Row<'a> {
     pub(crate) field: &'a str,
     /// The number of lanes.
     pub(crate) lanes: &'a str,
-    /// The call, and after it the number of columns where it has one.
+    /// The call, and after it the number of columns or of scales where it has one.
     pub(crate) call: &'a str,
     pub(crate) arguments: &'a str,
     pub(crate) answer: &'a str,

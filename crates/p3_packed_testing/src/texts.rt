@@ -2,13 +2,14 @@
 //! lanes between spaces, and the coefficients of a value between commas.
 use crate::rows::word;
 use p3_base::field::Field;
+use p3_base::packed_traits::{PackedField, PackedValue};
 use p3_packings::extension_lanes::ExtensionLanes;
 use p3_ring::ring::PrimeCharacteristicRing;
 use p3_spaces::basis::BasedVectorSpace;
 use std::alloc::{AllocError, Global};
 
 /// The coefficient at an index of a text, zero past its end.
-fn coefficient<F: Field>(text: &str, index: usize) -> F {
+pub(crate) fn coefficient<F: Field>(text: &str, index: usize) -> F {
     let number = match text.split(',').nth(index) {
         Some(word) => word.parse::<u32>().unwrap_or(0),
         None => 0,
@@ -67,6 +68,23 @@ pub(crate) fn packings<F: Field, EF: Field + BasedVectorSpace<F>, PE: ExtensionL
     let mut packings = Vec::new(alloc);
     for part in text.split_terminator(';') {
         packings.push(packing::<F, EF, PE>(part))?;
+    }
+    Ok(packings)
+}
+
+/// The packing with the values of F of a text, which stand between commas, zero past its end.
+pub(crate) fn base_packing<F: Field, P: PackedField<F>>(text: &str) -> P {
+    P::from_fn(|lane: usize| -> F { coefficient::<F>(text, lane) })
+}
+
+/// The packings of values of F of a text, which stand between spaces.
+pub(crate) fn base_packings<F: Field, P: PackedField<F>>(
+    alloc: Global,
+    text: &str,
+) -> Result<Vec<P>, AllocError> {
+    let mut packings = Vec::new(alloc);
+    for word in text.split_ascii_whitespace() {
+        packings.push(base_packing::<F, P>(word))?;
     }
     Ok(packings)
 }
