@@ -1,1 +1,2 @@
+mod DotPlaces
 mod Formulas

@@ -4,7 +4,7 @@ ghost use Rattle.p3_theory.specs.Rings.Powers.{scale_powers};
 ghost use Rattle.p3_products.specs.FixedFormulas.{has_fixed_formula};
 
 use crate::binomial_products::{
-    compute_coefficient, cubic_mul, cubic_square, octic_product, octic_square, quadratic_mul,
+    coefficient_by_dots, cubic_mul, cubic_square, octic_product, octic_square, quadratic_mul,
     quadratic_square, quartic_product, quartic_square, quintic_product, quintic_square,
 };
 use crate::vectors::embed_entries;
@@ -24,8 +24,11 @@ fn general_mul<F: PrimeCharacteristicRing, A: Algebra<F>, const D: usize>(
     requires room { length res.old ≡ D }
     ensures { res.new ≡ quotient_add A.ops D res.old (quotient_mul A.ops D (binomial A.ops D (A.embed w)) a.now b.now) }
 {
+    let mut reversed = [A::zero(); D];
+    reversed.copy_from_slice(b);
+    reversed.reverse();
     for k in 0..D {
-        let place = compute_coefficient(a, b, D, k, w);
+        let place = coefficient_by_dots::<F, A, D>(a, &reversed, k, w);
         let sum = res[k] + place;
         res[k] = sum;
     }

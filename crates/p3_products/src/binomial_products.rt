@@ -1,4 +1,4 @@
-ghost use Rattle.std.specs.Prelude.{◌≡◌, ◌≤◌, ◌<◌, ◌+◌, ◌-◌, length, get_or};
+ghost use Rattle.std.specs.Prelude.{◌≡◌, ◌≤◌, ◌<◌, ◌+◌, ◌-◌, length, get_or, reverse};
 ghost use Rattle.p3_theory.specs.Polynomials.Polynomial.{quotient_mul, binomial};
 ghost use Rattle.p3_theory.specs.Polynomials.ConvolutionSums.{first_sum};
 ghost use Rattle.p3_theory.specs.Rings.DotProduct.{dot};
@@ -50,6 +50,30 @@ pub fn compute_coefficient<F: PrimeCharacteristicRing, A: Algebra<F>>(
         return low;
     }
     let high = products_at(a, b, k + 1, degree - 1, above);
+    let folded = high * w;
+    low + folded
+}
+
+/// The coefficient at `X^k` of the product of two lists of D coefficients modulo `X^D - W`, the
+/// second one given from its last coefficient to its first: each half of the sum is a dot product.
+#[inline]
+pub(crate) fn coefficient_by_dots<F: PrimeCharacteristicRing, A: Algebra<F>, const D: usize>(
+    a: &[A],
+    reversed: &[A],
+    k: usize,
+    w: F,
+) -> A
+    requires place { k < D }
+    requires left { length a.now ≡ D }
+    requires right { length reversed.now ≡ D }
+    ensures { result ≡ product_place A.ops D (A.embed w) a.now (reverse reversed.now) k }
+{
+    let above = D - 1 - k;
+    let low = A::dot_product(&a[..k + 1], &reversed[above..]);
+    if above == 0 {
+        return low;
+    }
+    let high = A::dot_product(&a[k + 1..D], &reversed[..above]);
     let folded = high * w;
     low + folded
 }
