@@ -1,2 +1,2 @@
-mod DotPlaces
 mod Formulas
+mod ProductRows

@@ -1,5 +1,6 @@
-ghost use Rattle.std.specs.Prelude.{◌≡◌, ◌≤◌, ◌<◌, ◌+◌, ◌-◌, length, get_or, reverse};
+ghost use Rattle.std.specs.Prelude.{◌≡◌, ◌≤◌, ◌<◌, ◌+◌, ◌-◌, ◌∷◌, length, get_or, reverse, take};
 ghost use Rattle.p3_theory.specs.Polynomials.Polynomial.{quotient_mul, binomial};
+ghost use Rattle.p3_theory.specs.Polynomials.BaseProduct.{scaled};
 ghost use Rattle.p3_theory.specs.Polynomials.ConvolutionSums.{first_sum};
 ghost use Rattle.p3_theory.specs.Rings.DotProduct.{dot};
 ghost use Rattle.p3_theory.specs.Products.ProductPlaces.{product_place};
@@ -54,28 +55,33 @@ pub fn compute_coefficient<F: PrimeCharacteristicRing, A: Algebra<F>>(
     low + folded
 }
 
-/// The coefficient at `X^k` of the product of two lists of D coefficients modulo `X^D - W`, the
-/// second one given from its last coefficient to its first: each half of the sum is a dot product.
+/// Writes the coefficients from the last one to the first, each times W.
 #[inline]
-pub(crate) fn coefficient_by_dots<F: PrimeCharacteristicRing, A: Algebra<F>, const D: usize>(
-    a: &[A],
-    reversed: &[A],
-    k: usize,
+pub(crate) fn write_reversed_scaled<F: PrimeCharacteristicRing, A: Algebra<F>>(
+    b: &[A],
     w: F,
-) -> A
-    requires place { k < D }
-    requires left { length a.now ≡ D }
-    requires right { length reversed.now ≡ D }
-    ensures { result ≡ product_place A.ops D (A.embed w) a.now (reverse reversed.now) k }
+    res: &mut [A],
+)
+    requires { length res.old ≡ length b.now }
+    ensures { res.new ≡ scaled A.ops (length b.now) (reverse b.now) (A.embed w) }
 {
-    let above = D - 1 - k;
-    let low = A::dot_product(&a[..k + 1], &reversed[above..]);
-    if above == 0 {
-        return low;
+    for i in 0..res.len() {
+        let product = b[res.len() - 1 - i] * w;
+        res[i] = product;
     }
-    let high = A::dot_product(&a[k + 1..D], &reversed[..above]);
-    let folded = high * w;
-    low + folded
+}
+
+/// Writes the value and behind it all entries but the last one.
+#[inline]
+pub(crate) fn shift_in<A: PrimeCharacteristicRing>(row: &mut [A], first: A)
+    ensures { row.new ≡ take (length row.old) (first ∷ row.old) }
+{
+    let mut carried = first;
+    for i in 0..row.len() {
+        let next = row[i];
+        row[i] = carried;
+        carried = next;
+    }
 }
 
 /// The sum `x * t + y * z` from the products `x * z` and `y * t`, by one product more: Karatsuba's
