@@ -1,2 +1,2 @@
+pub mod DotBlocks
 pub mod Interleaving
-pub mod LaneSums
