@@ -85,7 +85,7 @@ fn dot_up_to_eight<F: PrimeCharacteristicRing, const N: usize>(
 /// The dot product of two slices of packings, eight positions at a time, so that a type that reduces a
 /// sum of products once does so at each lane for each eight.
 #[inline]
-pub fn packed_dot_product<F: PrimeCharacteristicRing, const N: usize>(
+pub(crate) fn packed_dot_product<F: PrimeCharacteristicRing, const N: usize>(
     u: &[Packed<F, N>],
     v: &[Packed<F, N>],
 ) -> Packed<F, N>
