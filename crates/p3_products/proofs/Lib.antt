@@ -1,1 +1,2 @@
 mod Formulas
+mod ProductRows

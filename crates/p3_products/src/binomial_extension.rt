@@ -4,8 +4,9 @@ ghost use Rattle.p3_theory.specs.Rings.Powers.{scale_powers};
 ghost use Rattle.p3_products.specs.FixedFormulas.{has_fixed_formula};
 
 use crate::binomial_products::{
-    compute_coefficient, cubic_mul, cubic_square, octic_product, octic_square, quadratic_mul,
-    quadratic_square, quartic_product, quartic_square, quintic_product, quintic_square,
+    cubic_mul, cubic_square, octic_product, octic_square, quadratic_mul, quadratic_square,
+    quartic_product, quartic_square, quintic_product, quintic_square, shift_in,
+    write_reversed_scaled,
 };
 use crate::vectors::embed_entries;
 use p3_ring::ring::{Algebra, PrimeCharacteristicRing};
@@ -24,8 +25,11 @@ fn general_mul<F: PrimeCharacteristicRing, A: Algebra<F>, const D: usize>(
     requires room { length res.old ≡ D }
     ensures { res.new ≡ quotient_add A.ops D res.old (quotient_mul A.ops D (binomial A.ops D (A.embed w)) a.now b.now) }
 {
+    let mut row = [A::zero(); D];
+    write_reversed_scaled(b, w, &mut row);
     for k in 0..D {
-        let place = compute_coefficient(a, b, D, k, w);
+        shift_in(&mut row, b[k]);
+        let place = A::dot_product(a, &row);
         let sum = res[k] + place;
         res[k] = sum;
     }

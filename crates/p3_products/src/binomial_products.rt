@@ -1,5 +1,6 @@
-ghost use Rattle.std.specs.Prelude.{◌≡◌, ◌≤◌, ◌<◌, ◌+◌, ◌-◌, length, get_or};
+ghost use Rattle.std.specs.Prelude.{◌≡◌, ◌≤◌, ◌<◌, ◌+◌, ◌-◌, ◌∷◌, length, get_or, reverse, take};
 ghost use Rattle.p3_theory.specs.Polynomials.Polynomial.{quotient_mul, binomial};
+ghost use Rattle.p3_theory.specs.Polynomials.BaseProduct.{scaled};
 ghost use Rattle.p3_theory.specs.Polynomials.ConvolutionSums.{first_sum};
 ghost use Rattle.p3_theory.specs.Rings.DotProduct.{dot};
 ghost use Rattle.p3_theory.specs.Products.ProductPlaces.{product_place};
@@ -52,6 +53,35 @@ pub fn compute_coefficient<F: PrimeCharacteristicRing, A: Algebra<F>>(
     let high = products_at(a, b, k + 1, degree - 1, above);
     let folded = high * w;
     low + folded
+}
+
+/// Writes the coefficients from the last one to the first, each times W.
+#[inline]
+pub(crate) fn write_reversed_scaled<F: PrimeCharacteristicRing, A: Algebra<F>>(
+    b: &[A],
+    w: F,
+    res: &mut [A],
+)
+    requires { length res.old ≡ length b.now }
+    ensures { res.new ≡ scaled A.ops (length b.now) (reverse b.now) (A.embed w) }
+{
+    for i in 0..res.len() {
+        let product = b[res.len() - 1 - i] * w;
+        res[i] = product;
+    }
+}
+
+/// Writes the value and behind it all entries but the last one.
+#[inline]
+pub(crate) fn shift_in<A: PrimeCharacteristicRing>(row: &mut [A], first: A)
+    ensures { row.new ≡ take (length row.old) (first ∷ row.old) }
+{
+    let mut carried = first;
+    for i in 0..row.len() {
+        let next = row[i];
+        row[i] = carried;
+        carried = next;
+    }
 }
 
 /// The sum `x * t + y * z` from the products `x * z` and `y * t`, by one product more: Karatsuba's

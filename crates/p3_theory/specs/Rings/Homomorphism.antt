@@ -1,8 +1,8 @@
 -- The definitions go along with a map that keeps the operations; so do the equations of a table.
 use Rattle.std.proofs.Common.{◌≡◌, ℕ, zero, suc, pred, ◌+◌, List, [], ◌∷◌, length, map, refl, sym, ap, ◌∙◌, ap₂}
 use mathlib.Core.Path.{fun_ext}
-use Rattle.p3_theory.specs.Rings.Multiples.{of_nat}
-use Rattle.p3_theory.specs.Rings.Ring.{Ops, Hom}
+use Rattle.p3_theory.specs.Rings.Multiples.{of_nat, two}
+use Rattle.p3_theory.specs.Rings.Ring.{Ops, Hom, Invertible}
 use Rattle.p3_theory.specs.Polynomials.Polynomial.{tabulate, at, convolve, convolution, remainder, quotient_ops, quotient_add, quotient_mul, embed, monomial}
 use Rattle.p3_theory.specs.Rings.Powers.{sum_of, power}
 use Rattle.p3_theory.specs.FrobeniusMaps.Frobenius.{iterate}
@@ -29,6 +29,11 @@ map-power {O = O} {P = P} {h = h} k x (suc n) = k.mul x (power O x n) ∙ ap (P.
 pub map-of_nat : {A B : Type 0} {O : Ops A} {P : Ops B} {h : A → B} → Hom O P h → (n : ℕ) → h (of_nat O n) ≡ of_nat P n
 map-of_nat k zero = k.zero
 map-of_nat {O = O} {P = P} {h = h} k (suc n) = k.add O.one (of_nat O n) ∙ ap₂ P.add k.one (map-of_nat k n)
+
+-- where two is a unit, it is one in the other ring too
+pub unit-two : {A B : Type 0} {O : Ops A} {P : Ops B} {h : A → B} → Hom O P h → (t : A) → t ≡ two O → Invertible O t → Invertible P (two P)
+unit-two {O = O} {P = P} {h = h} k t is i =
+    (h i.0, ap (λ u. P.mul u (h i.0)) (sym (ap h is ∙ k.add O.one O.one ∙ ap₂ P.add k.one k.one)) ∙ sym (k.mul t i.0) ∙ ap h i.1 ∙ k.one)
 
 pub map-tabulate : {A B : Type 0} (h : A → B) (n : ℕ) (s : ℕ → A) → map h (tabulate n s) ≡ tabulate n (λ k. h (s k))
 map-tabulate h zero s = refl

@@ -1,6 +1,6 @@
 use Rattle.std.proofs.Common.{rules}
 use Rattle.p3_theory.specs.Rings.Ring.{Invertible}
-use Rattle.p3_field_testing.specs.Units.{unit-two}
+use Rattle.p3_theory.specs.Rings.Homomorphism.{unit-two}
 use Rattle.p3_array_testing.proofs.array_calls.half.Goals as goal
 
 pub halve-half-requires : goal.halve-half-requires

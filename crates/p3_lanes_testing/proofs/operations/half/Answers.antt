@@ -1,5 +1,5 @@
 use Rattle.std.proofs.Common.{refl}
-use Rattle.p3_field_testing.specs.Units.{unit-two}
+use Rattle.p3_theory.specs.Rings.Homomorphism.{unit-two}
 use Rattle.p3_lanes_testing.proofs.operations.half.Goals as goal
 
 pub halve-half-requires : goal.halve-half-requires
