@@ -1,13 +1,15 @@
 //! Calls on packings of a prime field's values, told by the rows of tables.
 use crate::operations::{mixed_product, operation, product};
 use crate::packing_blocks::blocks_agree;
+use crate::packing_columns::{Rooms, counted_columns_agree};
 use crate::packing_list_calls::{added, are_powers, scaled};
 use crate::packing_quotients::{quotient, scalar_quotient};
 use crate::packing_slices::{lengths_agree, loaded, slices_agree, stored};
 use crate::packing_sums::{counted_columnwise_agree, sums_agree};
 use crate::power_growths::lists_grow;
 use crate::power_lists::are_taken;
-use crate::rows::{Row, holds, packing, packings, value_at, values};
+use crate::rows::{Row, Shape, holds, packing, packings, value_at, values};
+use crate::vector_calls::{Vectors, counted_vectors_agree};
 use p3_base::field::Field;
 use p3_base::packed_traits::{PackedField, PackedFieldPow2, PackedValue};
 use p3_ring::ring::PrimeCharacteristicRing;
@@ -82,15 +84,17 @@ fn lists_agree<F: Field, P: PackedField<F>>(
     }
 }
 
-/// Whether a row's call has its answer. The slice is empty: where a signature names arrays, it is known
-/// that they have room.
+/// Whether a row's call on packings or columns has its answer. Nothing is read of `rooms`.
 pub(crate) fn row_agrees<F: Field, P: PackedField<F>>(
     alloc: Global,
-    packings: &[[P; 8]],
+    rooms: Option<Rooms<F, P>>,
     row: Row<'_>,
 ) -> Result<Option<bool>, AllocError> {
+    if let Shape::Columns = row.shape() {
+        return counted_columns_agree::<F, P>(alloc, rooms, row);
+    }
     match row.call {
-        "coeffwise_dot_product" => sums_agree::<F, P>(alloc, packings, row),
+        "coeffwise_dot_product" => sums_agree::<F, P>(alloc, &[], row),
         call if call.starts_with("generic_batched") => {
             counted_columnwise_agree::<F, P>(alloc, row)
         }
@@ -98,14 +102,19 @@ pub(crate) fn row_agrees<F: Field, P: PackedField<F>>(
     }
 }
 
-/// `row_agrees`, and the calls of packings whose number of lanes is a power of two.
+/// `row_agrees`, and the calls of packings whose number of lanes is a power of two, and those of vectors of
+/// them. Nothing is read of `rooms` and `vectors`.
 pub(crate) fn any_agrees<F: Field, P: PackedFieldPow2<F>>(
     alloc: Global,
-    packings: &[[P; 8]],
+    rooms: Option<Rooms<F, P>>,
+    vectors: Option<Vectors<F, P>>,
     row: Row<'_>,
 ) -> Result<Option<bool>, AllocError> {
+    if let Shape::Vector = row.shape() {
+        return counted_vectors_agree::<F, P>(alloc, vectors, row);
+    }
     match row.call {
         "interleave" => Ok(blocks_agree::<F, P>(row)),
-        _ => row_agrees::<F, P>(alloc, packings, row),
+        _ => row_agrees::<F, P>(alloc, rooms, row),
     }
 }

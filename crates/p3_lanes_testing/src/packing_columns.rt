@@ -72,7 +72,7 @@ fn packed_agree<F: Field, P: PackedField<F>, const N: usize>(
 fn unpacked_agree<F: Field, P: PackedField<F>, const N: usize>(
     alloc: Global,
     array: &[[F; N]],
-    _rows: &[UnpackedRows<P, N>],
+    _rows: Option<UnpackedRows<P, N>>,
     packed: [P; N],
     answer: &str,
 ) -> Result<Option<bool>, AllocError> {
@@ -98,7 +98,7 @@ fn columns_agree<F: Field, P: PackedField<F>, const N: usize>(
     alloc: Global,
     array: &[[F; N]],
     column: &[[P; N]],
-    rows: &[UnpackedRows<P, N>],
+    rows: Option<UnpackedRows<P, N>>,
     row: Row<'_>,
 ) -> Result<Option<bool>, AllocError> {
     match word(row.call, 0) {
@@ -111,22 +111,28 @@ fn columns_agree<F: Field, P: PackedField<F>, const N: usize>(
     }
 }
 
-/// `columns_agree` at the number of columns, the call's second word.
+/// The types that calls on packings P of values of F make values of: where a signature names them, it is
+/// known that they have room.
+pub(crate) type Rooms<F, P> = (
+    [F; 8],
+    [P; 8],
+    UnpackedRows<P, 1>,
+    UnpackedRows<P, 2>,
+    UnpackedRows<P, 3>,
+    UnpackedRows<P, 5>,
+);
+
+/// `columns_agree` at the number of columns, the call's second word. Nothing is read of `_rooms`.
 pub(crate) fn counted_columns_agree<F: Field, P: PackedField<F>>(
     alloc: Global,
-    _arrays: &[[F; 8]],
-    _columns: &[[P; 8]],
-    one: &[UnpackedRows<P, 1>],
-    two: &[UnpackedRows<P, 2>],
-    three: &[UnpackedRows<P, 3>],
-    five: &[UnpackedRows<P, 5>],
+    _rooms: Option<Rooms<F, P>>,
     row: Row<'_>,
 ) -> Result<Option<bool>, AllocError> {
     match word(row.call, 1) {
-        "1" => columns_agree::<F, P, 1>(alloc, &[], &[], one, row),
-        "2" => columns_agree::<F, P, 2>(alloc, &[], &[], two, row),
-        "3" => columns_agree::<F, P, 3>(alloc, &[], &[], three, row),
-        "5" => columns_agree::<F, P, 5>(alloc, &[], &[], five, row),
+        "1" => columns_agree::<F, P, 1>(alloc, &[], &[], None, row),
+        "2" => columns_agree::<F, P, 2>(alloc, &[], &[], None, row),
+        "3" => columns_agree::<F, P, 3>(alloc, &[], &[], None, row),
+        "5" => columns_agree::<F, P, 5>(alloc, &[], &[], None, row),
         _ => Ok(None),
     }
 }

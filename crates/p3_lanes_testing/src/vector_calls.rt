@@ -23,7 +23,7 @@ fn vector<F: Field, P: PackedField<F>, const N: usize>(text: &str) -> Vectorized
 /// The vectors of a text.
 fn vectors<F: Field, P: PackedField<F>, const N: usize>(
     alloc: Global,
-    _vector: &[Vectorized<F, P, N>],
+    _vector: Option<Vectorized<F, P, N>>,
     text: &str,
 ) -> Result<Vec<Vectorized<F, P, N>>, AllocError> {
     let mut vectors = Vec::new(alloc);
@@ -55,7 +55,7 @@ fn vector_holds<F: Field, P: PackedField<F>, const N: usize>(
 /// What the row's call answers; `Ok(None)` where the row names no call.
 fn answered<F: Field, P: PackedField<F>, const N: usize>(
     alloc: Global,
-    vector_room: &[Vectorized<F, P, N>],
+    vector_room: Option<Vectorized<F, P, N>>,
     call: &str,
     row: Row<'_>,
 ) -> Result<Option<Vectorized<F, P, N>>, AllocError> {
@@ -85,7 +85,7 @@ fn answered<F: Field, P: PackedField<F>, const N: usize>(
 /// Whether a call on vectors of N packings has the row's answer.
 fn vectors_agree<F: Field, P: PackedField<F>, const N: usize>(
     alloc: Global,
-    vector: &[Vectorized<F, P, N>],
+    vector: Option<Vectorized<F, P, N>>,
     call: &str,
     row: Row<'_>,
 ) -> Result<Option<bool>, AllocError> {
@@ -95,23 +95,28 @@ fn vectors_agree<F: Field, P: PackedField<F>, const N: usize>(
     }
 }
 
-/// `vectors_agree` at the number of packings, the call's second word. The slices are empty: where a
-/// signature names a type, it is known that its values have room.
+/// Vectors of one, three and four packings.
+pub(crate) type Vectors<F, P> = (
+    Vectorized<F, P, 1>,
+    Vectorized<F, P, 3>,
+    Vectorized<F, P, 4>,
+);
+
+/// `vectors_agree` at the number of packings, the call's second word. That vectors are named tells that they
+/// have room; nothing is read of them.
 pub(crate) fn counted_vectors_agree<F: Field, P: PackedField<F>>(
     alloc: Global,
-    one: &[Vectorized<F, P, 1>],
-    three: &[Vectorized<F, P, 3>],
-    four: &[Vectorized<F, P, 4>],
+    _vectors: Option<Vectors<F, P>>,
     row: Row<'_>,
 ) -> Result<Option<bool>, AllocError> {
     if let Some(call) = row.call.strip_prefix("vectorized 1 ") {
-        return vectors_agree::<F, P, 1>(alloc, one, call, row);
+        return vectors_agree::<F, P, 1>(alloc, None, call, row);
     }
     if let Some(call) = row.call.strip_prefix("vectorized 3 ") {
-        return vectors_agree::<F, P, 3>(alloc, three, call, row);
+        return vectors_agree::<F, P, 3>(alloc, None, call, row);
     }
     if let Some(call) = row.call.strip_prefix("vectorized 4 ") {
-        return vectors_agree::<F, P, 4>(alloc, four, call, row);
+        return vectors_agree::<F, P, 4>(alloc, None, call, row);
     }
     Ok(None)
 }

@@ -25,15 +25,9 @@ fn over_quadratic<W: BinomialConstants<2>>(
     row: Row<'_>,
 ) -> Result<Option<bool>, AllocError> {
     match row.lanes {
-        "1" => {
-            <Packed<Fp<W>, 1> as PackedCalls<Fp<W>, Binomial<Fp<W>>, 2>>::agrees(alloc, None, row)
-        }
-        "4" => {
-            <Packed<Fp<W>, 4> as PackedCalls<Fp<W>, Binomial<Fp<W>>, 2>>::agrees(alloc, None, row)
-        }
-        "8" => {
-            <Packed<Fp<W>, 8> as PackedCalls<Fp<W>, Binomial<Fp<W>>, 2>>::agrees(alloc, None, row)
-        }
+        "1" => { <Packed<Fp<W>, 1> as PackedCalls<Binomial<Fp<W>>, 2>>::agrees(alloc, None, row) }
+        "4" => { <Packed<Fp<W>, 4> as PackedCalls<Binomial<Fp<W>>, 2>>::agrees(alloc, None, row) }
+        "8" => { <Packed<Fp<W>, 8> as PackedCalls<Binomial<Fp<W>>, 2>>::agrees(alloc, None, row) }
         _ => Ok(None),
     }
 }
@@ -44,15 +38,9 @@ fn over_quartic<W: BinomialConstants<4>>(
     row: Row<'_>,
 ) -> Result<Option<bool>, AllocError> {
     match row.lanes {
-        "1" => {
-            <Packed<Fp<W>, 1> as PackedCalls<Fp<W>, Binomial<Fp<W>>, 4>>::agrees(alloc, None, row)
-        }
-        "4" => {
-            <Packed<Fp<W>, 4> as PackedCalls<Fp<W>, Binomial<Fp<W>>, 4>>::agrees(alloc, None, row)
-        }
-        "8" => {
-            <Packed<Fp<W>, 8> as PackedCalls<Fp<W>, Binomial<Fp<W>>, 4>>::agrees(alloc, None, row)
-        }
+        "1" => { <Packed<Fp<W>, 1> as PackedCalls<Binomial<Fp<W>>, 4>>::agrees(alloc, None, row) }
+        "4" => { <Packed<Fp<W>, 4> as PackedCalls<Binomial<Fp<W>>, 4>>::agrees(alloc, None, row) }
+        "8" => { <Packed<Fp<W>, 8> as PackedCalls<Binomial<Fp<W>>, 4>>::agrees(alloc, None, row) }
         _ => Ok(None),
     }
 }
@@ -63,15 +51,9 @@ fn over_cubic<W: TrinomialConstants<3, CubicTrinomial>>(
     row: Row<'_>,
 ) -> Result<Option<bool>, AllocError> {
     match row.lanes {
-        "1" => <Packed<Fp<W>, 1> as PackedCalls<Fp<W>, CubicTrinomial, 3>>::agrees(
-            alloc, None, row,
-        ),
-        "4" => <Packed<Fp<W>, 4> as PackedCalls<Fp<W>, CubicTrinomial, 3>>::agrees(
-            alloc, None, row,
-        ),
-        "8" => <Packed<Fp<W>, 8> as PackedCalls<Fp<W>, CubicTrinomial, 3>>::agrees(
-            alloc, None, row,
-        ),
+        "1" => <Packed<Fp<W>, 1> as PackedCalls<CubicTrinomial, 3>>::agrees(alloc, None, row),
+        "4" => <Packed<Fp<W>, 4> as PackedCalls<CubicTrinomial, 3>>::agrees(alloc, None, row),
+        "8" => <Packed<Fp<W>, 8> as PackedCalls<CubicTrinomial, 3>>::agrees(alloc, None, row),
         _ => Ok(None),
     }
 }
@@ -82,15 +64,9 @@ fn over_quintic<W: TrinomialConstants<5, QuinticTrinomial>>(
     row: Row<'_>,
 ) -> Result<Option<bool>, AllocError> {
     match row.lanes {
-        "1" => {
-            <Packed<Fp<W>, 1> as PackedCalls<Fp<W>, QuinticTrinomial, 5>>::agrees(alloc, None, row)
-        }
-        "4" => {
-            <Packed<Fp<W>, 4> as PackedCalls<Fp<W>, QuinticTrinomial, 5>>::agrees(alloc, None, row)
-        }
-        "8" => {
-            <Packed<Fp<W>, 8> as PackedCalls<Fp<W>, QuinticTrinomial, 5>>::agrees(alloc, None, row)
-        }
+        "1" => { <Packed<Fp<W>, 1> as PackedCalls<QuinticTrinomial, 5>>::agrees(alloc, None, row) }
+        "4" => { <Packed<Fp<W>, 4> as PackedCalls<QuinticTrinomial, 5>>::agrees(alloc, None, row) }
+        "8" => { <Packed<Fp<W>, 8> as PackedCalls<QuinticTrinomial, 5>>::agrees(alloc, None, row) }
         _ => Ok(None),
     }
 }
@@ -98,9 +74,9 @@ fn over_quintic<W: TrinomialConstants<5, QuinticTrinomial>>(
 /// The same of the field itself, which is an extension of its own.
 fn over_base<W: Form<u32>>(alloc: Global, row: Row<'_>) -> Result<Option<bool>, AllocError> {
     match row.lanes {
-        "1" => <Packed<Fp<W>, 1> as BaseCalls<Fp<W>>>::base_agrees(alloc, None, row),
-        "4" => <Packed<Fp<W>, 4> as BaseCalls<Fp<W>>>::base_agrees(alloc, None, row),
-        "8" => <Packed<Fp<W>, 8> as BaseCalls<Fp<W>>>::base_agrees(alloc, None, row),
+        "1" => <Packed<Fp<W>, 1> as BaseCalls>::base_agrees(alloc, None, row),
+        "4" => <Packed<Fp<W>, 4> as BaseCalls>::base_agrees(alloc, None, row),
+        "8" => <Packed<Fp<W>, 8> as BaseCalls>::base_agrees(alloc, None, row),
         _ => Ok(None),
     }
 }
@@ -112,14 +88,10 @@ fn runs_over_quadratic<W: BinomialConstants<2>>(
 ) -> Result<Option<bool>, AllocError> {
     match row.lanes {
         "4" => {
-            <Packed<Fp<W>, 4> as PackedRuns<Fp<W>, Binomial<Fp<W>>, 2>>::runs_agree(
-                alloc, None, row,
-            )
+            <Packed<Fp<W>, 4> as PackedRuns<Binomial<Fp<W>>, 2>>::runs_agree(alloc, None, row)
         }
         "8" => {
-            <Packed<Fp<W>, 8> as PackedRuns<Fp<W>, Binomial<Fp<W>>, 2>>::runs_agree(
-                alloc, None, row,
-            )
+            <Packed<Fp<W>, 8> as PackedRuns<Binomial<Fp<W>>, 2>>::runs_agree(alloc, None, row)
         }
         _ => Ok(None),
     }
@@ -132,14 +104,10 @@ fn runs_over_quartic<W: BinomialConstants<4>>(
 ) -> Result<Option<bool>, AllocError> {
     match row.lanes {
         "4" => {
-            <Packed<Fp<W>, 4> as PackedRuns<Fp<W>, Binomial<Fp<W>>, 4>>::runs_agree(
-                alloc, None, row,
-            )
+            <Packed<Fp<W>, 4> as PackedRuns<Binomial<Fp<W>>, 4>>::runs_agree(alloc, None, row)
         }
         "8" => {
-            <Packed<Fp<W>, 8> as PackedRuns<Fp<W>, Binomial<Fp<W>>, 4>>::runs_agree(
-                alloc, None, row,
-            )
+            <Packed<Fp<W>, 8> as PackedRuns<Binomial<Fp<W>>, 4>>::runs_agree(alloc, None, row)
         }
         _ => Ok(None),
     }
@@ -151,12 +119,8 @@ fn runs_over_cubic<W: TrinomialConstants<3, CubicTrinomial>>(
     row: Row<'_>,
 ) -> Result<Option<bool>, AllocError> {
     match row.lanes {
-        "4" => {
-            <Packed<Fp<W>, 4> as PackedRuns<Fp<W>, CubicTrinomial, 3>>::runs_agree(alloc, None, row)
-        }
-        "8" => {
-            <Packed<Fp<W>, 8> as PackedRuns<Fp<W>, CubicTrinomial, 3>>::runs_agree(alloc, None, row)
-        }
+        "4" => { <Packed<Fp<W>, 4> as PackedRuns<CubicTrinomial, 3>>::runs_agree(alloc, None, row) }
+        "8" => { <Packed<Fp<W>, 8> as PackedRuns<CubicTrinomial, 3>>::runs_agree(alloc, None, row) }
         _ => Ok(None),
     }
 }

@@ -1,16 +1,14 @@
-//! Calls on packings P of values of an extension of F, implemented once for all packings.
+//! Calls on packings of N values of an extension of F, implemented once for all fields and all N.
 use crate::column_calls::Rooms;
 use crate::lane_runs::{Vectors, counted_runs_agree};
 use crate::operation_calls::total_agrees;
 use crate::quotient_calls::quotient_agrees;
 use crate::row_calls::row_agrees;
 use crate::rows::{Row, word};
-use p3_base::field::Field;
-use p3_base::packed_traits::{Inhabited, Packable, PackedField};
+use p3_bench_packed::lanes::Lanes;
+use p3_bench_packed::packed::Packed;
 use p3_ext::extension::{ExtField, ExtensionOverAlgebra, ExtensionShape, FrobeniusExtendable};
-use p3_packed::holds_scalar::HoldsScalar;
-use p3_packed::packed_ext_field::{PackedExtField, Packing};
-use p3_ring::ring::PrimeCharacteristicRing;
+use p3_packed::packed_ext_field::PackedExtField;
 use std::alloc::{AllocError, Global};
 
 /// The types that calls on packings P of values of an extension of F make values of.
@@ -20,13 +18,9 @@ pub(crate) type ExtensionRooms<F, S, P, const D: usize> = Rooms<
     PackedExtField<F, D, S, P>,
 >;
 
-/// Calls on packings of this type of the values of an extension of F: a call at a packing's own name passes
-/// the traits of the field and of the packing once.
-pub(crate) trait PackedCalls<
-    F: PrimeCharacteristicRing,
-    S: ExtensionShape,
-    const D: usize,
->: Inhabited {
+/// Calls on packings of this type of the values of an extension of its lanes' field. A call at a packing's
+/// own name passes that the field has so many lanes, and not what the packing has by that.
+pub(crate) trait PackedCalls<S, const D: usize>: Copy {
     /// The types that calls make values of. Of an associated type it is known that its values have room.
     type Rooms: Drop;
 
@@ -40,36 +34,34 @@ pub(crate) trait PackedCalls<
 }
 
 impl<
-    F: FrobeniusExtendable<D, S> + ExtensionOverAlgebra<P, D, S> + Packable,
+    F: FrobeniusExtendable<D, S> + ExtensionOverAlgebra<Packed<F, N>, D, S> + Lanes<N>,
     S: ExtensionShape,
-    P: PackedField<F> + HoldsScalar<F>,
     const D: usize,
-> PackedCalls<F, S, D> for P {
-    type Rooms = ExtensionRooms<F, S, P, D>;
+    const N: usize,
+> PackedCalls<S, D> for Packed<F, N> {
+    type Rooms = ExtensionRooms<F, S, Packed<F, N>, D>;
 
     fn agrees(
         alloc: Global,
-        rooms: Option<ExtensionRooms<F, S, P, D>>,
+        rooms: Option<ExtensionRooms<F, S, Packed<F, N>, D>>,
         row: Row<'_>,
     ) -> Result<Option<bool>, AllocError> {
         match word(row.call, 1) {
-            "div" => Ok(quotient_agrees::<F, S, P, D>(rooms, row)),
+            "div" => Ok(quotient_agrees::<F, S, Packed<F, N>, D>(rooms, row)),
             "sum" | "product" => {
-                total_agrees::<F, ExtField<F, D, S, F>, PackedExtField<F, D, S, P>>(alloc, row)
+                total_agrees::<F, ExtField<F, D, S, F>, PackedExtField<F, D, S, Packed<F, N>>>(
+                    alloc, row,
+                )
             }
-            _ => row_agrees::<F, ExtField<F, D, S, F>, PackedExtField<F, D, S, P>>(
+            _ => row_agrees::<F, ExtField<F, D, S, F>, PackedExtField<F, D, S, Packed<F, N>>>(
                 alloc, rooms, row,
             ),
         }
     }
 }
 
-/// Runs over vectors of packings of this type of the values of an extension of F.
-pub(crate) trait PackedRuns<
-    F: PrimeCharacteristicRing,
-    S: ExtensionShape,
-    const D: usize,
->: Inhabited {
+/// Runs over vectors of packings of this type of the values of an extension of its lanes' field.
+pub(crate) trait PackedRuns<S, const D: usize>: Copy {
     /// Vectors of one to three packings.
     type Vectors: Copy;
 
@@ -82,26 +74,26 @@ pub(crate) trait PackedRuns<
 }
 
 impl<
-    F: FrobeniusExtendable<D, S> + ExtensionOverAlgebra<P, D, S> + Packable,
+    F: FrobeniusExtendable<D, S> + ExtensionOverAlgebra<Packed<F, N>, D, S> + Lanes<N>,
     S: ExtensionShape,
-    P: PackedField<F> + Packing,
     const D: usize,
-> PackedRuns<F, S, D> for P {
-    type Vectors = Vectors<F, ExtField<F, D, S, F>, PackedExtField<F, D, S, P>>;
+    const N: usize,
+> PackedRuns<S, D> for Packed<F, N> {
+    type Vectors = Vectors<F, ExtField<F, D, S, F>, PackedExtField<F, D, S, Packed<F, N>>>;
 
     fn runs_agree(
         alloc: Global,
-        vectors: Option<Vectors<F, ExtField<F, D, S, F>, PackedExtField<F, D, S, P>>>,
+        vectors: Option<Vectors<F, ExtField<F, D, S, F>, PackedExtField<F, D, S, Packed<F, N>>>>,
         row: Row<'_>,
     ) -> Result<Option<bool>, AllocError> {
-        counted_runs_agree::<F, ExtField<F, D, S, F>, PackedExtField<F, D, S, P>>(
+        counted_runs_agree::<F, ExtField<F, D, S, F>, PackedExtField<F, D, S, Packed<F, N>>>(
             alloc, vectors, row,
         )
     }
 }
 
-/// Calls on packings of this type of the values of F, which is an extension of itself.
-pub(crate) trait BaseCalls<F: PrimeCharacteristicRing>: Inhabited {
+/// Calls on packings of this type of the values of its lanes' field, which is an extension of itself.
+pub(crate) trait BaseCalls: Copy {
     /// The types that calls make values of.
     type BaseRooms: Drop;
 
@@ -113,14 +105,14 @@ pub(crate) trait BaseCalls<F: PrimeCharacteristicRing>: Inhabited {
     ) -> Result<Option<bool>, AllocError>;
 }
 
-impl<F: Field + Packable, P: PackedField<F> + Packing> BaseCalls<F> for P {
-    type BaseRooms = Rooms<F, F, P>;
+impl<F: Lanes<N>, const N: usize> BaseCalls for Packed<F, N> {
+    type BaseRooms = Rooms<F, F, Packed<F, N>>;
 
     fn base_agrees(
         alloc: Global,
-        rooms: Option<Rooms<F, F, P>>,
+        rooms: Option<Rooms<F, F, Packed<F, N>>>,
         row: Row<'_>,
     ) -> Result<Option<bool>, AllocError> {
-        row_agrees::<F, F, P>(alloc, rooms, row)
+        row_agrees::<F, F, Packed<F, N>>(alloc, rooms, row)
     }
 }
