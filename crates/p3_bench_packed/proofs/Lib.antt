@@ -1,1 +1,2 @@
 pub mod Interleaving
+mod LaneDotProducts

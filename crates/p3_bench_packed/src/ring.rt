@@ -1,6 +1,7 @@
 //! Packings as a ring, and as an algebra over the field of their lanes.
 ghost use Rattle.std.specs.Prelude.{◌≡◌};
 
+use crate::dot_products::packed_dot_product;
 use crate::packed::Packed;
 use p3_ring::accumulate::{product_from, sum_from};
 use p3_ring::ring::{Algebra, PrimeCharacteristicRing, RingSums};
@@ -97,6 +98,11 @@ impl<F: PrimeCharacteristicRing, const N: usize> PrimeCharacteristicRing for Pac
             value[i] = self.value[i].halve();
         }
         Self::new(value)
+    }
+
+    #[inline(always)]
+    fn dot_product(u: &[Self], v: &[Self]) -> Self {
+        packed_dot_product(u, v)
     }
 
     ghost ring = { row_laws packed_rows F.ops F.ring };

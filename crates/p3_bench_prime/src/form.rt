@@ -2,7 +2,7 @@ ghost use Rattle.std.specs.Prelude.{◌≡◌, ◌≤◌, ◌<◌, ◌+◌, ◌-
 ghost use Rattle.p3_bench_residues.specs.Forms.{IsForm};
 
 use crate::fp::Fp;
-use crate::short_sums::{ShortWord, sum_products};
+use crate::short_sums::{ShortWord, sum_products, sum_small_products};
 use p3_bench_residues::remainder::{remainder_by_reciprocal, remainder_of_sum};
 use p3_bench_residues::short_words::{add_words, halve_word, negate_word, subtract_words};
 use std::alloc::AllocError;
@@ -267,11 +267,16 @@ impl<M: Modulus> Form<u32> for Plain<M> {
         remainder_of_sum(words, M::ORDER)
     }
 
-    /// The sum of the products of the words, which is reduced once, at the end.
+    /// The sum of the products of the words, which is reduced once, at the end: in 32 bits where these
+    /// hold it.
     #[inline]
     fn dot_product(u: &[Fp<Self, u32>], v: &[Fp<Self, u32>]) -> u32 {
-        let sum = sum_products(u, v);
-        remainder_of_sum(sum, M::ORDER)
+        if M::ORDER < 0x8000 && u.len() <= 4 {
+            sum_small_products(u, v) % M::ORDER
+        } else {
+            let sum = sum_products(u, v);
+            remainder_of_sum(sum, M::ORDER)
+        }
     }
 }
 

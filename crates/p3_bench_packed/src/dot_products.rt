@@ -1,0 +1,99 @@
+//! Dot products of packings: of two to four positions at each lane one of the values there, of others
+//! product by product.
+ghost use Rattle.std.specs.Prelude.{◌≡◌, ◌<◌, length, map};
+ghost use Rattle.p3_theory.specs.Rings.DotProduct.{dot};
+ghost use Rattle.p3_theory.specs.Lanes.RowRing.{item, row_ops};
+ghost use Rattle.p3_bench_packed.specs.Values.{packed_rows};
+
+use crate::packed::Packed;
+use p3_ring::ring::PrimeCharacteristicRing;
+
+/// The values of K packings at a lane.
+#[inline]
+fn lane_values<F: PrimeCharacteristicRing, const N: usize, const K: usize>(
+    packings: &[Packed<F, N>],
+    lane: usize,
+) -> [F; K]
+    requires count { length packings.now ≡ K }
+    requires inside { lane < N }
+    ensures { result ≡ map (item packed_rows F.ops lane) packings.now }
+{
+    let mut values = [F::zero(); K];
+    for i in 0..K {
+        let packing = &packings[i];
+        values[i] = packing.value[lane];
+    }
+    values
+}
+
+/// The dot product of the values of K positions at a lane, by the lanes' own `dot_product`.
+#[inline]
+fn lane_dot_product<F: PrimeCharacteristicRing, const N: usize, const K: usize>(
+    u: &[Packed<F, N>],
+    v: &[Packed<F, N>],
+    lane: usize,
+) -> F
+    requires left { length u.now ≡ K }
+    requires right { length v.now ≡ K }
+    requires inside { lane < N }
+    ensures { result ≡ dot F.ops (map (item packed_rows F.ops lane) u.now) (map (item packed_rows F.ops lane) v.now) }
+{
+    let left = lane_values::<F, N, K>(u, lane);
+    let right = lane_values::<F, N, K>(v, lane);
+    F::dot_product(&left, &right)
+}
+
+/// The dot product of K packings and K others, lane by lane.
+#[inline]
+fn dot_by_lanes<F: PrimeCharacteristicRing, const N: usize, const K: usize>(
+    u: &[Packed<F, N>],
+    v: &[Packed<F, N>],
+) -> Packed<F, N>
+    requires left { length u.now ≡ K }
+    requires right { length v.now ≡ K }
+    ensures { result ≡ dot (row_ops packed_rows F.ops) u.now v.now }
+{
+    let mut value = [F::zero(); N];
+    for lane in 0..N {
+        value[lane] = lane_dot_product::<F, N, K>(u, v, lane);
+    }
+    Packed::new(value)
+}
+
+/// The dot product of two slices of packings that aren't empty, one product after the other.
+#[inline]
+fn dot_by_products<F: PrimeCharacteristicRing, const N: usize>(
+    u: &[Packed<F, N>],
+    v: &[Packed<F, N>],
+) -> Packed<F, N>
+    requires some { 0 < length u.now }
+    requires lengths { length u.now ≡ length v.now }
+    ensures { result ≡ dot (row_ops packed_rows F.ops) u.now v.now }
+{
+    let mut sum = u[0] * v[0];
+    for i in 1..u.len() {
+        let product = u[i] * v[i];
+        sum = sum + product;
+    }
+    sum
+}
+
+/// The dot product of two slices of packings. Of the few positions that the formulas of extensions have a
+/// type reduces the sum of their products once, and so it does at each lane. It is taken into each caller,
+/// where the number of positions is known.
+#[inline(always)]
+pub(crate) fn packed_dot_product<F: PrimeCharacteristicRing, const N: usize>(
+    u: &[Packed<F, N>],
+    v: &[Packed<F, N>],
+) -> Packed<F, N>
+    requires { length u.now ≡ length v.now }
+    ensures { result ≡ dot (row_ops packed_rows F.ops) u.now v.now }
+{
+    match u.len() {
+        0 => dot_by_lanes::<F, N, 0>(u, v),
+        2 => dot_by_lanes::<F, N, 2>(u, v),
+        3 => dot_by_lanes::<F, N, 3>(u, v),
+        4 => dot_by_lanes::<F, N, 4>(u, v),
+        _ => dot_by_products(u, v),
+    }
+}
