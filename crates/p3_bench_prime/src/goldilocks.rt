@@ -21,20 +21,23 @@ pub struct GoldilocksForm;
 /// A residue modulo 2^64 - 2^32 + 1. Upstream's `Goldilocks`.
 pub type Goldilocks = Fp<GoldilocksForm, u64>;
 
-/// The sums of the low and of the high 64 bits of the products, position by position.
+/// The sum of the products, position by position: its low 128 bits, and how often these were carried
+/// over.
 #[inline]
-fn sum_product_halves(u: &[Goldilocks], v: &[Goldilocks]) -> (u128, u128)
+fn sum_with_carries(u: &[Goldilocks], v: &[Goldilocks]) -> (u128, u64)
     requires { length u.now ≡ length v.now }
-    ensures { result.0 + 2 ^ 64 * result.1 ≡ sum_of_products word_number u.now v.now }
+    ensures { result.0 + 2 ^ 128 * result.1 ≡ sum_of_products word_number u.now v.now }
 {
     let mut low = 0u128;
-    let mut high = 0u128;
+    let mut carries = 0u64;
     for i in 0..u.len() {
         let product = u[i].word as u128 * v[i].word as u128;
-        low += product & 0xffff_ffff_ffff_ffff;
-        high += product >> 64;
+        let (sum, carried) = low.overflowing_add(product);
+        low = sum;
+        let carry = if carried { 1 } else { 0 };
+        carries += carry;
     }
-    (low, high)
+    (low, carries)
 }
 
 impl Form<u64> for GoldilocksForm {
@@ -119,8 +122,8 @@ impl Form<u64> for GoldilocksForm {
     /// The sum of the products of the words, which is reduced once, at the end.
     #[inline]
     fn dot_product(u: &[Goldilocks], v: &[Goldilocks]) -> u64 {
-        let (low, high) = sum_product_halves(u, v);
-        reduce_halves(low, high)
+        let (low, carries) = sum_with_carries(u, v);
+        reduce_halves(low, carries as u128 * 0x1_0000_0000_0000_0000)
     }
 }
 

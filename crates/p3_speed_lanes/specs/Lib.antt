@@ -1,1 +1,2 @@
 pub mod Inversions
+pub mod Rounds

@@ -1,11 +1,10 @@
 use Rattle.std.proofs.Common.{◌≡◌, ◌≤◌, ◌+◌, ◌*◌, ◌^◌, drop}
 use Rattle.p3_bench_prime.specs.Elements.{word_number}
 use Rattle.p3_theory.specs.ResidueRings.SumsOfProducts.{sum_of_products}
-use Rattle.p3_bench_prime.proofs.goldilocks.sum_product_halves.Given as goal
+use Rattle.p3_bench_prime.proofs.goldilocks.sum_with_carries.Given as goal
 
 abbrev pub invariant-loop-i : goal.invariant-loop-i
 invariant-loop-i l = record {
-  low_bound : l.low ≤ l.i * 2 ^ 64;
-  high_bound : l.high ≤ l.i * 2 ^ 64;
-  whole : l.low + 2 ^ 64 * l.high + sum_of_products word_number (drop l.i l.u) (drop l.i l.v) ≡ sum_of_products word_number l.u l.v;
+  few : l.carries ≤ l.i;
+  whole : l.low + 2 ^ 128 * l.carries + sum_of_products word_number (drop l.i l.u) (drop l.i l.v) ≡ sum_of_products word_number l.u l.v;
 }
