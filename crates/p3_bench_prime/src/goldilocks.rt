@@ -1,5 +1,5 @@
 //! The residues modulo 2^64 - 2^32 + 1, with all that the field owes as numbers.
-ghost use Rattle.std.specs.Prelude.{◌≡◌, ◌+◌, ◌*◌, ◌^◌, length, refl};
+ghost use Rattle.std.specs.Prelude.{◌≡◌, ◌≤◌, ◌<◌, ◌+◌, ◌*◌, ◌^◌, length, refl};
 ghost use Rattle.p3_theory.specs.ResidueRings.SumsOfProducts.{sum_of_products};
 ghost use Rattle.p3_bench_prime.specs.Elements.{word_number};
 
@@ -21,6 +21,18 @@ pub struct GoldilocksForm;
 /// A residue modulo 2^64 - 2^32 + 1. Upstream's `Goldilocks`.
 pub type Goldilocks = Fp<GoldilocksForm, u64>;
 
+/// Adds a product to a sum of 128 bits and the count of its carries.
+#[inline]
+fn add_with_carry(product: u128, low: u128, carries: u64) -> (u128, u64)
+    requires { carries + 1 < 2 ^ 64 }
+    ensures sum { result.0 + 2 ^ 128 * result.1 ≡ low + 2 ^ 128 * carries + product }
+    ensures few { result.1 ≤ carries + 1 }
+{
+    let (sum, carried) = low.overflowing_add(product);
+    let carry = if carried { 1 } else { 0 };
+    (sum, carries + carry)
+}
+
 /// The sum of the products, position by position: its low 128 bits, and how often these were carried
 /// over.
 #[inline]
@@ -32,10 +44,9 @@ fn sum_with_carries(u: &[Goldilocks], v: &[Goldilocks]) -> (u128, u64)
     let mut carries = 0u64;
     for i in 0..u.len() {
         let product = u[i].word as u128 * v[i].word as u128;
-        let (sum, carried) = low.overflowing_add(product);
-        low = sum;
-        let carry = if carried { 1 } else { 0 };
-        carries += carry;
+        let added = add_with_carry(product, low, carries);
+        low = added.0;
+        carries = added.1;
     }
     (low, carries)
 }
