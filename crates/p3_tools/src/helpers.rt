@@ -56,18 +56,29 @@ fn scale_entries<F: Field>(slice: &mut [F], s: F)
     }
 }
 
+/// Multiplies each entry of the slice by `s`, in packings by one that has `s` in all lanes, and the rest
+/// entry by entry. It isn't taken into its callers: where the compiler sees that all lanes of a factor are
+/// one value, it takes products in Montgomery's form out of the vectors. This project's own.
+#[inline(never)]
+fn scale_by_packing<F: Field, P: PackedField<F>>(slice: &mut [F], factor: P, s: F)
+    requires { factor ≡ P.embed s }
+    ensures { slice.new ≡ map (λ x. F.ops.mul x s) slice.old }
+{
+    let groups = slice.len() / P::WIDTH;
+    for i in 0..groups {
+        let product = P::load_block(slice, i) * factor;
+        product.store_block(slice, i);
+    }
+    scale_entries(&mut slice[groups * P::WIDTH..], s);
+}
+
 /// Multiplies each entry of the slice by `s`, in packings and the rest entry by entry. Upstream's
 /// `scale_slice_in_place_single_core`.
 #[inline]
 pub fn scale_slice_in_place_single_core<F: Field, P: PackedField<F>>(slice: &mut [F], s: F)
     ensures { slice.new ≡ map (λ x. F.ops.mul x s) slice.old }
 {
-    let groups = slice.len() / P::WIDTH;
-    for i in 0..groups {
-        let product = P::load_block(slice, i) * s;
-        product.store_block(slice, i);
-    }
-    scale_entries(&mut slice[groups * P::WIDTH..], s);
+    scale_by_packing::<F, P>(slice, P::from(s), s);
 }
 
 /// The same, under upstream's name for the work of several threads: a plain loop in order.

@@ -1,5 +1,5 @@
 use Rattle.std.proofs.Common.{◌≡◌, ◌++◌, ◌*◌, length, map, take, drop}
-use Rattle.p3_tools.proofs.helpers.scale_slice_in_place_single_core.Given as goal
+use Rattle.p3_tools.proofs.helpers.scale_by_packing.Given as goal
 
 abbrev pub invariant-loop-i : goal.invariant-loop-i
 invariant-loop-i g l =
