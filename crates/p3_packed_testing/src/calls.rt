@@ -1,7 +1,7 @@
 //! The calls of the tables over the extensions of the bench. The functions that choose the number of lanes
 //! are generic over the marker of a field: a test then passes the field's constants alone.
-use crate::extension_calls::{BaseCalls, PackedCalls, PackedRuns};
-use crate::rows::{Row, word};
+use crate::extension_calls::{BaseCalls, PackedCalls};
+use crate::rows::Row;
 use crate::{
     call_tables as tables, columnwise_tables as columnwise, lane_run_tables as runs,
     operation_tables as operations,
@@ -25,9 +25,15 @@ fn over_quadratic<W: BinomialConstants<2>>(
     row: Row<'_>,
 ) -> Result<Option<bool>, AllocError> {
     match row.lanes {
-        "1" => { <Packed<Fp<W>, 1> as PackedCalls<Binomial<Fp<W>>, 2>>::agrees(alloc, None, row) }
-        "4" => { <Packed<Fp<W>, 4> as PackedCalls<Binomial<Fp<W>>, 2>>::agrees(alloc, None, row) }
-        "8" => { <Packed<Fp<W>, 8> as PackedCalls<Binomial<Fp<W>>, 2>>::agrees(alloc, None, row) }
+        "1" => {
+            <Packed<Fp<W>, 1> as PackedCalls<Binomial<Fp<W>>, 2>>::agrees(alloc, None, None, row)
+        }
+        "4" => {
+            <Packed<Fp<W>, 4> as PackedCalls<Binomial<Fp<W>>, 2>>::agrees(alloc, None, None, row)
+        }
+        "8" => {
+            <Packed<Fp<W>, 8> as PackedCalls<Binomial<Fp<W>>, 2>>::agrees(alloc, None, None, row)
+        }
         _ => Ok(None),
     }
 }
@@ -38,9 +44,15 @@ fn over_quartic<W: BinomialConstants<4>>(
     row: Row<'_>,
 ) -> Result<Option<bool>, AllocError> {
     match row.lanes {
-        "1" => { <Packed<Fp<W>, 1> as PackedCalls<Binomial<Fp<W>>, 4>>::agrees(alloc, None, row) }
-        "4" => { <Packed<Fp<W>, 4> as PackedCalls<Binomial<Fp<W>>, 4>>::agrees(alloc, None, row) }
-        "8" => { <Packed<Fp<W>, 8> as PackedCalls<Binomial<Fp<W>>, 4>>::agrees(alloc, None, row) }
+        "1" => {
+            <Packed<Fp<W>, 1> as PackedCalls<Binomial<Fp<W>>, 4>>::agrees(alloc, None, None, row)
+        }
+        "4" => {
+            <Packed<Fp<W>, 4> as PackedCalls<Binomial<Fp<W>>, 4>>::agrees(alloc, None, None, row)
+        }
+        "8" => {
+            <Packed<Fp<W>, 8> as PackedCalls<Binomial<Fp<W>>, 4>>::agrees(alloc, None, None, row)
+        }
         _ => Ok(None),
     }
 }
@@ -51,9 +63,9 @@ fn over_cubic<W: TrinomialConstants<3, CubicTrinomial>>(
     row: Row<'_>,
 ) -> Result<Option<bool>, AllocError> {
     match row.lanes {
-        "1" => <Packed<Fp<W>, 1> as PackedCalls<CubicTrinomial, 3>>::agrees(alloc, None, row),
-        "4" => <Packed<Fp<W>, 4> as PackedCalls<CubicTrinomial, 3>>::agrees(alloc, None, row),
-        "8" => <Packed<Fp<W>, 8> as PackedCalls<CubicTrinomial, 3>>::agrees(alloc, None, row),
+        "1" => <Packed<Fp<W>, 1> as PackedCalls<CubicTrinomial, 3>>::agrees(alloc, None, None, row),
+        "4" => <Packed<Fp<W>, 4> as PackedCalls<CubicTrinomial, 3>>::agrees(alloc, None, None, row),
+        "8" => <Packed<Fp<W>, 8> as PackedCalls<CubicTrinomial, 3>>::agrees(alloc, None, None, row),
         _ => Ok(None),
     }
 }
@@ -64,9 +76,15 @@ fn over_quintic<W: TrinomialConstants<5, QuinticTrinomial>>(
     row: Row<'_>,
 ) -> Result<Option<bool>, AllocError> {
     match row.lanes {
-        "1" => { <Packed<Fp<W>, 1> as PackedCalls<QuinticTrinomial, 5>>::agrees(alloc, None, row) }
-        "4" => { <Packed<Fp<W>, 4> as PackedCalls<QuinticTrinomial, 5>>::agrees(alloc, None, row) }
-        "8" => { <Packed<Fp<W>, 8> as PackedCalls<QuinticTrinomial, 5>>::agrees(alloc, None, row) }
+        "1" => {
+            <Packed<Fp<W>, 1> as PackedCalls<QuinticTrinomial, 5>>::agrees(alloc, None, None, row)
+        }
+        "4" => {
+            <Packed<Fp<W>, 4> as PackedCalls<QuinticTrinomial, 5>>::agrees(alloc, None, None, row)
+        }
+        "8" => {
+            <Packed<Fp<W>, 8> as PackedCalls<QuinticTrinomial, 5>>::agrees(alloc, None, None, row)
+        }
         _ => Ok(None),
     }
 }
@@ -81,68 +99,11 @@ fn over_base<W: Form<u32>>(alloc: Global, row: Row<'_>) -> Result<Option<bool>, 
     }
 }
 
-/// A row's run over vectors of packings of 4 or 8 values of the extension by `X^2 = W`.
-fn runs_over_quadratic<W: BinomialConstants<2>>(
-    alloc: Global,
-    row: Row<'_>,
-) -> Result<Option<bool>, AllocError> {
-    match row.lanes {
-        "4" => {
-            <Packed<Fp<W>, 4> as PackedRuns<Binomial<Fp<W>>, 2>>::runs_agree(alloc, None, row)
-        }
-        "8" => {
-            <Packed<Fp<W>, 8> as PackedRuns<Binomial<Fp<W>>, 2>>::runs_agree(alloc, None, row)
-        }
-        _ => Ok(None),
-    }
-}
-
-/// The same of the extension by `X^4 = W`.
-fn runs_over_quartic<W: BinomialConstants<4>>(
-    alloc: Global,
-    row: Row<'_>,
-) -> Result<Option<bool>, AllocError> {
-    match row.lanes {
-        "4" => {
-            <Packed<Fp<W>, 4> as PackedRuns<Binomial<Fp<W>>, 4>>::runs_agree(alloc, None, row)
-        }
-        "8" => {
-            <Packed<Fp<W>, 8> as PackedRuns<Binomial<Fp<W>>, 4>>::runs_agree(alloc, None, row)
-        }
-        _ => Ok(None),
-    }
-}
-
-/// The same of the extension by `X^3 = X + 1`.
-fn runs_over_cubic<W: TrinomialConstants<3, CubicTrinomial>>(
-    alloc: Global,
-    row: Row<'_>,
-) -> Result<Option<bool>, AllocError> {
-    match row.lanes {
-        "4" => { <Packed<Fp<W>, 4> as PackedRuns<CubicTrinomial, 3>>::runs_agree(alloc, None, row) }
-        "8" => { <Packed<Fp<W>, 8> as PackedRuns<CubicTrinomial, 3>>::runs_agree(alloc, None, row) }
-        _ => Ok(None),
-    }
-}
-
-/// Whether a row's run has its registers after; `Ok(None)` where there is none.
-fn run_agrees(alloc: Global, row: Row<'_>) -> Result<Option<bool>, AllocError> {
-    match row.field {
-        "f17x2" => runs_over_quadratic::<Plain<M17>>(alloc, row),
-        "f31t3" => runs_over_cubic::<Plain<M31>>(alloc, row),
-        "bbx4" => runs_over_quartic::<Montgomery<BabyBearModulus>>(alloc, row),
-        _ => Ok(None),
-    }
-}
-
 /// Whether the call of a line has its answer; `Ok(None)` where the line can't be read or names no call.
 fn agrees(alloc: Global, line: &str) -> Result<Option<bool>, AllocError> {
     let Some(row) = Row::read(line) else {
         return Ok(None);
     };
-    if word(row.call, 0) == "run_lane_steps" {
-        return run_agrees(alloc, row);
-    }
     match row.field {
         "f17" => over_base::<Plain<M17>>(alloc, row),
         "f17x2" => over_quadratic::<Plain<M17>>(alloc, row),

@@ -24,11 +24,15 @@ pub(crate) trait PackedCalls<S, const D: usize>: Copy {
     /// The types that calls make values of. Of an associated type it is known that its values have room.
     type Rooms: Drop;
 
-    /// `row_agrees` over packings of this type, and its quotients, sums and products. Nothing is read of
-    /// `rooms`.
+    /// Vectors of one to three packings.
+    type Vectors: Copy;
+
+    /// `row_agrees` over packings of this type, and its quotients, sums and products, and runs over vectors
+    /// of them. Nothing is read of `rooms` and `vectors`.
     fn agrees(
         alloc: Global,
         rooms: Option<Self::Rooms>,
+        vectors: Option<Self::Vectors>,
         row: Row<'_>,
     ) -> Result<Option<bool>, AllocError>;
 }
@@ -41,11 +45,21 @@ impl<
 > PackedCalls<S, D> for Packed<F, N> {
     type Rooms = ExtensionRooms<F, S, Packed<F, N>, D>;
 
+    type Vectors = Vectors<F, ExtField<F, D, S, F>, PackedExtField<F, D, S, Packed<F, N>>>;
+
     fn agrees(
         alloc: Global,
         rooms: Option<ExtensionRooms<F, S, Packed<F, N>, D>>,
+        vectors: Option<Vectors<F, ExtField<F, D, S, F>, PackedExtField<F, D, S, Packed<F, N>>>>,
         row: Row<'_>,
     ) -> Result<Option<bool>, AllocError> {
+        if word(row.call, 0) == "run_lane_steps" {
+            return counted_runs_agree::<
+                F,
+                ExtField<F, D, S, F>,
+                PackedExtField<F, D, S, Packed<F, N>>,
+            >(alloc, vectors, row);
+        }
         match word(row.call, 1) {
             "div" => Ok(quotient_agrees::<F, S, Packed<F, N>, D>(rooms, row)),
             "sum" | "product" => {
@@ -57,38 +71,6 @@ impl<
                 alloc, rooms, row,
             ),
         }
-    }
-}
-
-/// Runs over vectors of packings of this type of the values of an extension of its lanes' field.
-pub(crate) trait PackedRuns<S, const D: usize>: Copy {
-    /// Vectors of one to three packings.
-    type Vectors: Copy;
-
-    /// `counted_runs_agree` over packings of this type. Nothing is read of `vectors`.
-    fn runs_agree(
-        alloc: Global,
-        vectors: Option<Self::Vectors>,
-        row: Row<'_>,
-    ) -> Result<Option<bool>, AllocError>;
-}
-
-impl<
-    F: FrobeniusExtendable<D, S> + ExtensionOverAlgebra<Packed<F, N>, D, S> + Lanes<N>,
-    S: ExtensionShape,
-    const D: usize,
-    const N: usize,
-> PackedRuns<S, D> for Packed<F, N> {
-    type Vectors = Vectors<F, ExtField<F, D, S, F>, PackedExtField<F, D, S, Packed<F, N>>>;
-
-    fn runs_agree(
-        alloc: Global,
-        vectors: Option<Vectors<F, ExtField<F, D, S, F>, PackedExtField<F, D, S, Packed<F, N>>>>,
-        row: Row<'_>,
-    ) -> Result<Option<bool>, AllocError> {
-        counted_runs_agree::<F, ExtField<F, D, S, F>, PackedExtField<F, D, S, Packed<F, N>>>(
-            alloc, vectors, row,
-        )
     }
 }
 
