@@ -1,8 +1,8 @@
-//! Order, hash and default of extension values, and their texts.
+//! Order, hash and default of extension values, and calls on lists of them, at one type.
 
 use p3_bench_prime::extensions::{F17x2, F17x4};
 use p3_bench_prime::small::F17;
-use p3_field::Packable;
+use p3_field::{BasedVectorSpace, Packable, PrimeField64};
 use std::alloc::{AllocError, Global};
 use std::collections::hash_map::DefaultHasher;
 use std::hash::{Hash, Hasher};
@@ -40,6 +40,11 @@ fn values_of_one_type(rt: HostRuntime) -> Result<(), Fail> {
     assert!(rt; !text.is_empty());
     let pair = F17x4::new_array([residues([1, 2, 3, 4]), residues([5, 6, 7, 8])]);
     assert!(rt; pair[1] == y);
+    let values = Vec::from_slice(rt.alloc(), &[x, y])?;
+    let flat: Vec<F17> = F17x4::flatten_to_base(rt.alloc(), values)?;
+    assert!(rt; flat.as_slice() == residues([1, 2, 3, 4, 5, 6, 7, 8]).as_slice());
+    let back: Vec<F17x4> = F17x4::reconstitute_from_base(rt.alloc(), flat)?;
+    assert!(rt; back.as_slice() == [x, y].as_slice());
     Ok(())
 }
 
