@@ -1,7 +1,7 @@
 //! The calls of the tables over the extensions of the bench. The functions that choose the number of lanes
 //! are generic over the marker of a field: a test then passes the field's constants alone.
-use crate::extension_calls::{BaseCalls, PackedCalls};
-use crate::rows::Row;
+use crate::extension_calls::{BaseCalls, PackedCalls, PackedRuns};
+use crate::rows::{Row, word};
 use crate::{
     call_tables as tables, columnwise_tables as columnwise, lane_run_tables as runs,
     operation_tables as operations,
@@ -26,13 +26,13 @@ fn over_quadratic<W: BinomialConstants<2>>(
 ) -> Result<Option<bool>, AllocError> {
     match row.lanes {
         "1" => {
-            <Packed<Fp<W>, 1> as PackedCalls<Binomial<Fp<W>>, 2>>::agrees(alloc, None, None, row)
+            <Packed<Fp<W>, 1> as PackedCalls<Fp<W>, Binomial<Fp<W>>, 2>>::agrees(alloc, None, row)
         }
         "4" => {
-            <Packed<Fp<W>, 4> as PackedCalls<Binomial<Fp<W>>, 2>>::agrees(alloc, None, None, row)
+            <Packed<Fp<W>, 4> as PackedCalls<Fp<W>, Binomial<Fp<W>>, 2>>::agrees(alloc, None, row)
         }
         "8" => {
-            <Packed<Fp<W>, 8> as PackedCalls<Binomial<Fp<W>>, 2>>::agrees(alloc, None, None, row)
+            <Packed<Fp<W>, 8> as PackedCalls<Fp<W>, Binomial<Fp<W>>, 2>>::agrees(alloc, None, row)
         }
         _ => Ok(None),
     }
@@ -45,13 +45,13 @@ fn over_quartic<W: BinomialConstants<4>>(
 ) -> Result<Option<bool>, AllocError> {
     match row.lanes {
         "1" => {
-            <Packed<Fp<W>, 1> as PackedCalls<Binomial<Fp<W>>, 4>>::agrees(alloc, None, None, row)
+            <Packed<Fp<W>, 1> as PackedCalls<Fp<W>, Binomial<Fp<W>>, 4>>::agrees(alloc, None, row)
         }
         "4" => {
-            <Packed<Fp<W>, 4> as PackedCalls<Binomial<Fp<W>>, 4>>::agrees(alloc, None, None, row)
+            <Packed<Fp<W>, 4> as PackedCalls<Fp<W>, Binomial<Fp<W>>, 4>>::agrees(alloc, None, row)
         }
         "8" => {
-            <Packed<Fp<W>, 8> as PackedCalls<Binomial<Fp<W>>, 4>>::agrees(alloc, None, None, row)
+            <Packed<Fp<W>, 8> as PackedCalls<Fp<W>, Binomial<Fp<W>>, 4>>::agrees(alloc, None, row)
         }
         _ => Ok(None),
     }
@@ -63,9 +63,15 @@ fn over_cubic<W: TrinomialConstants<3, CubicTrinomial>>(
     row: Row<'_>,
 ) -> Result<Option<bool>, AllocError> {
     match row.lanes {
-        "1" => <Packed<Fp<W>, 1> as PackedCalls<CubicTrinomial, 3>>::agrees(alloc, None, None, row),
-        "4" => <Packed<Fp<W>, 4> as PackedCalls<CubicTrinomial, 3>>::agrees(alloc, None, None, row),
-        "8" => <Packed<Fp<W>, 8> as PackedCalls<CubicTrinomial, 3>>::agrees(alloc, None, None, row),
+        "1" => <Packed<Fp<W>, 1> as PackedCalls<Fp<W>, CubicTrinomial, 3>>::agrees(
+            alloc, None, row,
+        ),
+        "4" => <Packed<Fp<W>, 4> as PackedCalls<Fp<W>, CubicTrinomial, 3>>::agrees(
+            alloc, None, row,
+        ),
+        "8" => <Packed<Fp<W>, 8> as PackedCalls<Fp<W>, CubicTrinomial, 3>>::agrees(
+            alloc, None, row,
+        ),
         _ => Ok(None),
     }
 }
@@ -77,13 +83,13 @@ fn over_quintic<W: TrinomialConstants<5, QuinticTrinomial>>(
 ) -> Result<Option<bool>, AllocError> {
     match row.lanes {
         "1" => {
-            <Packed<Fp<W>, 1> as PackedCalls<QuinticTrinomial, 5>>::agrees(alloc, None, None, row)
+            <Packed<Fp<W>, 1> as PackedCalls<Fp<W>, QuinticTrinomial, 5>>::agrees(alloc, None, row)
         }
         "4" => {
-            <Packed<Fp<W>, 4> as PackedCalls<QuinticTrinomial, 5>>::agrees(alloc, None, None, row)
+            <Packed<Fp<W>, 4> as PackedCalls<Fp<W>, QuinticTrinomial, 5>>::agrees(alloc, None, row)
         }
         "8" => {
-            <Packed<Fp<W>, 8> as PackedCalls<QuinticTrinomial, 5>>::agrees(alloc, None, None, row)
+            <Packed<Fp<W>, 8> as PackedCalls<Fp<W>, QuinticTrinomial, 5>>::agrees(alloc, None, row)
         }
         _ => Ok(None),
     }
@@ -92,9 +98,75 @@ fn over_quintic<W: TrinomialConstants<5, QuinticTrinomial>>(
 /// The same of the field itself, which is an extension of its own.
 fn over_base<W: Form<u32>>(alloc: Global, row: Row<'_>) -> Result<Option<bool>, AllocError> {
     match row.lanes {
-        "1" => <Packed<Fp<W>, 1> as BaseCalls>::base_agrees(alloc, None, row),
-        "4" => <Packed<Fp<W>, 4> as BaseCalls>::base_agrees(alloc, None, row),
-        "8" => <Packed<Fp<W>, 8> as BaseCalls>::base_agrees(alloc, None, row),
+        "1" => <Packed<Fp<W>, 1> as BaseCalls<Fp<W>>>::base_agrees(alloc, None, row),
+        "4" => <Packed<Fp<W>, 4> as BaseCalls<Fp<W>>>::base_agrees(alloc, None, row),
+        "8" => <Packed<Fp<W>, 8> as BaseCalls<Fp<W>>>::base_agrees(alloc, None, row),
+        _ => Ok(None),
+    }
+}
+
+/// A row's run over vectors of packings of 4 or 8 values of the extension by `X^2 = W`.
+fn runs_over_quadratic<W: BinomialConstants<2>>(
+    alloc: Global,
+    row: Row<'_>,
+) -> Result<Option<bool>, AllocError> {
+    match row.lanes {
+        "4" => {
+            <Packed<Fp<W>, 4> as PackedRuns<Fp<W>, Binomial<Fp<W>>, 2>>::runs_agree(
+                alloc, None, row,
+            )
+        }
+        "8" => {
+            <Packed<Fp<W>, 8> as PackedRuns<Fp<W>, Binomial<Fp<W>>, 2>>::runs_agree(
+                alloc, None, row,
+            )
+        }
+        _ => Ok(None),
+    }
+}
+
+/// The same of the extension by `X^4 = W`.
+fn runs_over_quartic<W: BinomialConstants<4>>(
+    alloc: Global,
+    row: Row<'_>,
+) -> Result<Option<bool>, AllocError> {
+    match row.lanes {
+        "4" => {
+            <Packed<Fp<W>, 4> as PackedRuns<Fp<W>, Binomial<Fp<W>>, 4>>::runs_agree(
+                alloc, None, row,
+            )
+        }
+        "8" => {
+            <Packed<Fp<W>, 8> as PackedRuns<Fp<W>, Binomial<Fp<W>>, 4>>::runs_agree(
+                alloc, None, row,
+            )
+        }
+        _ => Ok(None),
+    }
+}
+
+/// The same of the extension by `X^3 = X + 1`.
+fn runs_over_cubic<W: TrinomialConstants<3, CubicTrinomial>>(
+    alloc: Global,
+    row: Row<'_>,
+) -> Result<Option<bool>, AllocError> {
+    match row.lanes {
+        "4" => {
+            <Packed<Fp<W>, 4> as PackedRuns<Fp<W>, CubicTrinomial, 3>>::runs_agree(alloc, None, row)
+        }
+        "8" => {
+            <Packed<Fp<W>, 8> as PackedRuns<Fp<W>, CubicTrinomial, 3>>::runs_agree(alloc, None, row)
+        }
+        _ => Ok(None),
+    }
+}
+
+/// Whether a row's run has its registers after; `Ok(None)` where there is none.
+fn run_agrees(alloc: Global, row: Row<'_>) -> Result<Option<bool>, AllocError> {
+    match row.field {
+        "f17x2" => runs_over_quadratic::<Plain<M17>>(alloc, row),
+        "f31t3" => runs_over_cubic::<Plain<M31>>(alloc, row),
+        "bbx4" => runs_over_quartic::<Montgomery<BabyBearModulus>>(alloc, row),
         _ => Ok(None),
     }
 }
@@ -104,6 +176,9 @@ fn agrees(alloc: Global, line: &str) -> Result<Option<bool>, AllocError> {
     let Some(row) = Row::read(line) else {
         return Ok(None);
     };
+    if word(row.call, 0) == "run_lane_steps" {
+        return run_agrees(alloc, row);
+    }
     match row.field {
         "f17" => over_base::<Plain<M17>>(alloc, row),
         "f17x2" => over_quadratic::<Plain<M17>>(alloc, row),

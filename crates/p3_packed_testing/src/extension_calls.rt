@@ -1,14 +1,16 @@
-//! Calls on packings of N values of an extension of F, implemented once for all fields and all N.
+//! Calls on packings P of values of an extension of F, implemented once for all packings.
 use crate::column_calls::Rooms;
 use crate::lane_runs::{Vectors, counted_runs_agree};
 use crate::operation_calls::total_agrees;
 use crate::quotient_calls::quotient_agrees;
 use crate::row_calls::row_agrees;
 use crate::rows::{Row, word};
-use p3_bench_packed::lanes::Lanes;
-use p3_bench_packed::packed::Packed;
+use p3_base::field::Field;
+use p3_base::packed_traits::{Inhabited, Packable, PackedField};
 use p3_ext::extension::{ExtField, ExtensionOverAlgebra, ExtensionShape, FrobeniusExtendable};
-use p3_packed::packed_ext_field::PackedExtField;
+use p3_packed::holds_scalar::HoldsScalar;
+use p3_packed::packed_ext_field::{PackedExtField, Packing};
+use p3_ring::ring::PrimeCharacteristicRing;
 use std::alloc::{AllocError, Global};
 
 /// The types that calls on packings P of values of an extension of F make values of.
@@ -18,64 +20,88 @@ pub(crate) type ExtensionRooms<F, S, P, const D: usize> = Rooms<
     PackedExtField<F, D, S, P>,
 >;
 
-/// Calls on packings of this type of the values of an extension of its lanes' field. A call at a packing's
-/// own name passes that the field has so many lanes, and not what the packing has by that.
-pub(crate) trait PackedCalls<S, const D: usize>: Copy {
+/// Calls on packings of this type of the values of an extension of F: a call at a packing's own name passes
+/// the traits of the field and of the packing once.
+pub(crate) trait PackedCalls<
+    F: PrimeCharacteristicRing,
+    S: ExtensionShape,
+    const D: usize,
+>: Inhabited {
     /// The types that calls make values of. Of an associated type it is known that its values have room.
     type Rooms: Drop;
 
-    /// Vectors of one to three packings.
-    type Vectors: Copy;
-
-    /// `row_agrees` over packings of this type, and its quotients, sums and products, and runs over vectors
-    /// of them. Nothing is read of `rooms` and `vectors`.
+    /// `row_agrees` over packings of this type, and its quotients, sums and products. Nothing is read of
+    /// `rooms`.
     fn agrees(
         alloc: Global,
         rooms: Option<Self::Rooms>,
-        vectors: Option<Self::Vectors>,
         row: Row<'_>,
     ) -> Result<Option<bool>, AllocError>;
 }
 
 impl<
-    F: FrobeniusExtendable<D, S> + ExtensionOverAlgebra<Packed<F, N>, D, S> + Lanes<N>,
+    F: FrobeniusExtendable<D, S> + ExtensionOverAlgebra<P, D, S> + Packable,
     S: ExtensionShape,
+    P: PackedField<F> + HoldsScalar<F>,
     const D: usize,
-    const N: usize,
-> PackedCalls<S, D> for Packed<F, N> {
-    type Rooms = ExtensionRooms<F, S, Packed<F, N>, D>;
-
-    type Vectors = Vectors<F, ExtField<F, D, S, F>, PackedExtField<F, D, S, Packed<F, N>>>;
+> PackedCalls<F, S, D> for P {
+    type Rooms = ExtensionRooms<F, S, P, D>;
 
     fn agrees(
         alloc: Global,
-        rooms: Option<ExtensionRooms<F, S, Packed<F, N>, D>>,
-        vectors: Option<Vectors<F, ExtField<F, D, S, F>, PackedExtField<F, D, S, Packed<F, N>>>>,
+        rooms: Option<ExtensionRooms<F, S, P, D>>,
         row: Row<'_>,
     ) -> Result<Option<bool>, AllocError> {
-        if word(row.call, 0) == "run_lane_steps" {
-            return counted_runs_agree::<
-                F,
-                ExtField<F, D, S, F>,
-                PackedExtField<F, D, S, Packed<F, N>>,
-            >(alloc, vectors, row);
-        }
         match word(row.call, 1) {
-            "div" => Ok(quotient_agrees::<F, S, Packed<F, N>, D>(rooms, row)),
+            "div" => Ok(quotient_agrees::<F, S, P, D>(rooms, row)),
             "sum" | "product" => {
-                total_agrees::<F, ExtField<F, D, S, F>, PackedExtField<F, D, S, Packed<F, N>>>(
-                    alloc, row,
-                )
+                total_agrees::<F, ExtField<F, D, S, F>, PackedExtField<F, D, S, P>>(alloc, row)
             }
-            _ => row_agrees::<F, ExtField<F, D, S, F>, PackedExtField<F, D, S, Packed<F, N>>>(
+            _ => row_agrees::<F, ExtField<F, D, S, F>, PackedExtField<F, D, S, P>>(
                 alloc, rooms, row,
             ),
         }
     }
 }
 
-/// Calls on packings of this type of the values of its lanes' field, which is an extension of itself.
-pub(crate) trait BaseCalls: Copy {
+/// Runs over vectors of packings of this type of the values of an extension of F.
+pub(crate) trait PackedRuns<
+    F: PrimeCharacteristicRing,
+    S: ExtensionShape,
+    const D: usize,
+>: Inhabited {
+    /// Vectors of one to three packings.
+    type Vectors: Copy;
+
+    /// `counted_runs_agree` over packings of this type. Nothing is read of `vectors`.
+    fn runs_agree(
+        alloc: Global,
+        vectors: Option<Self::Vectors>,
+        row: Row<'_>,
+    ) -> Result<Option<bool>, AllocError>;
+}
+
+impl<
+    F: FrobeniusExtendable<D, S> + ExtensionOverAlgebra<P, D, S> + Packable,
+    S: ExtensionShape,
+    P: PackedField<F> + Packing,
+    const D: usize,
+> PackedRuns<F, S, D> for P {
+    type Vectors = Vectors<F, ExtField<F, D, S, F>, PackedExtField<F, D, S, P>>;
+
+    fn runs_agree(
+        alloc: Global,
+        vectors: Option<Vectors<F, ExtField<F, D, S, F>, PackedExtField<F, D, S, P>>>,
+        row: Row<'_>,
+    ) -> Result<Option<bool>, AllocError> {
+        counted_runs_agree::<F, ExtField<F, D, S, F>, PackedExtField<F, D, S, P>>(
+            alloc, vectors, row,
+        )
+    }
+}
+
+/// Calls on packings of this type of the values of F, which is an extension of itself.
+pub(crate) trait BaseCalls<F: PrimeCharacteristicRing>: Inhabited {
     /// The types that calls make values of.
     type BaseRooms: Drop;
 
@@ -87,14 +113,14 @@ pub(crate) trait BaseCalls: Copy {
     ) -> Result<Option<bool>, AllocError>;
 }
 
-impl<F: Lanes<N>, const N: usize> BaseCalls for Packed<F, N> {
-    type BaseRooms = Rooms<F, F, Packed<F, N>>;
+impl<F: Field + Packable, P: PackedField<F> + Packing> BaseCalls<F> for P {
+    type BaseRooms = Rooms<F, F, P>;
 
     fn base_agrees(
         alloc: Global,
-        rooms: Option<Rooms<F, F, Packed<F, N>>>,
+        rooms: Option<Rooms<F, F, P>>,
         row: Row<'_>,
     ) -> Result<Option<bool>, AllocError> {
-        row_agrees::<F, F, Packed<F, N>>(alloc, rooms, row)
+        row_agrees::<F, F, P>(alloc, rooms, row)
     }
 }
