@@ -1,5 +1,5 @@
 -- Formulas of products, over any values that satisfy the equations of their steps.
-use Rattle.std.proofs.Common.{◌≡◌, List, [], ◌∷◌, length, get_or, refl, sym, ap, ap₂, ◌∙◌}
+use Rattle.std.proofs.Common.{◌≡◌, List, [], ◌∷◌, length, get_or, refl, sym, ap, ◌∙◌}
 use Rattle.p3_theory.specs.Rings.Ring.{Ops, RingLaws, subtract}
 use Rattle.p3_theory.specs.Rings.DotProduct.{dot}
 use Rattle.p3_theory.specs.Polynomials.Polynomial.{tabulate, quotient_mul, binomial}

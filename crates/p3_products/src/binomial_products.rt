@@ -3,6 +3,7 @@ ghost use Rattle.p3_theory.specs.Polynomials.Polynomial.{quotient_mul, binomial}
 ghost use Rattle.p3_theory.specs.Polynomials.BaseProduct.{scaled};
 ghost use Rattle.p3_theory.specs.Polynomials.ConvolutionSums.{first_sum};
 ghost use Rattle.p3_theory.specs.Rings.DotProduct.{dot};
+ghost use Rattle.p3_theory.specs.Rings.Ring.{subtract};
 ghost use Rattle.p3_theory.specs.Products.ProductPlaces.{product_place};
 
 use p3_ring::ring::{Algebra, PrimeCharacteristicRing};
@@ -84,13 +85,11 @@ pub(crate) fn shift_in<A: PrimeCharacteristicRing>(row: &mut [A], first: A)
     }
 }
 
-/// The sum `x * t + y * z` from the products `x * z` and `y * t`, by one product more: Karatsuba's
-/// method.
+/// The sum `x * t + y * z`, where `outer` is `x * z` and `inner` is `y * t`, by one product more:
+/// Karatsuba's method.
 #[inline]
 fn cross_sum<A: PrimeCharacteristicRing>(x: A, y: A, z: A, t: A, outer: A, inner: A) -> A
-    requires outer { outer ≡ A.ops.mul x z }
-    requires inner { inner ≡ A.ops.mul y t }
-    ensures { result ≡ A.ops.add (A.ops.mul x t) (A.ops.mul y z) }
+    ensures { result ≡ subtract A.ops (subtract A.ops (A.ops.mul (A.ops.add x y) (A.ops.add z t)) outer) inner }
 {
     let left = x + y;
     let right = z + t;

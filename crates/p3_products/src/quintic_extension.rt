@@ -1,9 +1,42 @@
 ghost use Rattle.std.specs.Prelude.{◌≡◌, length};
 ghost use Rattle.p3_theory.specs.Polynomials.Polynomial.{quotient_mul};
 ghost use Rattle.p3_theory.specs.Products.Trinomials.{quintic_trinomial};
+ghost use Rattle.p3_products.specs.TrinomialRemainders.{quintic_reduced};
 
 use crate::binomial_products::array_dot_product;
 use p3_ring::ring::PrimeCharacteristicRing;
+
+/// Writes the remainder modulo `X^5 + X^2 - 1` of the polynomial with these nine coefficients.
+#[inline]
+fn write_reduced<R: PrimeCharacteristicRing>(
+    c0: R,
+    c1: R,
+    c2: R,
+    c3: R,
+    c4: R,
+    c5: R,
+    c6: R,
+    c7: R,
+    c8: R,
+    res: &mut [R],
+)
+    requires { length res.old ≡ 5 }
+    ensures { res.new ≡ quintic_reduced R.ops c0 c1 c2 c3 c4 c5 c6 c7 c8 }
+{
+    let c5_minus_c8 = c5 - c8;
+    let r0 = c0 + c5_minus_c8;
+    let r1 = c1 + c6;
+    let rest2 = c2 - c5_minus_c8;
+    let r2 = rest2 + c7;
+    let rest3 = c3 - c6;
+    let r3 = rest3 + c8;
+    let r4 = c4 - c7;
+    res[0] = r0;
+    res[1] = r1;
+    res[2] = r2;
+    res[3] = r3;
+    res[4] = r4;
+}
 
 /// The product of two lists of five coefficients modulo `X^5 + X^2 - 1`. Upstream's
 /// `trinomial_quintic_mul`.
@@ -25,19 +58,7 @@ pub fn trinomial_quintic_mul<R: PrimeCharacteristicRing>(a: &[R], b: &[R], res: 
     let c6 = array_dot_product([a2, a3, a4], [b4, b3, b2]);
     let c7 = array_dot_product([a3, a4], [b4, b3]);
     let c8 = a4 * b4;
-    let c5_minus_c8 = c5 - c8;
-    let r0 = c0 + c5_minus_c8;
-    let r1 = c1 + c6;
-    let rest2 = c2 - c5_minus_c8;
-    let r2 = rest2 + c7;
-    let rest3 = c3 - c6;
-    let r3 = rest3 + c8;
-    let r4 = c4 - c7;
-    res[0] = r0;
-    res[1] = r1;
-    res[2] = r2;
-    res[3] = r3;
-    res[4] = r4;
+    write_reduced(c0, c1, c2, c3, c4, c5, c6, c7, c8, res);
 }
 
 /// The square of a list of five coefficients modulo `X^5 + X^2 - 1`. Upstream's `quintic_square`.
@@ -61,17 +82,5 @@ pub fn quintic_square<R: PrimeCharacteristicRing>(a: &[R], res: &mut [R])
     let c6 = array_dot_product([a2_2, a3], [a4, a3]);
     let c7 = a3_2 * a4;
     let c8 = a4.square();
-    let c5_minus_c8 = c5 - c8;
-    let r0 = c0 + c5_minus_c8;
-    let r1 = c1 + c6;
-    let rest2 = c2 - c5_minus_c8;
-    let r2 = rest2 + c7;
-    let rest3 = c3 - c6;
-    let r3 = rest3 + c8;
-    let r4 = c4 - c7;
-    res[0] = r0;
-    res[1] = r1;
-    res[2] = r2;
-    res[3] = r3;
-    res[4] = r4;
+    write_reduced(c0, c1, c2, c3, c4, c5, c6, c7, c8, res);
 }

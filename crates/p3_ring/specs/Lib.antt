@@ -1,3 +1,4 @@
 pub mod BoundedSequence
+pub mod ChainTerms
 pub mod ChunkLengths
 pub mod PackedPowers

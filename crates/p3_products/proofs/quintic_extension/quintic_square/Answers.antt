@@ -1,11 +1,11 @@
 use Rattle.std.proofs.Common.{◌∙◌, [], ◌∷◌, ap, sym}
 use Rattle.p3_theory.specs.Polynomials.Polynomial.{quotient_mul}
 use Rattle.p3_theory.specs.Lists.ListItems.{items_are}
-use Rattle.p3_theory.specs.Lists.WrittenItems.{all_written}
+use Rattle.p3_products.specs.TrinomialRemainders.{quintic_reduced}
 use Rattle.p3_theory.specs.Products.Trinomials.{quintic_trinomial}
 use Rattle.p3_theory.specs.RingSolver.Solver.{free}
 use Rattle.p3_theory.specs.RingSolver.Reify.{yes}
-use Rattle.p3_theory.specs.RingSolver.StraightLine.{reads_list, sum_read, difference_read, product_read, answer_read, formula, variables}
+use Rattle.p3_theory.specs.RingSolver.StraightLine.{reads_list, product_read, answer_read, formula, variables}
 use Rattle.p3_products.proofs.quintic_extension.quintic_square.Goals as goal
 
 pub returns : goal.returns
@@ -13,9 +13,9 @@ returns g c =
     let o = g.R.PrimeCharacteristicRing.ops in
     let m = g.met.R.PrimeCharacteristicRing in
     let a = c.index-a-0.result ∷ c.index-a-1.result ∷ c.index-a-2.result ∷ c.index-a-3.result ∷ c.index-a-4.result ∷ [] in
-    let places = c.add-r0.result ∷ c.add-r1.result ∷ c.add-r2.result ∷ c.add-r3.result ∷ c.sub-r4.result ∷ [] in
-    all_written c.args.res.now places c.requires.room
-    ∙ formula o a places m.ring
-    (λ P a0 a1 a2 a3 a4. search (reads_list, sum_read o P m.adds, difference_read o P m.subs, product_read o P m.muls, c.add-r0.ensures, c.add-r1.ensures, c.add-r2.ensures, c.add-r3.ensures, c.sub-r4.ensures, c.sub-rest2.ensures, c.sub-rest3.ensures, c.sub-c5_minus_c8.ensures, c.mul-c1.ensures, c.mul-c7.ensures, answer_read o P c.double-a0_2.ensures, answer_read o P c.double-a1_2.ensures, answer_read o P c.double-a2_2.ensures, answer_read o P c.double-a3_2.ensures, answer_read o P c.square-c0.ensures, answer_read o P c.square-c8.ensures, answer_read o P c.array_dot_product-c2.ensures, answer_read o P c.array_dot_product-c3.ensures, answer_read o P c.array_dot_product-c4.ensures, answer_read o P c.array_dot_product-c5.ensures, answer_read o P c.array_dot_product-c6.ensures) depth 99 fits 99999)
+    let reduced = quintic_reduced o c.square-c0.result c.mul-c1.result c.array_dot_product-c2.result c.array_dot_product-c3.result c.array_dot_product-c4.result c.array_dot_product-c5.result c.array_dot_product-c6.result c.mul-c7.result c.square-c8.result in
+    c.write_reduced.ensures
+    ∙ formula o a reduced m.ring
+    (λ P a0 a1 a2 a3 a4. search (reads_list, product_read o P m.muls, c.mul-c1.ensures, c.mul-c7.ensures, answer_read o P c.double-a0_2.ensures, answer_read o P c.double-a1_2.ensures, answer_read o P c.double-a2_2.ensures, answer_read o P c.double-a3_2.ensures, answer_read o P c.square-c0.ensures, answer_read o P c.square-c8.ensures, answer_read o P c.array_dot_product-c2.ensures, answer_read o P c.array_dot_product-c3.ensures, answer_read o P c.array_dot_product-c4.ensures, answer_read o P c.array_dot_product-c5.ensures, answer_read o P c.array_dot_product-c6.ensures) depth 99 fits 99999)
     (quotient_mul free 5 (quintic_trinomial free) (variables 0 5) (variables 0 5)) yes
     ∙ ap (λ l. quotient_mul o 5 (quintic_trinomial o) l l) (sym (items_are c.args.a.now a c.requires.input search))
