@@ -44,6 +44,7 @@ pub use Rattle.p3_theory.specs.Roots.TwoAdic
 pub use Rattle.p3_theory.specs.Roots.TwoAdicCoefficients
 pub use Rattle.p3_theory.specs.Roots.ValueLists
 pub use Rattle.p3_ring.specs.BoundedSequence
+pub use Rattle.p3_ring.specs.ChainTerms
 pub use Rattle.p3_ring.specs.ChunkLengths
 pub use Rattle.p3_ring.specs.PackedPowers
 pub use Rattle.p3_bench_residues.specs.Halves

@@ -7,7 +7,7 @@ pub mod exponentiation;
 pub mod halves;
 pub mod linear_combination;
 pub mod packed_ring;
-pub mod power_chains;
+mod power_chains;
 pub mod powers;
 pub mod ring;
 pub mod sponge;
