@@ -105,7 +105,6 @@ module _ {P F : Type 0} (O : Ops P) (Q : Ops F) (lanes : P → List F) (w : ℕ)
   zip-map g f (x ∷ xs) [] = refl
   zip-map g f (x ∷ xs) (y ∷ ys) = ap (λ l. g x (f y) ∷ l) (zip-map g f xs ys)
 
-  -- the lanes of a packing and another one times a value
-  pub combined_lanes : (x y z : P) (s : F) → lanes z ≡ replicate w s → lanes (O.add x (O.mul y z)) ≡ zip_with (λ a b. Q.add a (Q.mul b s)) (lanes x) (lanes y)
-  combined_lanes x y z s all =
-      summed_lanes x (O.mul y z) ∙ ap (zip_with Q.add (lanes x)) (scaled_lanes y z s all) ∙ zip-map Q.add (λ a. Q.mul a s) (lanes x) (lanes y)
+  -- a part of a list combined with the lanes of a packing times a value
+  pub combined_lanes : (xs : List F) (y z : P) (s : F) → lanes z ≡ replicate w s → zip_with Q.add xs (lanes (O.mul y z)) ≡ zip_with (λ a b. Q.add a (Q.mul b s)) xs (lanes y)
+  combined_lanes xs y z s all = ap (zip_with Q.add xs) (scaled_lanes y z s all) ∙ zip-map Q.add (λ a. Q.mul a s) xs (lanes y)

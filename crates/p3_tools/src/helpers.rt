@@ -1,6 +1,6 @@
 //! Helpers on slices, arrays and words, and sums over iterators.
 
-ghost use Rattle.std.specs.Prelude.{◌≡◌, ◌-◌, ◌<◌, ◌∷◌, length, map, replicate};
+ghost use Rattle.std.specs.Prelude.{◌≡◌, ◌+◌, ◌-◌, ◌*◌, ◌<◌, ◌≤◌, ◌∷◌, length, map, take, drop, replicate, slice_range};
 ghost use Rattle.std.specs.Iterator.{IsFinite, count_min};
 ghost use Rattle.p3_ring.specs.BoundedSequence.{terms};
 ghost use Rattle.p3_theory.specs.Rings.DotProduct.{dot};
@@ -101,6 +101,39 @@ fn add_scaled_entries<F: Field>(slice: &mut [F], other: &[F], s: F)
     }
 }
 
+/// Adds the lanes of a packing to group i of the slice, and changes nothing else of it. It isn't taken into
+/// its callers: where a product in Montgomery's form and a sum stand in one loop, the compiler takes the
+/// product out of the vectors. This project's own.
+#[inline(never)]
+fn add_to_block<F: Field, P: PackedField<F>>(slice: &mut [F], i: usize, terms: &P)
+    requires { i * P.WIDTH + P.WIDTH ≤ length slice.old }
+    ensures block { slice_range slice.new (i * P.WIDTH) (i * P.WIDTH + P.WIDTH) ≡ zip_with F.ops.add (slice_range slice.old (i * P.WIDTH) (i * P.WIDTH + P.WIDTH)) (P.lanes terms.now) }
+    ensures before { take (i * P.WIDTH) slice.new ≡ take (i * P.WIDTH) slice.old }
+    ensures after { drop (i * P.WIDTH + P.WIDTH) slice.new ≡ drop (i * P.WIDTH + P.WIDTH) slice.old }
+{
+    let x = P::load_block(slice, i);
+    let sum = x + *terms;
+    sum.store_block(slice, i);
+}
+
+/// Adds to each entry of the slice the entry of `other` at its index times `s`, in packings, whose products
+/// are by one that has `s` in all lanes, and the rest entry by entry. It isn't taken into its callers, as
+/// `scale_by_packing`. This project's own.
+#[inline(never)]
+fn add_scaled_by_packing<F: Field, P: PackedField<F>>(slice: &mut [F], other: &[F], factor: P, s: F)
+    requires long { length slice.old ≡ length other.now }
+    requires factor { factor ≡ P.embed s }
+    ensures { slice.new ≡ zip_with (λ x y. F.ops.add x (F.ops.mul y s)) slice.old other.now }
+{
+    let groups = slice.len() / P::WIDTH;
+    for i in 0..groups {
+        let product = P::load_block(other, i) * factor;
+        add_to_block::<F, P>(slice, i, &product);
+    }
+    let done = groups * P::WIDTH;
+    add_scaled_entries(&mut slice[done..], &other[done..], s);
+}
+
 /// Adds to each entry of the slice the entry of `other` at its index times `s`, in packings and the rest
 /// entry by entry. Upstream's `add_scaled_slice_in_place`.
 #[inline]
@@ -108,15 +141,7 @@ pub fn add_scaled_slice_in_place<F: Field, P: PackedField<F>>(slice: &mut [F], o
     requires { length slice.old ≡ length other.now }
     ensures { slice.new ≡ zip_with (λ x y. F.ops.add x (F.ops.mul y s)) slice.old other.now }
 {
-    let groups = slice.len() / P::WIDTH;
-    for i in 0..groups {
-        let x = P::load_block(slice, i);
-        let y = P::load_block(other, i);
-        let sum = x + y * s;
-        sum.store_block(slice, i);
-    }
-    let done = groups * P::WIDTH;
-    add_scaled_entries(&mut slice[done..], &other[done..], s);
+    add_scaled_by_packing::<F, P>(slice, other, P::from(s), s);
 }
 
 /// The same, under upstream's name for the work of several threads: a plain loop in order.

@@ -1,6 +1,6 @@
 use Rattle.std.proofs.Common.{◌≡◌, ◌++◌, ◌*◌, length, take, drop}
 use Rattle.p3_theory.specs.Lists.PairedLists.{zip_with}
-use Rattle.p3_tools.proofs.helpers.add_scaled_slice_in_place.Given as goal
+use Rattle.p3_tools.proofs.helpers.add_scaled_by_packing.Given as goal
 
 abbrev pub invariant-loop-i : goal.invariant-loop-i
 invariant-loop-i g l =
