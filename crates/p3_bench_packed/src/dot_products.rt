@@ -9,7 +9,7 @@ use crate::packed::Packed;
 use p3_ring::ring::PrimeCharacteristicRing;
 
 /// The values of K packings at a lane.
-#[inline]
+#[inline(always)]
 fn lane_values<F: PrimeCharacteristicRing, const N: usize, const K: usize>(
     packings: &[Packed<F, N>],
     lane: usize,
@@ -27,7 +27,7 @@ fn lane_values<F: PrimeCharacteristicRing, const N: usize, const K: usize>(
 }
 
 /// The dot product of the values of K positions at a lane, by the lanes' own `dot_product`.
-#[inline]
+#[inline(always)]
 fn lane_dot_product<F: PrimeCharacteristicRing, const N: usize, const K: usize>(
     u: &[Packed<F, N>],
     v: &[Packed<F, N>],
@@ -44,7 +44,7 @@ fn lane_dot_product<F: PrimeCharacteristicRing, const N: usize, const K: usize>(
 }
 
 /// The dot product of K packings and K others, lane by lane.
-#[inline]
+#[inline(always)]
 fn dot_by_lanes<F: PrimeCharacteristicRing, const N: usize, const K: usize>(
     u: &[Packed<F, N>],
     v: &[Packed<F, N>],
@@ -79,8 +79,8 @@ fn dot_by_products<F: PrimeCharacteristicRing, const N: usize>(
 }
 
 /// The dot product of two slices of packings. Of the few positions that the formulas of extensions have a
-/// type reduces the sum of their products once, and so it does at each lane. It is taken into each caller,
-/// where the number of positions is known.
+/// type reduces the sum of their products once, and so it does at each lane. It is taken into each caller
+/// with all that it calls, where the number of positions is known.
 #[inline(always)]
 pub(crate) fn packed_dot_product<F: PrimeCharacteristicRing, const N: usize>(
     u: &[Packed<F, N>],
