@@ -1,12 +1,15 @@
 -- Slices that are changed group after group of w entries, and then entry after entry.
 use Rattle.std.specs.Prelude.{◌≡◌, ◌<◌, ◌≤◌, ◌+◌, ◌-◌, ◌*◌, ◌/◌, ℕ, zero, suc, List, [], ◌∷◌, ◌++◌, length, map, take, drop, get_or, replicate, slice_range}
-use Rattle.std.proofs.Common.{arith, ap, ap₂, sym, refl, ◌∙◌, take-add, drop-drop, append_assoc}
+use Rattle.std.proofs.Common.{arith, ap, ap₂, sym, refl, ◌∙◌, take-add, drop-drop, append_assoc, append-nil, subst}
 use Rattle.std.proofs.lemmas.Nat.{div-add-mod'}
-use Rattle.std.proofs.lemmas.List.{get_or-map, ext_get_or}
+use Rattle.std.proofs.lemmas.List.{get_or-map, ext_get_or, length-drop, take_all}
+use Rattle.std.proofs.lemmas.Slice.{take-put_mid_below, between-put_mid, drop-put_mid}
 use Rattle.std.proofs.Math.Nat.{suc-mul, mul-le-mul_right}
+use Rattle.std.proofs.Math.ListN.{drop_of_length-le}
 use Rattle.p3_theory.specs.Rings.Ring.{Ops}
 use Rattle.p3_theory.specs.Lanes.Lanes.{lane, KeepsLanes, at_replicate}
 use Rattle.p3_theory.specs.Lists.PairedLists.{zip_with}
+use borrow.Rule.Slice.PartMut.{put_mid}
 
 module _ (w : ℕ) where
   -- a group below the quotient lies whole in the slice
@@ -46,13 +49,17 @@ module _ {A : Type 0} where
   joined new old part rest whole a w before group h =
       ap (λ l. l ++ rest) (front new a w ∙ ap₂ (λ p q. p ++ q) before group) ∙ append_assoc (take a old) part rest ∙ h
 
+  -- a group is written, from another slice
+  pub written_group : (f : A → A) (new old from whole : List A) (a w : ℕ) → take a new ≡ take a old → slice_range new a (a + w) ≡ map f (slice_range from a (a + w))
+      → take a old ++ map f (drop a from) ≡ whole → take (a + w) new ++ map f (drop (a + w) from) ≡ whole
+  written_group f new old from whole a w before group h =
+      joined new old (map f (take w (drop a from))) (map f (drop (a + w) from)) whole a w before (group ∙ ap (map f) (range_is from a w))
+      (ap (λ l. take a old ++ l) (ap (λ l. map f (take w (drop a from)) ++ map f l) (sym (drop-drop w a from)) ∙ sym (map-split f w (drop a from))) ∙ h)
+
   -- a group is mapped
   pub mapped_group : (f : A → A) (new old initial : List A) (a w : ℕ) → take a new ≡ take a old → slice_range new a (a + w) ≡ map f (slice_range old a (a + w))
       → drop (a + w) new ≡ drop (a + w) old → take a old ++ map f (drop a old) ≡ map f initial → take (a + w) new ++ map f (drop (a + w) new) ≡ map f initial
-  mapped_group f new old initial a w before group after h =
-      ap (λ l. take (a + w) new ++ map f l) after
-      ∙ joined new old (map f (take w (drop a old))) (map f (drop (a + w) old)) (map f initial) a w before (group ∙ ap (map f) (range_is old a w))
-      (ap (λ l. take a old ++ l) (ap (λ l. map f (take w (drop a old)) ++ map f l) (sym (drop-drop w a old)) ∙ sym (map-split f w (drop a old))) ∙ h)
+  mapped_group f new old initial a w before group after h = ap (λ l. take (a + w) new ++ map f l) after ∙ written_group f new old old (map f initial) a w before group h
 
   -- a group is combined with that of another slice
   pub combined_group : (g : A → A → A) (new old other initial : List A) (a w : ℕ) → take a new ≡ take a old → slice_range new a (a + w) ≡ zip_with g (slice_range old a (a + w)) (slice_range other a (a + w))
@@ -65,6 +72,32 @@ module _ {A : Type 0} where
       (ap (λ l. take a old ++ l)
       (ap₂ (λ l m. part ++ zip_with g l m) (sym (drop-drop w a old)) (sym (drop-drop w a other)) ∙ sym (zip-split g w (drop a old) (drop a other)))
       ∙ h)
+
+  -- a part is combined with that of another slice, and comes back
+  pub combined_part : (g : A → A → A) (old other initial part : List A) (a w k : ℕ) → k ≡ w → a + w ≤ length old → length part ≡ w
+      → part ≡ zip_with g (slice_range old a (a + w)) (slice_range other a (a + w)) → take a old ++ zip_with g (drop a old) (drop a other) ≡ zip_with g initial other
+      → take (a + w) (put_mid a k old part) ++ zip_with g (drop (a + w) (put_mid a k old part)) (drop (a + w) other) ≡ zip_with g initial other
+  combined_part g old other initial part a w k e fits long group h =
+      combined_group g (put_mid a k old part) old other initial a w (take-put_mid_below a k old part a (omega arith) (omega (arith, fits)))
+      (between-put_mid a k old part (a + w) (omega (arith, fits)) (omega (arith, long)) ∙ group)
+      (drop-put_mid a k old part (a + w) (omega (arith, e)) (omega (arith, fits)) (omega (arith, long, e))) h
+
+  -- the part after the last group is combined with that of another slice, and comes back
+  pub combined_rest : (g : A → A → A) (old other whole part : List A) (w i m : ℕ) → i ≡ m
+      → part ≡ zip_with g (take (length old - m * w) (drop (m * w) old)) (take (length other - m * w) (drop (m * w) other))
+      → take (i * w) old ++ zip_with g (drop (i * w) old) (drop (i * w) other) ≡ whole → put_mid (m * w) (length old - m * w) old part ≡ whole
+  combined_rest g old other whole part w i m e group h =
+      let a = m * w in
+      let after : drop (length old - a) (drop a old) ≡ [] = drop_of_length-le (drop a old) (omega (arith, length-drop a old)) in
+      let all : (xs : List A) → take (length xs - a) (drop a xs) ≡ drop a xs = λ xs. take_all (length xs - a) (drop a xs) (omega (arith, length-drop a xs)) in
+      ap (λ l. take a old ++ l) (ap₂ (λ p q. p ++ q) (group ∙ ap₂ (zip_with g) (all old) (all other)) after ∙ append-nil _)
+      ∙ subst (λ j. take (j * w) old ++ zip_with g (drop (j * w) old) (drop (j * w) other) ≡ whole) e h
+
+  -- a map on the right of a combination
+  pub zip-map : (g : A → A → A) (f : A → A) (xs ys : List A) → zip_with g xs (map f ys) ≡ zip_with (λ a b. g a (f b)) xs ys
+  zip-map g f [] ys = refl
+  zip-map g f (x ∷ xs) [] = refl
+  zip-map g f (x ∷ xs) (y ∷ ys) = ap (λ l. g x (f y) ∷ l) (zip-map g f xs ys)
 
   length-mapped : (f : A → A) (xs : List A) → length (map f xs) ≡ length xs
   length-mapped f [] = refl
@@ -99,11 +132,6 @@ module _ {P F : Type 0} (O : Ops P) (Q : Ops F) (lanes : P → List F) (w : ℕ)
       ext_get_or Q.zero (lanes (O.add x y)) (zip_with Q.add (lanes x) (lanes y)) (long ∙ sym (length-zip Q.add (lanes x) (lanes y) alike ∙ lengths x)) (λ k h.
       let below : k < w = omega (arith, h, long) in
       (keeps k below).add x y ∙ sym (get-zip Q.add (lanes x) (lanes y) k Q.zero alike (omega (arith, below, lengths x))))
-
-  zip-map : (g : F → F → F) (f : F → F) (xs ys : List F) → zip_with g xs (map f ys) ≡ zip_with (λ a b. g a (f b)) xs ys
-  zip-map g f [] ys = refl
-  zip-map g f (x ∷ xs) [] = refl
-  zip-map g f (x ∷ xs) (y ∷ ys) = ap (λ l. g x (f y) ∷ l) (zip-map g f xs ys)
 
   -- a part of a list combined with the lanes of a packing times a value
   pub combined_lanes : (xs : List F) (y z : P) (s : F) → lanes z ≡ replicate w s → zip_with Q.add xs (lanes (O.mul y z)) ≡ zip_with (λ a b. Q.add a (Q.mul b s)) xs (lanes y)

@@ -23,6 +23,9 @@ const STRANDS_FROM: usize = 16;
 /// The same by longer values.
 const STRANDS_FROM_WIDE: usize = 128;
 
+/// How many products are written before they are added to a slice.
+const CHUNK: usize = 64;
+
 /// The powers of `generator` from one on, `order` of them. Where the order is that of the generator
 /// they are the subgroup that it generates. Upstream's `cyclic_subgroup_known_order`.
 #[inline]
@@ -101,37 +104,89 @@ fn add_scaled_entries<F: Field>(slice: &mut [F], other: &[F], s: F)
     }
 }
 
-/// Adds the lanes of a packing to group i of the slice, and changes nothing else of it. It isn't taken into
-/// its callers: where a product in Montgomery's form and a sum stand in one loop, the compiler takes the
-/// product out of the vectors. This project's own.
+/// Writes each entry of `from` times `s` to its index in `to`, in packings by one that has `s` in all lanes,
+/// and the rest entry by entry. It isn't taken into its callers, as `scale_by_packing`. This project's own.
 #[inline(never)]
-fn add_to_block<F: Field, P: PackedField<F>>(slice: &mut [F], i: usize, terms: &P)
-    requires { i * P.WIDTH + P.WIDTH ≤ length slice.old }
-    ensures block { slice_range slice.new (i * P.WIDTH) (i * P.WIDTH + P.WIDTH) ≡ zip_with F.ops.add (slice_range slice.old (i * P.WIDTH) (i * P.WIDTH + P.WIDTH)) (P.lanes terms.now) }
-    ensures before { take (i * P.WIDTH) slice.new ≡ take (i * P.WIDTH) slice.old }
-    ensures after { drop (i * P.WIDTH + P.WIDTH) slice.new ≡ drop (i * P.WIDTH + P.WIDTH) slice.old }
+fn write_scaled<F: Field, P: PackedField<F>>(to: &mut [F], from: &[F], factor: P, s: F)
+    requires long { length to.old ≡ length from.now }
+    requires factor { factor ≡ P.embed s }
+    ensures { to.new ≡ map (λ x. F.ops.mul x s) from.now }
 {
-    let x = P::load_block(slice, i);
-    let sum = x + *terms;
-    sum.store_block(slice, i);
+    let groups = to.len() / P::WIDTH;
+    for i in 0..groups {
+        let product = P::load_block(from, i) * factor;
+        product.store_block(to, i);
+    }
+    let done = groups * P::WIDTH;
+    to[done..].copy_from_slice(&from[done..]);
+    scale_entries(&mut to[done..], s);
 }
 
-/// Adds to each entry of the slice the entry of `other` at its index times `s`, in packings, whose products
-/// are by one that has `s` in all lanes, and the rest entry by entry. It isn't taken into its callers, as
-/// `scale_by_packing`. This project's own.
-#[inline(never)]
-fn add_scaled_by_packing<F: Field, P: PackedField<F>>(slice: &mut [F], other: &[F], factor: P, s: F)
+/// Adds to each entry of a chunk the entry of `other` at its index times `s`. The products are written to
+/// a chunk of their own: where a product in Montgomery's form and a sum stand in one loop, the compiler takes
+/// the product out of the vectors. This project's own.
+#[inline]
+fn add_scaled_chunk<F: Field, P: PackedField<F>>(
+    chunk: &mut [F],
+    other: &[F],
+    products: &mut [F],
+    factor: P,
+    s: F,
+)
+    requires long { length chunk.old ≡ length other.now }
+    requires room { length products.old ≡ length other.now }
+    requires factor { factor ≡ P.embed s }
+    ensures { chunk.new ≡ zip_with (λ x y. F.ops.add x (F.ops.mul y s)) chunk.old other.now }
+{
+    write_scaled::<F, P>(products, other, factor, s);
+    add_slices::<F, P>(chunk, products);
+}
+
+/// Adds to each entry of the slice the entry of `other` at its index times `s`, packing by packing and the
+/// rest entry by entry. The factor has `s` in all lanes. This project's own.
+#[inline]
+fn add_scaled_groups<F: Field, P: PackedField<F>>(slice: &mut [F], other: &[F], factor: P, s: F)
     requires long { length slice.old ≡ length other.now }
     requires factor { factor ≡ P.embed s }
     ensures { slice.new ≡ zip_with (λ x y. F.ops.add x (F.ops.mul y s)) slice.old other.now }
 {
     let groups = slice.len() / P::WIDTH;
     for i in 0..groups {
-        let product = P::load_block(other, i) * factor;
-        add_to_block::<F, P>(slice, i, &product);
+        let x = P::load_block(slice, i);
+        let y = P::load_block(other, i);
+        let term = y * factor;
+        let sum = x + term;
+        sum.store_block(slice, i);
     }
     let done = groups * P::WIDTH;
     add_scaled_entries(&mut slice[done..], &other[done..], s);
+}
+
+/// Adds to each entry of the slice the entry of `other` at its index times `s`, chunk by chunk, and what is
+/// shorter than a chunk packing by packing. The factor has `s` in all lanes. This project's own.
+#[inline]
+fn add_scaled_by_packing<F: Field, P: PackedField<F>>(slice: &mut [F], other: &[F], factor: P, s: F)
+    requires long { length slice.old ≡ length other.now }
+    requires factor { factor ≡ P.embed s }
+    ensures { slice.new ≡ zip_with (λ x y. F.ops.add x (F.ops.mul y s)) slice.old other.now }
+{
+    let chunks = slice.len() / CHUNK;
+    if chunks > 0 {
+        let mut products = [F::zero(); CHUNK];
+        for i in 0..chunks {
+            let start = i * CHUNK;
+            let end = start + CHUNK;
+            add_scaled_chunk::<F, P>(
+                &mut slice[start..end],
+                &other[start..end],
+                &mut products,
+                factor,
+                s,
+            );
+        }
+    }
+    let done = chunks * CHUNK;
+    add_scaled_groups::<F, P>(&mut slice[done..], &other[done..], factor, s);
 }
 
 /// Adds to each entry of the slice the entry of `other` at its index times `s`, in packings and the rest
@@ -157,11 +212,10 @@ pub fn par_add_scaled_slice_in_place<F: Field, P: PackedField<F>>(
     add_scaled_slice_in_place::<F, P>(slice, other, s);
 }
 
-/// Adds to each entry of the first slice the entry of the second at its index, in packings and the rest
-/// entry by entry. The slices have one length. Upstream's `add_slices`, a method of the field there, which
-/// names its packing; here the method of this name goes entry by entry.
+/// Adds to each entry of the first slice the entry of the second at its index, packing by packing and the
+/// rest entry by entry. This project's own.
 #[inline]
-pub fn add_slices<F: Field, P: PackedField<F>>(slice_1: &mut [F], slice_2: &[F])
+fn add_by_packing<F: Field, P: PackedField<F>>(slice_1: &mut [F], slice_2: &[F])
     requires { length slice_1.old ≡ length slice_2.now }
     ensures { slice_1.new ≡ zip_with F.ops.add slice_1.old slice_2.now }
 {
@@ -174,6 +228,37 @@ pub fn add_slices<F: Field, P: PackedField<F>>(slice_1: &mut [F], slice_2: &[F])
     }
     let done = groups * P::WIDTH;
     F::add_slices(&mut slice_1[done..], &slice_2[done..]);
+}
+
+/// How many entries a step over packings takes: about sixteen, and no part of a packing. So a constant that
+/// a sum reads from memory is read once for all of them. This project's own.
+#[inline]
+fn entries_a_step<F: Field, P: PackedField<F>>() -> usize
+    ensures { 0 < result }
+{
+    if P::WIDTH > 16 {
+        P::WIDTH
+    } else {
+        16 - 16 % P::WIDTH
+    }
+}
+
+/// Adds to each entry of the first slice the entry of the second at its index, in packings and the rest
+/// entry by entry. The slices have one length. Upstream's `add_slices`, a method of the field there, which
+/// names its packing; here the method of this name goes entry by entry.
+#[inline]
+pub fn add_slices<F: Field, P: PackedField<F>>(slice_1: &mut [F], slice_2: &[F])
+    requires { length slice_1.old ≡ length slice_2.now }
+    ensures { slice_1.new ≡ zip_with F.ops.add slice_1.old slice_2.now }
+{
+    let step = entries_a_step::<F, P>();
+    let steps = slice_1.len() / step;
+    for i in 0..steps {
+        let start = i * step;
+        add_by_packing::<F, P>(&mut slice_1[start..start + step], &slice_2[start..start + step]);
+    }
+    let done = steps * step;
+    add_by_packing::<F, P>(&mut slice_1[done..], &slice_2[done..]);
 }
 
 /// The array `[x, 0, .., 0]` of length D. Upstream's `field_to_array`.

@@ -1,28 +1,21 @@
-use Rattle.std.proofs.Common.{◌≡◌, ◌+◌, ◌*◌, ◌++◌, take, drop, slice_range, arith, rules, ap, sym, subst, ◌∙◌}
-use Rattle.std.proofs.Math.Nat.{suc-mul}
+use Rattle.std.proofs.Common.{◌≡◌, ◌+◌, ◌-◌, ◌*◌, ◌≤◌, ◌++◌, length, take, drop, arith, rules, sym, subst}
 use Rattle.p3_theory.specs.Lists.PairedLists.{zip_with}
-use Rattle.p3_tools.proofs.GroupSteps.{combined_group, combined_lanes}
+use Rattle.p3_tools.proofs.GroupSteps.{combined_part}
+use borrow.Rule.Slice.PartMut.{put_mid}
 use Rattle.p3_tools.proofs.helpers.add_scaled_by_packing.Goals as goal
 
 pub loop-i-preserved : goal.loop-i-preserved
 loop-i-preserved g c =
-    let o = g.P.PrimeCharacteristicRing.ops in
     let q = g.F.PrimeCharacteristicRing.ops in
-    let lanes = g.P.PackedValue.lanes in
-    let w = g.P.PackedValue.WIDTH in
-    let a = c.loop-i.i * w in
     let f = λ (x y : g.row.F.Denot). q.add x (q.mul y c.args.s) in
-    let new = c.add_to_block.new.slice in
+    let a = c.loop-i.i * 64 in
+    let old = c.loop-i.slice in
     let other = c.args.other.now in
-    let part = slice_range c.loop-i.slice a (a + w) in
-    let step : (c.loop-i.i + 1) * w ≡ a + w = omega (arith, suc-mul c.loop-i.i w) in
+    let part = c.add_scaled_chunk.new.chunk in
+    let step : (c.loop-i.i + 1) * 64 ≡ a + 64 = omega arith in
+    let fits : a + 64 ≤ length old = omega (arith, c.loop-i-test.true, c.loop-i.invariant.long) in
     record {
-      long = search rules;
-      added = subst (λ n. take n new ++ zip_with f (drop n new) (drop n other) ≡ zip_with f c.args.slice.now other) (sym step)
-          (combined_group f new c.loop-i.slice other c.args.slice.now a w c.add_to_block.ensures.before
-          (c.add_to_block.ensures.block
-          ∙ ap (λ p. zip_with q.add part (lanes p)) (g.met.P.PrimeCharacteristicRing.muls.answer _ _ _ c.mul-product.ensures ∙ ap (o.mul c.load_block.result) c.requires.factor)
-          ∙ combined_lanes o q lanes w g.met.P.PackedRing.lengths g.met.P.PackedRing.keeps part c.load_block.result (g.P.Algebra.embed c.args.s) c.args.s (g.met.P.PackedRing.injects c.args.s)
-          ∙ ap (zip_with f part) c.load_block.ensures)
-          c.add_to_block.ensures.after c.loop-i.invariant.added);
+      long = search (rules, fits);
+      added = subst (λ n. take n (put_mid a (a + 64 - a) old part) ++ zip_with f (drop n (put_mid a (a + 64 - a) old part)) (drop n other) ≡ zip_with f c.args.slice.now other) (sym step)
+          (combined_part f old other c.args.slice.now part a 64 _ (omega arith) fits (search (rules, fits)) c.add_scaled_chunk.ensures c.loop-i.invariant.added);
     }
