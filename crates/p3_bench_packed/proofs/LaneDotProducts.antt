@@ -1,8 +1,8 @@
 -- Dot products along maps, and lane by lane.
-use Rattle.std.specs.Prelude.{◌≡◌, ◌<◌, ℕ, List, [], ◌∷◌, get_or, map}
-use Rattle.std.proofs.Common.{ap, ap₂, sym, ◌∙◌}
-use Rattle.p3_theory.specs.Rings.Ring.{Ops, Hom}
-use Rattle.p3_theory.specs.Rings.DotProduct.{dot}
+use Rattle.std.specs.Prelude.{◌≡◌, ◌<◌, ◌+◌, ◌-◌, ℕ, List, [], ◌∷◌, get_or, map, length, take, drop}
+use Rattle.std.proofs.Common.{ap, ap₂, sym, ◌∙◌, arith}
+use Rattle.p3_theory.specs.Rings.Ring.{Ops, Hom, RingLaws}
+use Rattle.p3_theory.specs.Rings.DotProduct.{dot, dot-chunk}
 use Rattle.p3_theory.specs.Lanes.Rows.{Rows}
 use Rattle.p3_theory.specs.Lanes.RowRing.{item, row_ops, item_keeps, rows_apart}
 
@@ -17,3 +17,12 @@ pub dot_by_items : {V A : Type 0} {n : ℕ} (R : Rows V A n) (O : Ops A) (us vs 
     → ((d : A) (k : ℕ) → k < n → get_or xs k d ≡ dot O (map (item R O k) us) (map (item R O k) vs)) → x ≡ dot (row_ops R O) us vs
 dot_by_items R O us vs x xs e h =
     rows_apart R O x (dot (row_ops R O) us vs) (λ k w. ap (λ l. get_or l k O.zero) e ∙ h O.zero k w ∙ sym (map-dot (item_keeps R O k w) us vs))
+
+-- a sum so far and the rest of a dot product, after a block of n positions more
+pub dot-block : {A : Type 0} {O : Ops A} → RingLaws O → (xs ys : List A) → length xs ≡ length ys → (i n : ℕ) (s b t r : A)
+    → b ≡ dot O (take (i + n - i) (drop i xs)) (take (i + n - i) (drop i ys)) → t ≡ O.add s b
+    → O.add s (dot O (drop i xs) (drop i ys)) ≡ r → O.add t (dot O (drop (i + n) xs) (drop (i + n) ys)) ≡ r
+dot-block {O = O} l xs ys h i n s b t r e m p =
+    let width : i + n - i ≡ n = omega arith in
+    ap (λ z. O.add z (dot O (drop (i + n) xs) (drop (i + n) ys))) (m ∙ ap (O.add s) (e ∙ ap (λ j. dot O (take j (drop i xs)) (take j (drop i ys))) width))
+    ∙ l.add_assoc s _ _ ∙ ap (O.add s) (sym (dot-chunk l xs ys i n h)) ∙ p

@@ -1,6 +1,6 @@
-//! Dot products of packings: of two to four positions at each lane one of the values there, of others
-//! product by product.
-ghost use Rattle.std.specs.Prelude.{◌≡◌, ◌<◌, length, map};
+//! Dot products of packings: of two to four positions at each lane one of the values there, of more four
+//! positions at a time.
+ghost use Rattle.std.specs.Prelude.{◌≡◌, ◌<◌, length, map, drop};
 ghost use Rattle.p3_theory.specs.Rings.DotProduct.{dot};
 ghost use Rattle.p3_theory.specs.Lanes.RowRing.{item, row_ops};
 ghost use Rattle.p3_bench_packed.specs.Values.{packed_rows};
@@ -60,22 +60,43 @@ fn dot_by_lanes<F: PrimeCharacteristicRing, const N: usize, const K: usize>(
     Packed::new(value)
 }
 
-/// The dot product of two slices of packings that aren't empty, one product after the other.
+/// The sum so far and the products of the positions from `start` on, one after the other.
 #[inline]
-fn dot_by_products<F: PrimeCharacteristicRing, const N: usize>(
+fn add_products<F: PrimeCharacteristicRing, const N: usize>(
+    sum: Packed<F, N>,
     u: &[Packed<F, N>],
     v: &[Packed<F, N>],
+    start: usize,
 ) -> Packed<F, N>
-    requires some { 0 < length u.now }
-    requires lengths { length u.now ≡ length v.now }
-    ensures { result ≡ dot (row_ops packed_rows F.ops) u.now v.now }
+    requires { length u.now ≡ length v.now }
+    ensures { result ≡ (row_ops packed_rows F.ops).add sum (dot (row_ops packed_rows F.ops) (drop start u.now) (drop start v.now)) }
 {
-    let mut sum = u[0] * v[0];
-    for i in 1..u.len() {
+    let mut sum = sum;
+    for i in start..u.len() {
         let product = u[i] * v[i];
         sum = sum + product;
     }
     sum
+}
+
+/// The dot product of two slices of packings, four positions at a time, and the rest one product after the
+/// other.
+#[inline]
+fn dot_by_blocks<F: PrimeCharacteristicRing, const N: usize>(
+    u: &[Packed<F, N>],
+    v: &[Packed<F, N>],
+) -> Packed<F, N>
+    requires { length u.now ≡ length v.now }
+    ensures { result ≡ dot (row_ops packed_rows F.ops) u.now v.now }
+{
+    let mut sum = Packed::new([F::zero(); N]);
+    let mut start = 0;
+    while u.len() - start >= 4 {
+        let block = dot_by_lanes::<F, N, 4>(&u[start..start + 4], &v[start..start + 4]);
+        sum = sum + block;
+        start += 4;
+    }
+    add_products(sum, u, v, start)
 }
 
 /// The dot product of two slices of packings. Of the few positions that the formulas of extensions have a
@@ -90,10 +111,9 @@ pub(crate) fn packed_dot_product<F: PrimeCharacteristicRing, const N: usize>(
     ensures { result ≡ dot (row_ops packed_rows F.ops) u.now v.now }
 {
     match u.len() {
-        0 => dot_by_lanes::<F, N, 0>(u, v),
         2 => dot_by_lanes::<F, N, 2>(u, v),
         3 => dot_by_lanes::<F, N, 3>(u, v),
         4 => dot_by_lanes::<F, N, 4>(u, v),
-        _ => dot_by_products(u, v),
+        _ => dot_by_blocks(u, v),
     }
 }

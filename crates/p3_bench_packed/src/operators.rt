@@ -84,7 +84,7 @@ impl<F: Copy + Mul<Output = F>, const N: usize> Mul for Packed<F, N> {
 
     ghost mul_gives = { λ x y r. (d : F) (k : ℕ) → k < N → F.mul_gives (get_or x.value k d) (get_or y.value k d) (get_or r.value k d) };
 
-    #[inline]
+    #[inline(always)]
     fn mul(self, other: Self) -> Self {
         let mut value = self.value;
         for i in 0..N {
