@@ -4,7 +4,9 @@ ghost use Rattle.std.specs.Prelude.{◌≡◌, ◌<◌, ◌*◌, ◌%◌, ◌^�
 use crate::form::{Form, ShortForm, add_short};
 use crate::fp::Fp;
 use crate::short_sums::{ShortWord, sum_last_products, sum_products};
-use p3_bench_residues::montgomery::{montgomery_product, montgomery_short_sum, montgomery_sum};
+use p3_bench_residues::montgomery::{
+    montgomery_product, montgomery_reduce_word, montgomery_short_sum, montgomery_sum,
+};
 use p3_bench_residues::remainder::remainder_of_sum;
 use p3_bench_residues::short_words::{add_words, halve_word, negate_word, subtract_words};
 use std::alloc::AllocError;
@@ -64,6 +66,16 @@ fn reduced_sum<M: MontgomeryModulus>(sum: u128) -> u32
     ensures value { (result * 2 ^ 32) % M.ORDER ≡ sum % M.ORDER }
 {
     montgomery_sum(sum, M::ORDER, M::INVERSE)
+}
+
+/// The residue that is a sum of at most two products of residues once it is multiplied by 2^32.
+#[inline]
+fn reduced_pair_sum<M: MontgomeryModulus>(sum: u64) -> u32
+    requires { sum < 2 ^ 32 * M.ORDER }
+    ensures below { result < M.ORDER }
+    ensures value { (result * 2 ^ 32) % M.ORDER ≡ sum % M.ORDER }
+{
+    montgomery_reduce_word(sum, M::ORDER, M::INVERSE)
 }
 
 /// The residue that is a sum of at most four products of residues once it is multiplied by 2^32.
@@ -168,12 +180,16 @@ impl<M: MontgomeryModulus> Form<u32> for Montgomery<M> {
     }
 
     /// The sum of the products of the words, which is reduced once, at the end: in 64 bits where there
-    /// are at most four.
+    /// are at most four, of which two are below 2^32 times the order.
     #[inline]
     fn dot_product(u: &[Fp<Self, u32>], v: &[Fp<Self, u32>]) -> u32 {
         if u.len() <= 4 {
             let sum = sum_last_products(u, v, 0);
-            reduced_short_sum::<M>(sum)
+            if u.len() <= 2 {
+                reduced_pair_sum::<M>(sum)
+            } else {
+                reduced_short_sum::<M>(sum)
+            }
         } else {
             let sum = sum_products(u, v);
             reduced_sum::<M>(sum)

@@ -255,7 +255,10 @@ pub fn add_slices<F: Field, P: PackedField<F>>(slice_1: &mut [F], slice_2: &[F])
     let steps = slice_1.len() / step;
     for i in 0..steps {
         let start = i * step;
-        add_by_packing::<F, P>(&mut slice_1[start..start + step], &slice_2[start..start + step]);
+        add_by_packing::<F, P>(
+            &mut slice_1[start..start + step],
+            &slice_2[start..start + step],
+        );
     }
     let done = steps * step;
     add_by_packing::<F, P>(&mut slice_1[done..], &slice_2[done..]);
