@@ -1,4 +1,4 @@
-use Rattle.std.proofs.Common.{◌≡◌, ◌<◌, ◌++◌, ◌*◌, length, take, drop}
+use Rattle.std.proofs.Common.{◌≡◌, ◌++◌, ◌*◌, length, take, drop}
 use Rattle.p3_theory.specs.Lists.PairedLists.{zip_with}
 use Rattle.p3_tools.proofs.helpers.add_slices.Given as goal
 

@@ -1,4 +1,4 @@
-use Rattle.std.proofs.Common.{rules, subst, sym, ◌≡◌, get_or}
+use Rattle.std.proofs.Common.{rules, subst, sym, get_or}
 use Rattle.p3_theory.specs.Lanes.Lanes.{at_replicate}
 use Rattle.p3_bench_packed.proofs.scalar_operators.PackedMul.mul.Goals as goal
 
