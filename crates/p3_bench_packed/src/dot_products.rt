@@ -43,8 +43,10 @@ fn lane_dot_product<F: PrimeCharacteristicRing, const N: usize, const K: usize>(
     F::dot_product(&left, &right)
 }
 
-/// The dot product of K packings and K others, lane by lane.
-#[inline(always)]
+/// The dot product of K packings and K others, lane by lane. It isn't taken into its callers: where one
+/// packing stands in several dot products of one function, the compiler finds it too dear to take them in
+/// vectors.
+#[inline(never)]
 fn dot_by_lanes<F: PrimeCharacteristicRing, const N: usize, const K: usize>(
     u: &[Packed<F, N>],
     v: &[Packed<F, N>],
@@ -100,8 +102,8 @@ fn dot_by_blocks<F: PrimeCharacteristicRing, const N: usize>(
 }
 
 /// The dot product of two slices of packings. Of the few positions that the formulas of extensions have a
-/// type reduces the sum of their products once, and so it does at each lane. It is taken into each caller
-/// with all that it calls, where the number of positions is known.
+/// type reduces the sum of their products once, and so it does at each lane. It is taken into each caller,
+/// where the number of positions is known.
 #[inline(always)]
 pub(crate) fn packed_dot_product<F: PrimeCharacteristicRing, const N: usize>(
     u: &[Packed<F, N>],

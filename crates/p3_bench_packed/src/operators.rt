@@ -99,7 +99,7 @@ impl<F: Copy + Mul<Output = F>, const N: usize> MulAssign for Packed<F, N> {
 
     ghost mul_assign_gives = { λ x y r. (d : F) (k : ℕ) → k < N → F.mul_gives (get_or x.value k d) (get_or y.value k d) (get_or r.value k d) };
 
-    #[inline]
+    #[inline(always)]
     fn mul_assign(&mut self, other: Self) {
         *self = *self * other;
     }

@@ -71,7 +71,7 @@ fn reduced_sum<M: MontgomeryModulus>(sum: u128) -> u32
 /// The residue that is a sum of at most two products of residues once it is multiplied by 2^32.
 #[inline]
 fn reduced_pair_sum<M: MontgomeryModulus>(sum: u64) -> u32
-    requires { sum < 2 ^ 32 * M.ORDER }
+    requires { sum < M.ORDER * 2 ^ 32 }
     ensures below { result < M.ORDER }
     ensures value { (result * 2 ^ 32) % M.ORDER ≡ sum % M.ORDER }
 {

@@ -51,39 +51,3 @@ module _ (p i low : ℕ) (inverse : (p * i) % 2 ^ 32 ≡ 1) (word : low < 2 ^ 32
 pub high_reduced : (p low rest : ℕ) → (low + 2 ^ 32 * (rest % p)) % p ≡ (low + 2 ^ 32 * rest) % p
 high_reduced p low rest =
     sym (add-mod_second low (2 ^ 32 * (rest % p)) p) ∙ ap (λ z. (low + z) % p) (mul-mod_second (2 ^ 32) rest p) ∙ add-mod_second low (2 ^ 32 * rest) p
-
--- the remainder by a multiple of p has the remainder by p
-pub remainder_of_remainder : (x p k : ℕ) → (x % (p * k)) % p ≡ x % p
-remainder_of_remainder x p k =
-    let whole : x % (p * k) + p * (k * (x / (p * k))) ≡ x = omega (arith, mod-add-div x (p * k)) in
-    sym (add-mul-mod_self_left (x % (p * k)) p (k * (x / (p * k)))) ∙ ap (λ z. z % p) whole
-
-module _ (p i s : ℕ) (inverse : (p * i) % 2 ^ 32 ≡ 1) (positive : 0 < p) where
-  pub low_bits : s % 2 ^ 32 < 2 ^ 32
-  low_bits = mod-lt s (omega arith)
-
-  abbrev multiple : ℕ
-  multiple = factor p i (s % 2 ^ 32) inverse low_bits positive * p
-
-  -- the difference of the number and the multiple is so many times 2^32
-  difference_is : s + (p * 2 ^ 32 - multiple) ≡ 2 ^ 32 * (s / 2 ^ 32 + (p - multiple / 2 ^ 32))
-  difference_is =
-      omega (arith, mod-add-div s (2 ^ 32), multiple_is p i (s % 2 ^ 32) inverse low_bits positive, multiple_below p i (s % 2 ^ 32) inverse low_bits positive)
-
-  -- and it is the number and a multiple of p
-  added_multiple : (f k : ℕ) → f + k ≡ 2 ^ 32 → s + (p * 2 ^ 32 - f * p) ≡ s + p * k
-  added_multiple f k e = let full : p * (f + k) ≡ p * 2 ^ 32 = ap (λ z. p * z) e in omega (arith, full)
-
-  pub word_reduced : (d t : ℕ) → d ≡ (s + (p * 2 ^ 32 - multiple)) % (p * 2 ^ 32) → t ≡ d / 2 ^ 32 → (t * 2 ^ 32) % p ≡ s % p
-  word_reduced d t e q =
-      let x = s + (p * 2 ^ 32 - multiple) in
-      let n = s / 2 ^ 32 + (p - multiple / 2 ^ 32) in
-      let swapped : p * 2 ^ 32 ≡ 2 ^ 32 * p = omega arith in
-      let above : x ≡ 0 + 2 ^ 32 * n = omega (arith, difference_is) in
-      let ends : d % 2 ^ 32 ≡ 0 =
-      ap (λ z. z % 2 ^ 32) (e ∙ ap (λ z. x % z) swapped) ∙ remainder_of_remainder x (2 ^ 32) p ∙ ap (λ z. z % 2 ^ 32) above ∙ add-mul-mod_self_left 0 (2 ^ 32) n
-      in
-      let whole : t * 2 ^ 32 ≡ d = omega (arith, q, ends, mod-add-div d (2 ^ 32)) in
-      let f = factor p i (s % 2 ^ 32) inverse low_bits positive in
-      ap (λ z. z % p) (whole ∙ e) ∙ remainder_of_remainder x p (2 ^ 32)
-      ∙ ap (λ z. z % p) (added_multiple f (2 ^ 32 - f) (omega (arith, factor_below p i (s % 2 ^ 32) inverse low_bits positive))) ∙ add-mul-mod_self_left s p (2 ^ 32 - f)

@@ -15,6 +15,18 @@ pub fn add_words(left: u32, right: u32, order: u32) -> u32
     sum.min(sum.wrapping_sub(order))
 }
 
+/// A word below twice the order, modulo the order: of the word and that less the order, wrapping, the
+/// smaller one.
+#[inline]
+pub fn reduce_once(word: u32, order: u32) -> u32
+    requires fits { order < 2 ^ 31 }
+    requires below { word < order + order }
+    ensures below { result < order }
+    ensures value { result ≡ word % order }
+{
+    word.min(word.wrapping_sub(order))
+}
+
 /// The difference of two residues: of the wrapping difference and that with the order more the smaller
 /// one, which vectors have as one step.
 #[inline]
