@@ -9,7 +9,7 @@ use crate::packed::Packed;
 use p3_ring::ring::PrimeCharacteristicRing;
 
 /// The values of K packings at a lane.
-#[inline(always)]
+#[inline]
 fn lane_values<F: PrimeCharacteristicRing, const N: usize, const K: usize>(
     packings: &[Packed<F, N>],
     lane: usize,
@@ -27,7 +27,7 @@ fn lane_values<F: PrimeCharacteristicRing, const N: usize, const K: usize>(
 }
 
 /// The dot product of the values of K positions at a lane, by the lanes' own `dot_product`.
-#[inline(always)]
+#[inline]
 fn lane_dot_product<F: PrimeCharacteristicRing, const N: usize, const K: usize>(
     u: &[Packed<F, N>],
     v: &[Packed<F, N>],
@@ -43,10 +43,8 @@ fn lane_dot_product<F: PrimeCharacteristicRing, const N: usize, const K: usize>(
     F::dot_product(&left, &right)
 }
 
-/// The dot product of K packings and K others, lane by lane. It isn't taken into its callers: where one
-/// packing stands in several dot products of one function, the compiler finds it too dear to take them in
-/// vectors.
-#[inline(never)]
+/// The dot product of K packings and K others, lane by lane.
+#[inline]
 fn dot_by_lanes<F: PrimeCharacteristicRing, const N: usize, const K: usize>(
     u: &[Packed<F, N>],
     v: &[Packed<F, N>],

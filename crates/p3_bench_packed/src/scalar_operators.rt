@@ -60,19 +60,6 @@ impl<F: Copy + Sub<Output = F>, const N: usize> SubAssign<F> for Packed<F, N> {
     }
 }
 
-/// The product of two packings. It isn't taken into its callers: where the compiler sees that all lanes of a
-/// factor are one value, it takes products in Montgomery's form out of the vectors.
-#[inline(never)]
-fn times_packing<F: Copy + Mul<Output = F>, const N: usize>(
-    x: Packed<F, N>,
-    y: Packed<F, N>,
-) -> Packed<F, N>
-    requires { (d : F) (k : ℕ) → k < N → F.can_mul (get_or x.value k d) (get_or y.value k d) }
-    ensures { (d : F) (k : ℕ) → k < N → F.mul_gives (get_or x.value k d) (get_or y.value k d) (get_or result.value k d) }
-{
-    x * y
-}
-
 impl<F: Copy + Mul<Output = F>, const N: usize> Mul<F> for Packed<F, N> {
     type Output = Self;
 
@@ -82,7 +69,11 @@ impl<F: Copy + Mul<Output = F>, const N: usize> Mul<F> for Packed<F, N> {
 
     #[inline]
     fn mul(self, other: F) -> Self {
-        times_packing(self, Self::new([other; N]))
+        let mut value = self.value;
+        for i in 0..N {
+            value[i] = self.value[i] * other;
+        }
+        Self::new(value)
     }
 }
 
