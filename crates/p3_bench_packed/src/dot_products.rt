@@ -6,6 +6,7 @@ ghost use Rattle.p3_theory.specs.Lanes.RowRing.{item, row_ops};
 ghost use Rattle.p3_bench_packed.specs.Values.{packed_rows};
 
 use crate::packed::Packed;
+use crate::wide_products::WideProducts;
 use p3_ring::ring::PrimeCharacteristicRing;
 
 /// The values of K packings at a lane.
@@ -60,6 +61,36 @@ fn dot_by_lanes<F: PrimeCharacteristicRing, const N: usize, const K: usize>(
     Packed::new(value)
 }
 
+/// The same, in a function that isn't taken into its callers (see `WideProducts`).
+#[inline(never)]
+fn dot_by_lanes_apart<F: PrimeCharacteristicRing, const N: usize, const K: usize>(
+    u: &[Packed<F, N>],
+    v: &[Packed<F, N>],
+) -> Packed<F, N>
+    requires left { length u.now ≡ K }
+    requires right { length v.now ≡ K }
+    ensures { result ≡ dot (row_ops packed_rows F.ops) u.now v.now }
+{
+    dot_by_lanes::<F, N, K>(u, v)
+}
+
+/// The dot product of K packings and K others, by a call where a product takes more than 32 bits.
+#[inline]
+fn short_dot<F: PrimeCharacteristicRing + WideProducts, const N: usize, const K: usize>(
+    u: &[Packed<F, N>],
+    v: &[Packed<F, N>],
+) -> Packed<F, N>
+    requires left { length u.now ≡ K }
+    requires right { length v.now ≡ K }
+    ensures { result ≡ dot (row_ops packed_rows F.ops) u.now v.now }
+{
+    if F::WIDE {
+        dot_by_lanes_apart::<F, N, K>(u, v)
+    } else {
+        dot_by_lanes::<F, N, K>(u, v)
+    }
+}
+
 /// The sum so far and the products of the positions from `start` on, one after the other.
 #[inline]
 fn add_products<F: PrimeCharacteristicRing, const N: usize>(
@@ -103,7 +134,7 @@ fn dot_by_blocks<F: PrimeCharacteristicRing, const N: usize>(
 /// type reduces the sum of their products once, and so it does at each lane. It is taken into each caller,
 /// where the number of positions is known.
 #[inline(always)]
-pub(crate) fn packed_dot_product<F: PrimeCharacteristicRing, const N: usize>(
+pub(crate) fn packed_dot_product<F: PrimeCharacteristicRing + WideProducts, const N: usize>(
     u: &[Packed<F, N>],
     v: &[Packed<F, N>],
 ) -> Packed<F, N>
@@ -111,9 +142,9 @@ pub(crate) fn packed_dot_product<F: PrimeCharacteristicRing, const N: usize>(
     ensures { result ≡ dot (row_ops packed_rows F.ops) u.now v.now }
 {
     match u.len() {
-        2 => dot_by_lanes::<F, N, 2>(u, v),
-        3 => dot_by_lanes::<F, N, 3>(u, v),
-        4 => dot_by_lanes::<F, N, 4>(u, v),
+        2 => short_dot::<F, N, 2>(u, v),
+        3 => short_dot::<F, N, 3>(u, v),
+        4 => short_dot::<F, N, 4>(u, v),
         _ => dot_by_blocks(u, v),
     }
 }

@@ -2,6 +2,7 @@
 ghost use Rattle.std.specs.Prelude.{◌≡◌, ◌<◌, ◌^◌, ℕ};
 
 use crate::packed::Packed;
+use crate::wide_products::WideProducts;
 use p3_base::field::Field;
 use p3_base::packed_traits::{Inhabited, Packable, PackedField, PackedFieldPow2, PackedValue};
 use p3_bench_prime::form::{Form, Word};
@@ -68,7 +69,7 @@ impl<F: Inhabited, const N: usize> Inhabited for Packed<F, N> {
 impl<F: Copy, const N: usize> Packing for Packed<F, N> {}
 
 /// A field whose values stand in packings of N lanes.
-pub trait Lanes<const N: usize>: Field + Packable {
+pub trait Lanes<const N: usize>: Field + Packable + WideProducts {
     /// There is at least one lane.
     ghost some_lane: { 0 < N };
 

@@ -7,3 +7,4 @@ pub mod operators;
 pub mod packed;
 pub mod ring;
 pub mod scalar_operators;
+pub mod wide_products;

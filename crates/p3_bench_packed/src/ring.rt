@@ -3,11 +3,12 @@ ghost use Rattle.std.specs.Prelude.{◌≡◌};
 
 use crate::dot_products::packed_dot_product;
 use crate::packed::Packed;
+use crate::wide_products::WideProducts;
 use p3_ring::accumulate::{product_from, sum_from};
 use p3_ring::ring::{Algebra, PrimeCharacteristicRing, RingSums};
 use std::iter::{Product, Sum};
 
-impl<F: PrimeCharacteristicRing, const N: usize> Sum<Packed<F, N>> for Packed<F, N> {
+impl<F: PrimeCharacteristicRing + WideProducts, const N: usize> Sum<Packed<F, N>> for Packed<F, N> {
     ghost use Rattle.p3_theory.specs.Rings.Operators.{sum_list};
     ghost use Rattle.p3_theory.specs.Lanes.RowRing.{row_ops};
     ghost use Rattle.p3_bench_packed.specs.Values.{packed_rows};
@@ -21,7 +22,8 @@ impl<F: PrimeCharacteristicRing, const N: usize> Sum<Packed<F, N>> for Packed<F,
     }
 }
 
-impl<F: PrimeCharacteristicRing, const N: usize> Product<Packed<F, N>> for Packed<F, N> {
+impl<F: PrimeCharacteristicRing + WideProducts, const N: usize> Product<Packed<F, N>>
+    for Packed<F, N> {
     ghost use Rattle.p3_theory.specs.Rings.Operators.{product_list};
     ghost use Rattle.p3_theory.specs.Lanes.RowRing.{row_ops};
     ghost use Rattle.p3_bench_packed.specs.Values.{packed_rows};
@@ -35,7 +37,7 @@ impl<F: PrimeCharacteristicRing, const N: usize> Product<Packed<F, N>> for Packe
     }
 }
 
-impl<F: PrimeCharacteristicRing, const N: usize> Sum<F> for Packed<F, N> {
+impl<F: PrimeCharacteristicRing + WideProducts, const N: usize> Sum<F> for Packed<F, N> {
     ghost use Rattle.p3_theory.specs.Rings.Operators.{sum_list};
     ghost use Rattle.p3_theory.specs.Lanes.RowRing.{constant};
     ghost use Rattle.p3_bench_packed.specs.Values.{packed_rows};
@@ -50,7 +52,7 @@ impl<F: PrimeCharacteristicRing, const N: usize> Sum<F> for Packed<F, N> {
     }
 }
 
-impl<F: PrimeCharacteristicRing, const N: usize> Product<F> for Packed<F, N> {
+impl<F: PrimeCharacteristicRing + WideProducts, const N: usize> Product<F> for Packed<F, N> {
     ghost use Rattle.p3_theory.specs.Rings.Operators.{product_list};
     ghost use Rattle.p3_theory.specs.Lanes.RowRing.{constant};
     ghost use Rattle.p3_bench_packed.specs.Values.{packed_rows};
@@ -65,7 +67,8 @@ impl<F: PrimeCharacteristicRing, const N: usize> Product<F> for Packed<F, N> {
     }
 }
 
-impl<F: PrimeCharacteristicRing, const N: usize> PrimeCharacteristicRing for Packed<F, N> {
+impl<F: PrimeCharacteristicRing + WideProducts, const N: usize> PrimeCharacteristicRing
+    for Packed<F, N> {
     ghost use Rattle.p3_theory.specs.Lanes.RowRing.{row_ops, row_laws, row_characteristic, written_sum, written_product, written_negation, written_difference};
     ghost use Rattle.p3_bench_packed.specs.Values.{packed_rows};
 
@@ -124,13 +127,13 @@ impl<F: PrimeCharacteristicRing, const N: usize> PrimeCharacteristicRing for Pac
     ghost mul_assigns = { record { called = λ _ _ _ _ _. F.muls.called _ _; answer = λ x y r h. written_product packed_rows F.ops x y r (λ d k w. F.muls.answer _ _ _ (h d k w)) } };
 }
 
-impl<F: PrimeCharacteristicRing, const N: usize> RingSums for Packed<F, N> {
+impl<F: PrimeCharacteristicRing + WideProducts, const N: usize> RingSums for Packed<F, N> {
     ghost sums = { record { called = λ _. tt; answer = λ _ _ h. h; whole = λ _. tt } };
 
     ghost products = { record { called = λ _. tt; answer = λ _ _ h. h; whole = λ _. tt } };
 }
 
-impl<F: PrimeCharacteristicRing, const N: usize> Algebra<F> for Packed<F, N> {
+impl<F: PrimeCharacteristicRing + WideProducts, const N: usize> Algebra<F> for Packed<F, N> {
     ghost use Rattle.std.specs.Prelude.{refl};
     ghost use Rattle.std.proofs.Common.{lit<};
     ghost use Rattle.p3_theory.specs.Lanes.RowRing.{constant, constants_keep, written_constant, written_mixed_sum, written_mixed_difference, written_mixed_product};

@@ -2,6 +2,7 @@
 ghost use Rattle.std.specs.Prelude.{◌<◌, ℕ, get_or};
 
 use crate::packed::Packed;
+use crate::wide_products::WideProducts;
 use std::ops::{Add, AddAssign, Div, DivAssign, Mul, MulAssign, Sub, SubAssign};
 
 impl<F: Copy + Add<Output = F>, const N: usize> Add<F> for Packed<F, N> {
@@ -60,7 +61,32 @@ impl<F: Copy + Sub<Output = F>, const N: usize> SubAssign<F> for Packed<F, N> {
     }
 }
 
-impl<F: Copy + Mul<Output = F>, const N: usize> Mul<F> for Packed<F, N> {
+/// The product of a packing and a value.
+#[inline]
+fn times_value<F: Copy + Mul<Output = F>, const N: usize>(x: Packed<F, N>, y: F) -> Packed<F, N>
+    requires { (d : F) (k : ℕ) → k < N → F.can_mul (get_or x.value k d) y }
+    ensures { (d : F) (k : ℕ) → k < N → F.mul_gives (get_or x.value k d) y (get_or result.value k d) }
+{
+    let mut value = x.value;
+    for i in 0..N {
+        value[i] = x.value[i] * y;
+    }
+    Packed::new(value)
+}
+
+/// The product of two packings, in a function that isn't taken into its callers (see `WideProducts`).
+#[inline(never)]
+fn times_packing<F: Copy + Mul<Output = F>, const N: usize>(
+    x: Packed<F, N>,
+    y: Packed<F, N>,
+) -> Packed<F, N>
+    requires { (d : F) (k : ℕ) → k < N → F.can_mul (get_or x.value k d) (get_or y.value k d) }
+    ensures { (d : F) (k : ℕ) → k < N → F.mul_gives (get_or x.value k d) (get_or y.value k d) (get_or result.value k d) }
+{
+    x * y
+}
+
+impl<F: Copy + Mul<Output = F> + WideProducts, const N: usize> Mul<F> for Packed<F, N> {
     type Output = Self;
 
     ghost can_mul = { λ x f. (d : F) (k : ℕ) → k < N → F.can_mul (get_or x.value k d) f };
@@ -69,15 +95,15 @@ impl<F: Copy + Mul<Output = F>, const N: usize> Mul<F> for Packed<F, N> {
 
     #[inline]
     fn mul(self, other: F) -> Self {
-        let mut value = self.value;
-        for i in 0..N {
-            value[i] = self.value[i] * other;
+        if F::WIDE {
+            times_packing(self, Self::new([other; N]))
+        } else {
+            times_value(self, other)
         }
-        Self::new(value)
     }
 }
 
-impl<F: Copy + Mul<Output = F>, const N: usize> MulAssign<F> for Packed<F, N> {
+impl<F: Copy + Mul<Output = F> + WideProducts, const N: usize> MulAssign<F> for Packed<F, N> {
     ghost can_mul_assign = { λ x f. (d : F) (k : ℕ) → k < N → F.can_mul (get_or x.value k d) f };
 
     ghost mul_assign_gives = { λ x f r. (d : F) (k : ℕ) → k < N → F.mul_gives (get_or x.value k d) f (get_or r.value k d) };

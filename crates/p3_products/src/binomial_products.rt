@@ -161,7 +161,9 @@ pub fn cubic_mul<F: PrimeCharacteristicRing, A: Algebra<F>>(a: &[A], b: &[A], re
     let c0 = a0_b0 + cross_12_w;
     let c1 = cross_01 + a2_b2_w;
     let c2 = cross_02 + a1_b1;
-    res.copy_from_slice(&[c0, c1, c2]);
+    res[0] = c0;
+    res[1] = c1;
+    res[2] = c2;
 }
 
 /// The square of a list of three coefficients modulo `X^3 - W`.
@@ -187,7 +189,9 @@ pub fn cubic_square<F: PrimeCharacteristicRing, A: Algebra<F>>(a: &[A], res: &mu
     let c0 = a0_a0 + two_a1_a2_w;
     let c1 = a2_a2_w + two_a0_a1;
     let c2 = a1_a1 + two_a0_a2;
-    res.copy_from_slice(&[c0, c1, c2]);
+    res[0] = c0;
+    res[1] = c1;
+    res[2] = c2;
 }
 
 /// The sum of the products of two lists of N coefficients, index by index: `dot_product`, with the
@@ -225,7 +229,10 @@ pub fn quartic_product<F: PrimeCharacteristicRing, A: Algebra<F>>(
     let c1 = array_dot_product(left, [b1, b0, b3_w, b2_w]);
     let c2 = array_dot_product(left, [b2, b1, b0, b3_w]);
     let c3 = array_dot_product(left, [b3, b2, b1, b0]);
-    res.copy_from_slice(&[c0, c1, c2, c3]);
+    res[0] = c0;
+    res[1] = c1;
+    res[2] = c2;
+    res[3] = c3;
 }
 
 /// The square of a list of four coefficients modulo `X^4 - W`.
@@ -248,7 +255,10 @@ pub fn quartic_square<F: PrimeCharacteristicRing, A: Algebra<F>>(a: &[A], res: &
     let c1 = array_dot_product([two_a0, two_a2], [a1, a3_w]);
     let c2 = array_dot_product([a1, a3_w, two_a0], [a1, a3, a2]);
     let c3 = array_dot_product([two_a0, two_a2], [a3, a1]);
-    res.copy_from_slice(&[c0, c1, c2, c3]);
+    res[0] = c0;
+    res[1] = c1;
+    res[2] = c2;
+    res[3] = c3;
 }
 
 /// The product of two lists of five coefficients modulo `X^5 - W`.
@@ -276,7 +286,11 @@ pub fn quintic_product<F: PrimeCharacteristicRing, A: Algebra<F>>(
     let c2 = array_dot_product(left, [b2, b1, b0, b4_w, b3_w]);
     let c3 = array_dot_product(left, [b3, b2, b1, b0, b4_w]);
     let c4 = array_dot_product(left, [b4, b3, b2, b1, b0]);
-    res.copy_from_slice(&[c0, c1, c2, c3, c4]);
+    res[0] = c0;
+    res[1] = c1;
+    res[2] = c2;
+    res[3] = c3;
+    res[4] = c4;
 }
 
 /// The square of a list of five coefficients modulo `X^5 - W`.
@@ -302,7 +316,11 @@ pub fn quintic_square<F: PrimeCharacteristicRing, A: Algebra<F>>(a: &[A], res: &
     let c2 = array_dot_product([a1, two_a0, w_a4], [a1, a2, two_a3]);
     let c3 = array_dot_product([w_a4, two_a0, two_a1], [a4, a3, a2]);
     let c4 = array_dot_product([a2, two_a0, two_a1], [a2, a4, a3]);
-    res.copy_from_slice(&[c0, c1, c2, c3, c4]);
+    res[0] = c0;
+    res[1] = c1;
+    res[2] = c2;
+    res[3] = c3;
+    res[4] = c4;
 }
 
 /// The product of two lists of eight coefficients modulo `X^8 - W`.
@@ -336,7 +354,14 @@ pub fn octic_product<F: PrimeCharacteristicRing, A: Algebra<F>>(
     let c5 = array_dot_product(left, [b5, b4, b3, b2, b1, b0, b7_w, b6_w]);
     let c6 = array_dot_product(left, [b6, b5, b4, b3, b2, b1, b0, b7_w]);
     let c7 = array_dot_product(left, [b7, b6, b5, b4, b3, b2, b1, b0]);
-    res.copy_from_slice(&[c0, c1, c2, c3, c4, c5, c6, c7]);
+    res[0] = c0;
+    res[1] = c1;
+    res[2] = c2;
+    res[3] = c3;
+    res[4] = c4;
+    res[5] = c5;
+    res[6] = c6;
+    res[7] = c7;
 }
 
 /// The square of a list of eight coefficients modulo `X^8 - W`.
@@ -367,5 +392,12 @@ pub fn octic_square<F: PrimeCharacteristicRing, A: Algebra<F>>(a: &[A], res: &mu
     let c5 = array_dot_product([a0_2, a1_2, a2_2, a6], [a5, a4, a3, w_a7_2]);
     let c6 = array_dot_product([a0_2, a1_2, a2_2, a3, a7], [a6, a5, a4, a3, w_a7]);
     let c7 = array_dot_product([a0_2, a1_2, a2_2, a3_2], [a7, a6, a5, a4]);
-    res.copy_from_slice(&[c0, c1, c2, c3, c4, c5, c6, c7]);
+    res[0] = c0;
+    res[1] = c1;
+    res[2] = c2;
+    res[3] = c3;
+    res[4] = c4;
+    res[5] = c5;
+    res[6] = c6;
+    res[7] = c7;
 }

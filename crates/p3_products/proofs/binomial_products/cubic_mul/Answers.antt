@@ -1,6 +1,7 @@
 use Rattle.std.proofs.Common.{◌++◌, ◌∙◌, [], ◌∷◌, ap₂, sym}
 use Rattle.p3_theory.specs.Polynomials.Polynomial.{quotient_mul, binomial}
 use Rattle.p3_theory.specs.Lists.ListItems.{items_are}
+use Rattle.p3_theory.specs.Lists.WrittenItems.{all_written}
 use Rattle.p3_theory.specs.RingSolver.Solver.{V, free}
 use Rattle.p3_theory.specs.RingSolver.Reify.{yes}
 use Rattle.p3_theory.specs.RingSolver.StraightLine.{reads_list, sum_read, product_read, scaled_read, answer_read, formula, variables}
@@ -14,8 +15,9 @@ returns g c =
     let w = g.A.Algebra.embed c.args.w in
     let a = c.index-a-0.result ∷ c.index-a-1.result ∷ c.index-a-2.result ∷ [] in
     let b = c.index-b-0.result ∷ c.index-b-1.result ∷ c.index-b-2.result ∷ [] in
-    c.copy_from_slice.ensures.after
-    ∙ formula o (a ++ b ++ w ∷ []) (c.add-c0.result ∷ c.add-c1.result ∷ c.add-c2.result ∷ []) m.ring
+    let places = c.add-c0.result ∷ c.add-c1.result ∷ c.add-c2.result ∷ [] in
+    all_written c.args.res.now places c.requires.room
+    ∙ formula o (a ++ b ++ w ∷ []) places m.ring
     (λ P a0 a1 a2 b0 b1 b2 w_read. search (reads_list, sum_read o P m.adds, product_read o P m.muls, scaled_read o P x.mixed_muls, c.add-c0.ensures, c.add-c1.ensures, c.add-c2.ensures, c.mul-a0_b0.ensures, c.mul-a1_b1.ensures, c.mul-a2_b2.ensures, c.mul-cross_12_w.ensures, c.mul-a2_b2_w.ensures, answer_read o P c.cross_sum-cross_12.ensures, answer_read o P c.cross_sum-cross_01.ensures, answer_read o P c.cross_sum-cross_02.ensures) depth 99 fits 99999)
     (quotient_mul free 3 (binomial free 3 (V 6)) (variables 0 3) (variables 3 3)) yes
     ∙ ap₂ (quotient_mul o 3 (binomial o 3 w)) (sym (items_are c.args.a.now a c.requires.left search)) (sym (items_are c.args.b.now b c.requires.right search))

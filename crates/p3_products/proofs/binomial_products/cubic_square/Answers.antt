@@ -1,6 +1,7 @@
 use Rattle.std.proofs.Common.{◌++◌, ◌∙◌, [], ◌∷◌, ap, sym}
 use Rattle.p3_theory.specs.Polynomials.Polynomial.{quotient_mul, binomial}
 use Rattle.p3_theory.specs.Lists.ListItems.{items_are}
+use Rattle.p3_theory.specs.Lists.WrittenItems.{all_written}
 use Rattle.p3_theory.specs.RingSolver.Solver.{V, free}
 use Rattle.p3_theory.specs.RingSolver.Reify.{yes}
 use Rattle.p3_theory.specs.RingSolver.StraightLine.{reads_list, sum_read, product_read, scaled_read, answer_read, formula, variables}
@@ -13,8 +14,9 @@ returns g c =
     let x = g.met.A.Algebra in
     let w = g.A.Algebra.embed c.args.w in
     let a = c.index-a-0.result ∷ c.index-a-1.result ∷ c.index-a-2.result ∷ [] in
-    c.copy_from_slice.ensures.after
-    ∙ formula o (a ++ w ∷ []) (c.add-c0.result ∷ c.add-c1.result ∷ c.add-c2.result ∷ []) m.ring
+    let places = c.add-c0.result ∷ c.add-c1.result ∷ c.add-c2.result ∷ [] in
+    all_written c.args.res.now places c.requires.room
+    ∙ formula o (a ++ w ∷ []) places m.ring
     (λ P a0 a1 a2 w_read. search (reads_list, sum_read o P m.adds, product_read o P m.muls, scaled_read o P x.mixed_muls, c.add-c0.ensures, c.add-c1.ensures, c.add-c2.ensures, c.mul-a1_a2_w.ensures, c.mul-a2_a2_w.ensures, c.mul-a0_a1.ensures, c.mul-a0_a2.ensures, c.mul-a2_w.ensures, answer_read o P c.square-a0_a0.ensures, answer_read o P c.square-a1_a1.ensures, answer_read o P c.double-two_a1_a2_w.ensures, answer_read o P c.double-two_a0_a1.ensures, answer_read o P c.double-two_a0_a2.ensures) depth 99 fits 99999)
     (quotient_mul free 3 (binomial free 3 (V 3)) (variables 0 3) (variables 0 3)) yes
     ∙ ap (λ l. quotient_mul o 3 (binomial o 3 w) l l) (sym (items_are c.args.a.now a c.requires.input search))

@@ -1,6 +1,7 @@
 use Rattle.std.proofs.Common.{◌++◌, ◌∙◌, [], ◌∷◌, ap, sym}
 use Rattle.p3_theory.specs.Polynomials.Polynomial.{quotient_mul, binomial}
 use Rattle.p3_theory.specs.Lists.ListItems.{items_are}
+use Rattle.p3_theory.specs.Lists.WrittenItems.{all_written}
 use Rattle.p3_theory.specs.RingSolver.Solver.{V, free}
 use Rattle.p3_theory.specs.RingSolver.Reify.{yes}
 use Rattle.p3_theory.specs.RingSolver.StraightLine.{reads_list, scaled_read, answer_read, formula, variables}
@@ -13,8 +14,9 @@ returns g c =
     let x = g.met.A.Algebra in
     let w = g.A.Algebra.embed c.args.w in
     let a = c.index-a-0.result ∷ c.index-a-1.result ∷ c.index-a-2.result ∷ c.index-a-3.result ∷ [] in
-    c.copy_from_slice.ensures.after
-    ∙ formula o (a ++ w ∷ []) (c.array_dot_product-c0.result ∷ c.array_dot_product-c1.result ∷ c.array_dot_product-c2.result ∷ c.array_dot_product-c3.result ∷ []) m.ring
+    let places = c.array_dot_product-c0.result ∷ c.array_dot_product-c1.result ∷ c.array_dot_product-c2.result ∷ c.array_dot_product-c3.result ∷ [] in
+    all_written c.args.res.now places c.requires.room
+    ∙ formula o (a ++ w ∷ []) places m.ring
     (λ P a0 a1 a2 a3 w_read. search (reads_list, scaled_read o P x.mixed_muls, c.mul-a2_w.ensures, c.mul-a3_w.ensures, answer_read o P c.array_dot_product-c0.ensures, answer_read o P c.array_dot_product-c1.ensures, answer_read o P c.array_dot_product-c2.ensures, answer_read o P c.array_dot_product-c3.ensures, answer_read o P c.double-two_a0.ensures, answer_read o P c.double-two_a1.ensures, answer_read o P c.double-two_a2.ensures) depth 99 fits 99999)
     (quotient_mul free 4 (binomial free 4 (V 4)) (variables 0 4) (variables 0 4)) yes
     ∙ ap (λ l. quotient_mul o 4 (binomial o 4 w) l l) (sym (items_are c.args.a.now a c.requires.input search))

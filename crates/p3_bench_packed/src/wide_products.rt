@@ -1,0 +1,16 @@
+//! Which types have products that take more than a word of 32 bits: packings of such types are multiplied by
+//! calls in some places.
+use p3_bench_prime::form::{Form, Word};
+use p3_bench_prime::fp::Fp;
+
+/// A type whose values are words. Where a product of two words takes more than 32 bits, the compiler finds
+/// vectors too dear if a factor is one value in all lanes, or if one packing stands in several dot products
+/// of a function; in functions of their own it takes such products in vectors. This project's own.
+pub trait WideProducts {
+    /// Whether a product of two words takes more than 32 bits.
+    const WIDE: bool;
+}
+
+impl<W: Form<T>, T: Word> WideProducts for Fp<W, T> {
+    const WIDE: bool = W::ORDER > 0x1_0000;
+}
