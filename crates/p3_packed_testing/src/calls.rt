@@ -1,10 +1,9 @@
 //! The calls of the tables over the extensions of the bench. The functions that choose the number of lanes
 //! are generic over the marker of a field: a test then passes the field's constants alone.
-use crate::extension_calls::{BaseCalls, PackedCalls, PackedRuns};
-use crate::rows::{Row, word};
+use crate::extension_calls::{BaseCalls, PackedCalls};
+use crate::rows::Row;
 use crate::{
-    call_tables as tables, columnwise_tables as columnwise, lane_run_tables as runs,
-    operation_tables as operations,
+    call_tables as tables, columnwise_tables as columnwise, operation_tables as operations,
 };
 use p3_bench_packed::packed::Packed;
 use p3_bench_prime::baby_bear::BabyBearModulus;
@@ -105,80 +104,11 @@ fn over_base<W: Form<u32>>(alloc: Global, row: Row<'_>) -> Result<Option<bool>, 
     }
 }
 
-/// A row's run over vectors of packings of 4 or 8 values of the extension by `X^2 = W`.
-fn runs_over_quadratic<W: BinomialConstants<2>>(
-    alloc: Global,
-    row: Row<'_>,
-) -> Result<Option<bool>, AllocError> {
-    match row.lanes {
-        "4" => {
-            <Packed<Fp<W>, 4> as PackedRuns<Fp<W>, Binomial<Fp<W>>, 2>>::runs_agree(
-                alloc, None, row,
-            )
-        }
-        "8" => {
-            <Packed<Fp<W>, 8> as PackedRuns<Fp<W>, Binomial<Fp<W>>, 2>>::runs_agree(
-                alloc, None, row,
-            )
-        }
-        _ => Ok(None),
-    }
-}
-
-/// The same of the extension by `X^4 = W`.
-fn runs_over_quartic<W: BinomialConstants<4>>(
-    alloc: Global,
-    row: Row<'_>,
-) -> Result<Option<bool>, AllocError> {
-    match row.lanes {
-        "4" => {
-            <Packed<Fp<W>, 4> as PackedRuns<Fp<W>, Binomial<Fp<W>>, 4>>::runs_agree(
-                alloc, None, row,
-            )
-        }
-        "8" => {
-            <Packed<Fp<W>, 8> as PackedRuns<Fp<W>, Binomial<Fp<W>>, 4>>::runs_agree(
-                alloc, None, row,
-            )
-        }
-        _ => Ok(None),
-    }
-}
-
-/// The same of the extension by `X^3 = X + 1`.
-fn runs_over_cubic<W: TrinomialConstants<3, CubicTrinomial>>(
-    alloc: Global,
-    row: Row<'_>,
-) -> Result<Option<bool>, AllocError> {
-    match row.lanes {
-        "4" => {
-            <Packed<Fp<W>, 4> as PackedRuns<Fp<W>, CubicTrinomial, 3>>::runs_agree(alloc, None, row)
-        }
-        "8" => {
-            <Packed<Fp<W>, 8> as PackedRuns<Fp<W>, CubicTrinomial, 3>>::runs_agree(alloc, None, row)
-        }
-        _ => Ok(None),
-    }
-}
-
-/// Whether a row's run has its registers after; `Ok(None)` where there is none.
-fn run_agrees(alloc: Global, row: Row<'_>) -> Result<Option<bool>, AllocError> {
-    match row.field {
-        "f17x2" => runs_over_quadratic::<Plain<M17>>(alloc, row),
-        "f31t3" => runs_over_cubic::<Plain<M31>>(alloc, row),
-        "bbx4" => runs_over_quartic::<Montgomery<BabyBearModulus>>(alloc, row),
-        _ => Ok(None),
-    }
-}
-
 /// Whether the call of a line has its answer; `Ok(None)` where the line can't be read or names no call.
 fn agrees(alloc: Global, line: &str) -> Result<Option<bool>, AllocError> {
     let Some(row) = Row::read(line) else {
         return Ok(None);
     };
-    if word(row.call, 0) == "run_lane_steps" {
-        return run_agrees(alloc, row);
-    }
     match row.field {
         "f17" => over_base::<Plain<M17>>(alloc, row),
         "f17x2" => over_quadratic::<Plain<M17>>(alloc, row),
@@ -237,12 +167,4 @@ fn columnwise_products(rt: HostRuntime) -> Result<(), Fail> {
     assert_table(&rt, columnwise::OVER_F17X2)?;
     assert_table(&rt, columnwise::OVER_F31T3)?;
     assert_table(&rt, columnwise::OVER_BBX4)
-}
-
-#[test]
-fn runs_over_vectors(rt: HostRuntime) -> Result<(), Fail> {
-    assert_table(&rt, runs::RUNS_BY_HAND)?;
-    assert_table(&rt, runs::RUNS_OVER_F17X2)?;
-    assert_table(&rt, runs::RUNS_OVER_F31T3)?;
-    assert_table(&rt, runs::RUNS_OVER_BBX4)
 }

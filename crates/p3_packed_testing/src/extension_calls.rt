@@ -1,6 +1,5 @@
 //! Calls on packings P of values of an extension of F, implemented once for all packings.
 use crate::column_calls::Rooms;
-use crate::lane_runs::{Vectors, counted_runs_agree};
 use crate::operation_calls::total_agrees;
 use crate::quotient_calls::quotient_agrees;
 use crate::row_calls::row_agrees;
@@ -61,42 +60,6 @@ impl<
                 alloc, rooms, row,
             ),
         }
-    }
-}
-
-/// Runs over vectors of packings of this type of the values of an extension of F.
-pub(crate) trait PackedRuns<
-    F: PrimeCharacteristicRing,
-    S: ExtensionShape,
-    const D: usize,
->: Inhabited {
-    /// Vectors of one to three packings.
-    type Vectors: Copy;
-
-    /// `counted_runs_agree` over packings of this type. Nothing is read of `vectors`.
-    fn runs_agree(
-        alloc: Global,
-        vectors: Option<Self::Vectors>,
-        row: Row<'_>,
-    ) -> Result<Option<bool>, AllocError>;
-}
-
-impl<
-    F: FrobeniusExtendable<D, S> + ExtensionOverAlgebra<P, D, S> + Packable,
-    S: ExtensionShape,
-    P: PackedField<F> + Packing,
-    const D: usize,
-> PackedRuns<F, S, D> for P {
-    type Vectors = Vectors<F, ExtField<F, D, S, F>, PackedExtField<F, D, S, P>>;
-
-    fn runs_agree(
-        alloc: Global,
-        vectors: Option<Vectors<F, ExtField<F, D, S, F>, PackedExtField<F, D, S, P>>>,
-        row: Row<'_>,
-    ) -> Result<Option<bool>, AllocError> {
-        counted_runs_agree::<F, ExtField<F, D, S, F>, PackedExtField<F, D, S, P>>(
-            alloc, vectors, row,
-        )
     }
 }
 

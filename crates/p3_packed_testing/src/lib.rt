@@ -1,4 +1,4 @@
-//! Tests of packings, packed extensions and vectors of them.
+//! Tests of packings and packed extensions; the rows and texts of their tables.
 #![tactic(auto)]
 
 #[cfg(test)]
@@ -16,10 +16,6 @@ mod extension_calls;
 #[cfg(test)]
 mod lane_calls;
 #[cfg(test)]
-mod lane_run_tables;
-#[cfg(test)]
-mod lane_runs;
-#[cfg(test)]
 mod operation_calls;
 #[cfg(test)]
 mod operation_tables;
@@ -29,9 +25,7 @@ mod operations;
 mod quotient_calls;
 #[cfg(test)]
 mod row_calls;
-#[cfg(test)]
-mod rows;
+pub mod rows;
 #[cfg(test)]
 mod sequence_calls;
-#[cfg(test)]
-mod texts;
+pub mod texts;

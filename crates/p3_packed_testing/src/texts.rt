@@ -9,7 +9,7 @@ use p3_spaces::basis::BasedVectorSpace;
 use std::alloc::{AllocError, Global};
 
 /// The coefficient at an index of a text, zero past its end.
-pub(crate) fn coefficient<F: Field>(text: &str, index: usize) -> F {
+pub fn coefficient<F: Field>(text: &str, index: usize) -> F {
     let number = match text.split(',').nth(index) {
         Some(word) => word.parse::<u32>().unwrap_or(0),
         None => 0,
@@ -18,17 +18,17 @@ pub(crate) fn coefficient<F: Field>(text: &str, index: usize) -> F {
 }
 
 /// The value of a text.
-pub(crate) fn value<F: Field, EF: BasedVectorSpace<F>>(text: &str) -> EF {
+pub fn value<F: Field, EF: BasedVectorSpace<F>>(text: &str) -> EF {
     EF::from_basis_coefficients_fn(|d: usize| -> F { coefficient::<F>(text, d) })
 }
 
 /// The value at an index of a text, zero past its end.
-pub(crate) fn value_at<F: Field, EF: BasedVectorSpace<F>>(text: &str, index: usize) -> EF {
+pub fn value_at<F: Field, EF: BasedVectorSpace<F>>(text: &str, index: usize) -> EF {
     value::<F, EF>(word(text, index))
 }
 
 /// The values of a text, whatever packing they stand in.
-pub(crate) fn values<F: Field, EF: BasedVectorSpace<F>>(
+pub fn values<F: Field, EF: BasedVectorSpace<F>>(
     alloc: Global,
     text: &str,
 ) -> Result<Vec<EF>, AllocError> {
@@ -42,7 +42,7 @@ pub(crate) fn values<F: Field, EF: BasedVectorSpace<F>>(
 }
 
 /// So many values, each the number of its index.
-pub(crate) fn counted<EF: PrimeCharacteristicRing>(
+pub fn counted<EF: PrimeCharacteristicRing>(
     alloc: Global,
     count: usize,
 ) -> Result<Vec<EF>, AllocError> {
@@ -54,14 +54,14 @@ pub(crate) fn counted<EF: PrimeCharacteristicRing>(
 }
 
 /// The packing with the values of a text, zero past its end.
-pub(crate) fn packing<F: Field, EF: Field + BasedVectorSpace<F>, PE: ExtensionLanes<F, EF>>(
+pub fn packing<F: Field, EF: Field + BasedVectorSpace<F>, PE: ExtensionLanes<F, EF>>(
     text: &str,
 ) -> PE {
     PE::from_ext_fn(|lane: usize| -> EF { value_at::<F, EF>(text, lane) })
 }
 
 /// The packings of a text.
-pub(crate) fn packings<F: Field, EF: Field + BasedVectorSpace<F>, PE: ExtensionLanes<F, EF>>(
+pub fn packings<F: Field, EF: Field + BasedVectorSpace<F>, PE: ExtensionLanes<F, EF>>(
     alloc: Global,
     text: &str,
 ) -> Result<Vec<PE>, AllocError> {
@@ -73,12 +73,12 @@ pub(crate) fn packings<F: Field, EF: Field + BasedVectorSpace<F>, PE: ExtensionL
 }
 
 /// The packing with the values of F of a text, which stand between commas, zero past its end.
-pub(crate) fn base_packing<F: Field, P: PackedField<F>>(text: &str) -> P {
+pub fn base_packing<F: Field, P: PackedField<F>>(text: &str) -> P {
     P::from_fn(|lane: usize| -> F { coefficient::<F>(text, lane) })
 }
 
 /// The packings of values of F of a text, which stand between spaces.
-pub(crate) fn base_packings<F: Field, P: PackedField<F>>(
+pub fn base_packings<F: Field, P: PackedField<F>>(
     alloc: Global,
     text: &str,
 ) -> Result<Vec<P>, AllocError> {
@@ -90,7 +90,7 @@ pub(crate) fn base_packings<F: Field, P: PackedField<F>>(
 }
 
 /// Whether the lanes of a packing hold the values of a text.
-pub(crate) fn holds<F: Field, EF: Field + BasedVectorSpace<F>, PE: ExtensionLanes<F, EF>>(
+pub fn holds<F: Field, EF: Field + BasedVectorSpace<F>, PE: ExtensionLanes<F, EF>>(
     packing: &PE,
     text: &str,
 ) -> bool {

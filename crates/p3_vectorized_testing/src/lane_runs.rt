@@ -1,8 +1,8 @@
 //! Runs of steps over vectors of packed extension values, and beside each the same run over the values
 //! of every lane alone, told by the rows of tables.
-use crate::rows::{Row, word};
-use crate::texts::values;
 use p3_base::field::Field;
+use p3_packed_testing::rows::{Row, word};
+use p3_packed_testing::texts::values;
 use p3_packings::extension_lanes::ExtensionLanes;
 use p3_ring::ring::PrimeCharacteristicRing;
 use p3_runs::steps::{Step, run_steps, steps_fit};

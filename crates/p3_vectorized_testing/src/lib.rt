@@ -1,0 +1,9 @@
+//! Tests of vectors of packed extension values.
+#![tactic(auto)]
+
+#[cfg(test)]
+mod lane_run_tables;
+#[cfg(test)]
+mod lane_runs;
+#[cfg(test)]
+mod runs;
