@@ -1,2 +1,4 @@
+pub mod CoefficientSums
 pub mod Columns
 pub mod IndexAnswers
+pub mod ParallelStreams

@@ -2,9 +2,9 @@
 ghost use Rattle.std.specs.Prelude.{◌≡◌, ◌<◌, ℕ, length, get_or, slice_get, Some};
 ghost use Rattle.p3_columns.specs.Columns.{column};
 
+use crate::columnwise::AsRow;
 use crate::entries::entry_at;
 use p3_base::packed_traits::PackedValue;
-use p3_spaces::columnwise::AsRow;
 
 /// The packing whose lane l is entry c of row l.
 #[inline]

@@ -50,7 +50,7 @@ pub use Rattle.p3_ring.specs.PackedPowers
 pub use Rattle.p3_bench_residues.specs.Halves
 pub use Rattle.p3_bench_residues.specs.Inverses as ResidueInverses
 pub use Rattle.p3_bench_residues.specs.ResidueMultiples
-pub use Rattle.p3_spaces.specs.CoefficientSums
+pub use Rattle.p3_columns.specs.CoefficientSums
 pub use Rattle.p3_spaces.specs.Streams
 pub use Rattle.p3_tools.specs.BackwardRuns
 pub use Rattle.p3_tools.specs.PairedRuns

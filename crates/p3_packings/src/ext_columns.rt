@@ -5,7 +5,7 @@ ghost use Rattle.p3_columns.specs.Columns.{column};
 use crate::extension_lanes::ExtensionLanes;
 use p3_columns::entries::entry_at;
 use p3_ring::ring::PrimeCharacteristicRing;
-use p3_spaces::columnwise::AsRow;
+use p3_columns::columnwise::AsRow;
 
 /// The packing whose lane l is entry c of row l.
 #[inline]

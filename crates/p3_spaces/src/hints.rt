@@ -61,11 +61,7 @@ fn groups_hint(n: usize, items: (usize, Option<usize>)) -> (usize, Option<usize>
 /// The hint of a stream of words of n bytes: nothing once its source has ended, and else the groups
 /// of n that hold the bytes of the source's hint. This project's own.
 #[inline]
-pub(crate) fn words_hint(
-    is_over: bool,
-    n: usize,
-    bytes: (usize, Option<usize>),
-) -> (usize, Option<usize>)
+pub fn words_hint(is_over: bool, n: usize, bytes: (usize, Option<usize>)) -> (usize, Option<usize>)
     requires { 0 < n }
     ensures over { is_over ≡ true → result ≡ (0, Some 0) }
     ensures lower { is_over ≡ false → result.0 ≡ group_count n bytes.0 }

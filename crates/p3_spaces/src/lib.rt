@@ -1,16 +1,13 @@
-//! Spaces over a ring: basis calls, extension fields, streams of bytes and words, columnwise products
-//! and monomials.
+//! Spaces over a ring: basis calls, extension fields, streams of bytes and words, and monomials.
 #![tactic(auto)]
 
 pub mod array_chunks;
 pub mod basis;
-pub mod columnwise;
 pub mod extension_field;
 pub mod field_bounds;
 pub mod field_bytes;
 pub mod hints;
 pub mod in_memory;
 pub mod monomials;
-pub mod parallel_streams;
 pub mod sampling;
 pub mod streams;
