@@ -1,13 +1,16 @@
 -- Two-adic generators of the extension of degree 2 over complex values modulo 31, by Y^2 = 3 + 2 X: from numbers to residues in any form.
 use Rattle.std.specs.Prelude.{◌≡◌, ℕ, List, [], ◌∷◌, map, get_or, refl}
-use Rattle.std.proofs.Common.{ap, ◌∙◌, subst}
-use Rattle.p3_theory.specs.Rings.Ring.{Ops, Hom}
+use Rattle.std.proofs.Common.{ap, ap₂, ◌∙◌, subst, sym}
+use Rattle.p3_theory.specs.Rings.Ring.{Ops, Hom, Ring}
 use Rattle.p3_theory.specs.Polynomials.Polynomial.{binomial, quotient_ops}
+use Rattle.p3_theory.specs.Polynomials.Coefficients.{neg-zero}
 use Rattle.p3_theory.specs.ResidueRings.Residues.{residues, IsResidues, residue_ops, of_keeps}
 use Rattle.p3_theory.specs.Rings.Homomorphism.{quotient-map}
 use Rattle.p3_theory.specs.FrobeniusMaps.TableEntries.{binomial-along}
 use Rattle.p3_theory.specs.Roots.TwoAdicCoefficients.{AreExtensionGenerators, GeneratorEquations, equations_generate, coefficients-along}
 use Rattle.p3_ext.specs.ComplexValues.{complex_ops}
+use Rattle.p3_ext.specs.Values.{same_value}
+use Rattle.p3_ext.specs.declared.extension.ext_field.ExtField.{ExtField}
 use Rattle.p3_ext.specs.ExtensionGenerators.{generators_over_values}
 use Rattle.p3_bench_prime.specs.ComplexNumbers.{complex_of}
 
@@ -39,6 +42,13 @@ pairs o = quotient_ops o 2 (binomial o 2 (o.neg o.one))
 -- both numbers of an entry, and 0 past the table's end
 abbrev both : List ℕ → List ℕ
 both l = get_or l 0 0 ∷ get_or l 1 0 ∷ []
+
+-- minus one and zero are the coefficients of minus one
+pub is_minus_one : {A F S : Type 0} (R : Ring A) (x : ExtField F 2 S A) (a b : A) → x.value ≡ a ∷ b ∷ [] → a ≡ R.neg R.one → b ≡ R.zero
+    → (let p = complex_ops {F = F} {S = S} R.ops in x ≡ p.neg p.one)
+is_minus_one R x a b e p q =
+    let o = complex_ops R.ops in
+    same_value x (o.neg o.one) (e ∙ ap₂ (λ u v. u ∷ v ∷ []) p (q ∙ sym (neg-zero R)))
 
 tower_equations : GeneratorEquations (pairs (residues 31)) 2 (binomial (pairs (residues 31)) 2 tower_w) 7 (λ bits i. both (tower_entry bits i))
 tower_equations = record { trivial = refl; squares = refl; minus_one = λ _. refl }

@@ -26,7 +26,7 @@ impl HasComplexBinomialExtension<2> for F31 {
 
     ghost dth_root = { let o = complex_ops (ops ⟦<Plain<M31> as Form<u32>>⟧) in o.neg o.one };
 
-    ghost ext_generator = { let o = complex_ops (ops ⟦<Plain<M31> as Form<u32>>⟧) in λ i. get_or (o.zero ∷ o.one ∷ []) i o.zero };
+    ghost ext_generator = { λ i. complex_of (of ⟦<Plain<M31> as Form<u32>>⟧) (get_or (0 ∷ 1 ∷ []) i 0 ∷ 0 ∷ []) };
 
     ghost complex_binomial_algebra_id = { codes "bench:f31cx2" };
 
@@ -42,12 +42,15 @@ impl HasComplexBinomialExtension<2> for F31 {
 
     #[inline]
     fn dth_root() -> F31c {
-        F31c::neg_one()
+        let real = F31::neg_one();
+        let imag = F31::zero();
+        F31c::new_complex(real, imag)
     }
 
     #[inline]
     fn ext_generator(i: usize) -> F31c {
-        [F31c::zero(), F31c::one()][i]
+        let real = [0, 1][i];
+        complex(real, 0)
     }
 
     ghost at_least_two = { lit≤ tt };
