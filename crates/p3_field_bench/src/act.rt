@@ -231,6 +231,28 @@ pub fn without_text<A: Allocator + Copy>(
     }
 }
 
+/// Carries out a line that writes nothing at the chosen field. A fault leaves the registers as before.
+fn change<F: CalculatorField>(
+    operation: Operation,
+    regs: &mut Registers<F>,
+    args: &[u8],
+) -> Result<(), Fault>
+    requires { operation ≢ Operation.Show }
+    ensures computes { let old = state_at F.spec F.coefficients regs.old in let new = state_at F.spec F.coefficients regs.new in
+        Computes operation F.spec old.registers (words args.now) (silent result new) }
+    ensures kept { OnErr result (state_at F.spec F.coefficients regs.new ≡ state_at F.spec F.coefficients regs.old) }
+{
+    match operation {
+        Operation::Put => put(regs, args),
+        Operation::Binary(f) => set_from_two(f, regs, args),
+        Operation::Unary(f) => set_from_one(f, regs, args),
+        Operation::Pow => pow(regs, args),
+        Operation::Inv => inv(regs, args),
+        Operation::Sqrt => sqrt(regs, args),
+        Operation::Show => unreachable!(),
+    }
+}
+
 /// Carries out a line at the chosen field, and answers its text. A fault leaves the registers as before.
 fn act<F: CalculatorField, A: Allocator + Copy>(
     alloc: A,
@@ -243,13 +265,8 @@ fn act<F: CalculatorField, A: Allocator + Copy>(
     ensures kept { OnErr result (state_at F.spec F.coefficients regs.new ≡ state_at F.spec F.coefficients regs.old) }
 {
     match operation {
-        Operation::Put => without_text(alloc, put(regs, args)),
-        Operation::Binary(f) => without_text(alloc, set_from_two(f, regs, args)),
-        Operation::Unary(f) => without_text(alloc, set_from_one(f, regs, args)),
-        Operation::Pow => without_text(alloc, pow(regs, args)),
-        Operation::Inv => without_text(alloc, inv(regs, args)),
-        Operation::Sqrt => without_text(alloc, sqrt(regs, args)),
         Operation::Show => show(alloc, regs, args),
+        _ => without_text(alloc, change(operation, regs, args)),
     }
 }
 
