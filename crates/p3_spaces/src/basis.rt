@@ -8,6 +8,15 @@ use crate::in_memory::InMemory;
 use p3_ring::ring::PrimeCharacteristicRing;
 use std::alloc::{AllocError, Allocator, Global};
 
+/// The value with these coefficients, as many as the dimension.
+#[inline]
+fn value_of_group<F: PrimeCharacteristicRing, V: BasedVectorSpace<F>>(group: &[F]) -> V
+    requires { length group.now ≡ V.DIMENSION }
+    ensures { V.coefficients result ≡ group.now }
+{
+    V::from_basis_coefficients_slice(group).unwrap()
+}
+
 /// Vectors over F with a basis: each value is the list of its coefficients. Upstream's
 /// `BasedVectorSpace`.
 pub trait BasedVectorSpace<F: PrimeCharacteristicRing>: Copy {
@@ -122,7 +131,7 @@ pub trait BasedVectorSpace<F: PrimeCharacteristicRing>: Copy {
         let mut rest = vec.as_slice();
         while !rest.is_empty() {
             let (front, back) = rest.split_at(Self::DIMENSION);
-            values.push(Self::from_basis_coefficients_slice(front).unwrap())?;
+            values.push(value_of_group(front))?;
             rest = back;
         }
         Ok(values)

@@ -14,10 +14,9 @@ loop-rest-preserved g c =
     let back : c.split_at.result.1.now ≡ drop n rest = rw c.DIMENSION-in-loop-rest.ensures at c.split_at.ensures.back in
     let some : 0 < length rest = grind (arith, common_steps) in
     let divided = divided_front (length rest) n g.met.Self.BasedVectorSpace.positive c.loop-rest.invariant.divided some in
-    let value : v.coefficients c.unwrap.result ≡ c.split_at.result.0.now = rw c.unwrap.ensures at c.from_basis_coefficients_slice.ensures in
     record {
       divided = ap (λ m. m % n) (ap length back ∙ length-drop n rest) ∙ divided.1;
-      read = rw (c.in_ok-push.ensures.items, back) (flattened-push v.coefficients n c.loop-rest.values.items c.unwrap.result rest c.args.vec.items (value ∙ front) c.loop-rest.invariant.read);
+      read = rw (c.in_ok-push.ensures.items, back) (flattened-push v.coefficients n c.loop-rest.values.items c.value_of_group.result rest c.args.vec.items (c.value_of_group.ensures ∙ front) c.loop-rest.invariant.read);
     }
 
 pub returns-clause-places : goal.returns-clause-places
