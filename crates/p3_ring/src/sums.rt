@@ -6,18 +6,29 @@ ghost use Rattle.p3_theory.specs.Rings.Ring.{Ops, RingLaws};
 use crate::ring::{PrimeCharacteristicRing, RingSums};
 use std::ops::{Add, Mul};
 
+/// The sum of at most two values.
+#[inline]
+fn sum_up_to_two<R: PrimeCharacteristicRing>(input: &[R]) -> R
+    requires { length input.now ≤ 2 }
+    ensures { result ≡ sum_list R.ops input.now }
+{
+    match input.len() {
+        0 => R::zero(),
+        1 => input[0],
+        _ => input[0] + input[1],
+    }
+}
+
 /// The sum of at most four values, in pairs.
 #[inline]
 fn sum_up_to_four<R: PrimeCharacteristicRing>(input: &[R]) -> R
     requires { length input.now ≤ 4 }
     ensures { result ≡ sum_list R.ops input.now }
 {
-    match input.len() {
-        0 => R::zero(),
-        1 => input[0],
-        2 => input[0] + input[1],
-        3 => input[0] + input[1] + input[2],
-        _ => (input[0] + input[1]) + (input[2] + input[3]),
+    if input.len() <= 2 {
+        sum_up_to_two(input)
+    } else {
+        sum_up_to_two(&input[..2]) + sum_up_to_two(&input[2..])
     }
 }
 
