@@ -2,6 +2,9 @@ use Rattle.std.proofs.Common.{arith, ap, ◌∙◌}
 use Rattle.p3_theory.specs.Rings.MixedDotProduct.{mixed-first, mixed-chunk, mixed-end, mixed-rest}
 use Rattle.p3_ring.proofs.linear_combination.sum_products.Goals as goal
 
+pub returns-then-values-le8 : goal.returns-then-values-le8
+returns-then-values-le8 g c = c.sum_up_to_eight_products.ensures
+
 pub loop-start-init : goal.loop-start-init
 loop-start-init g c =
     record {
