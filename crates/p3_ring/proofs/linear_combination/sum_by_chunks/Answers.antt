@@ -2,6 +2,9 @@ use Rattle.std.proofs.Common.{arith}
 use Rattle.p3_theory.specs.Rings.MixedDotProduct.{mixed-start, mixed-chunk, mixed-rest}
 use Rattle.p3_ring.proofs.linear_combination.sum_by_chunks.Goals as goal
 
+pub returns-then-values : goal.returns-then-values
+returns-then-values g c = c.sum_products.ensures
+
 pub loop-start-init : goal.loop-start-init
 loop-start-init g c =
     record {

@@ -3,6 +3,9 @@ use Rattle.p3_theory.specs.Rings.DotProduct.{sum-end, sum-step}
 use Rattle.p3_ring.proofs.SumParts.{sum_first, sum_rest}
 use Rattle.p3_ring.proofs.sums.sum_in_pairs.Goals as goal
 
+pub returns-then-input-le8 : goal.returns-then-input-le8
+returns-then-input-le8 g c = c.sum_up_to_eight.ensures
+
 pub loop-start-init : goal.loop-start-init
 loop-start-init g c =
     record {
