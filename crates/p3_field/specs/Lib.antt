@@ -31,8 +31,10 @@ pub use Rattle.p3_theory.specs.Rings.ColumnwiseProducts
 pub use Rattle.p3_theory.specs.Rings.DotProduct
 pub use Rattle.p3_theory.specs.Rings.GeometricSequence
 pub use Rattle.p3_theory.specs.Rings.Homomorphism
+pub use Rattle.p3_theory.specs.Rings.MixedDotProduct
 pub use Rattle.p3_theory.specs.Rings.Multiples
 pub use Rattle.p3_theory.specs.Rings.Operators
+pub use Rattle.p3_theory.specs.Rings.PowerChains
 pub use Rattle.p3_theory.specs.Rings.Powers
 pub use Rattle.p3_theory.specs.Rings.Ring
 pub use Rattle.p3_theory.specs.Rings.ZeroDivisors
@@ -47,6 +49,7 @@ pub use Rattle.p3_ring.specs.BoundedSequence
 pub use Rattle.p3_ring.specs.ChainTerms
 pub use Rattle.p3_ring.specs.ChunkLengths
 pub use Rattle.p3_ring.specs.PackedPowers
+pub use Rattle.p3_ring.specs.SumsProducts
 pub use Rattle.p3_bench_residues.specs.Halves
 pub use Rattle.p3_bench_residues.specs.Inverses as ResidueInverses
 pub use Rattle.p3_bench_residues.specs.ResidueMultiples

@@ -1,3 +1,4 @@
 mod NextTerm
 mod EightFurther
 mod PackedGroups
+mod SumParts

@@ -380,7 +380,7 @@ pub trait RingSums: PrimeCharacteristicRing + Sum<Self> + Product<Self> {
     fn sum_slice(values: &[Self]) -> Self
         ensures { result ≡ sum_list Self.ops values.now }
     {
-        sum_in_pairs(values)
+        sum_in_pairs(Self::zero(), values)
     }
 
     /// A sum is zero and then the items, added one after the other.

@@ -2,55 +2,82 @@ ghost use Rattle.std.specs.Prelude.{◌≡◌, ◌≤◌, length, map};
 ghost use Rattle.p3_theory.specs.Rings.DotProduct.{dot};
 ghost use Rattle.p3_theory.specs.Rings.Operators.{Gives, sum_list};
 ghost use Rattle.p3_theory.specs.Rings.Ring.{Ops, RingLaws};
+ghost use Rattle.p3_ring.specs.SumsProducts.{Sums};
 
-use crate::ring::{PrimeCharacteristicRing, RingSums};
+use crate::ring::RingSums;
 use std::ops::{Add, Mul};
 
-/// The sum of at most four values, in pairs.
+/// The sum of at most two values, and `zero` of none.
 #[inline]
-fn sum_up_to_four<R: PrimeCharacteristicRing>(input: &[R]) -> R
-    requires { length input.now ≤ 4 }
-    ensures { result ≡ sum_list R.ops input.now }
+fn sum_up_to_two<A>(zero: A, input: &[A]) -> A
+where
+    A: Copy + Add<Output = A>,
+    requires few { length input.now ≤ 2 }
+    requires sums { (x y : A) → ⟦<A as Add>⟧.can_add x y }
+    ensures { Sums ⟦<A as Add>⟧.can_add ⟦<A as Add>⟧.add_gives zero input.now result }
 {
     match input.len() {
-        0 => R::zero(),
+        0 => zero,
         1 => input[0],
-        2 => input[0] + input[1],
-        3 => input[0] + input[1] + input[2],
-        _ => (input[0] + input[1]) + (input[2] + input[3]),
+        _ => input[0] + input[1],
     }
 }
 
-/// The sum of at most eight values: of the first four, and of the others.
+/// The sum of at most four values, in pairs, and `zero` of none.
 #[inline]
-fn sum_up_to_eight<R: PrimeCharacteristicRing>(input: &[R]) -> R
-    requires { length input.now ≤ 8 }
-    ensures { result ≡ sum_list R.ops input.now }
+fn sum_up_to_four<A>(zero: A, input: &[A]) -> A
+where
+    A: Copy + Add<Output = A>,
+    requires few { length input.now ≤ 4 }
+    requires sums { (x y : A) → ⟦<A as Add>⟧.can_add x y }
+    ensures { Sums ⟦<A as Add>⟧.can_add ⟦<A as Add>⟧.add_gives zero input.now result }
+{
+    if input.len() <= 2 {
+        return sum_up_to_two(zero, input);
+    }
+    let low = sum_up_to_two(zero, &input[..2]);
+    let high = sum_up_to_two(zero, &input[2..]);
+    low + high
+}
+
+/// The sum of at most eight values: of the first four, and of the others. It is `zero` of none.
+#[inline]
+fn sum_up_to_eight<A>(zero: A, input: &[A]) -> A
+where
+    A: Copy + Add<Output = A>,
+    requires few { length input.now ≤ 8 }
+    requires sums { (x y : A) → ⟦<A as Add>⟧.can_add x y }
+    ensures { Sums ⟦<A as Add>⟧.can_add ⟦<A as Add>⟧.add_gives zero input.now result }
 {
     if input.len() <= 4 {
-        sum_up_to_four(input)
-    } else {
-        sum_up_to_four(&input[..4]) + sum_up_to_four(&input[4..])
+        return sum_up_to_four(zero, input);
     }
+    let low = sum_up_to_four(zero, &input[..4]);
+    let high = sum_up_to_four(zero, &input[4..]);
+    low + high
 }
 
-/// The sum of the values, eight at a time and each eight in pairs.
+/// The sum of the values, eight at a time and each eight in pairs; `zero` of none.
 #[inline]
-pub(crate) fn sum_in_pairs<R: PrimeCharacteristicRing>(input: &[R]) -> R
-    ensures { result ≡ sum_list R.ops input.now }
+pub(crate) fn sum_in_pairs<A>(zero: A, input: &[A]) -> A
+where
+    A: Copy + Add<Output = A>,
+    requires sums { (x y : A) → ⟦<A as Add>⟧.can_add x y }
+    ensures { Sums ⟦<A as Add>⟧.can_add ⟦<A as Add>⟧.add_gives zero input.now result }
 {
     if input.len() <= 8 {
-        return sum_up_to_eight(input);
+        return sum_up_to_eight(zero, input);
     }
-    let mut sum = sum_up_to_eight(&input[..8]);
+    let mut sum = sum_up_to_eight(zero, &input[..8]);
     let mut start = 8;
     while input.len() - start >= 8 {
-        let chunk = sum_up_to_eight(&input[start..start + 8]);
-        sum += chunk;
+        let chunk = sum_up_to_eight(zero, &input[start..start + 8]);
+        sum = sum + chunk;
         start += 8;
     }
     if start < input.len() {
-        sum + sum_up_to_eight(&input[start..])
+        let rest = sum_up_to_eight(zero, &input[start..]);
+        sum + rest
     } else {
         sum
     }
