@@ -10,7 +10,78 @@ use Rattle.p3_theory.specs.RingSolver.Reify.{yes}
 use Rattle.p3_theory.specs.RingSolver.StraightLine.{reads_list, answer_read, formula, variables}
 
 module _ {A : Type 0} (o : Ops A) (l : RingLaws o) where
-  -- the product, from one sum of products a coefficient
+  -- the product, from one sum of products a coefficient: at degree 4, 5 and 8
+  quartic_items : {a0 a1 a2 a3 b0 b1 b2 b3 w k1 k2 k3 c0 c1 c2 c3 : A}
+      → k1 ≡ o.mul b1 w
+      → k2 ≡ o.mul b2 w
+      → k3 ≡ o.mul b3 w
+      → c0 ≡ dot o (a0 ∷ a1 ∷ a2 ∷ a3 ∷ []) (b0 ∷ k3 ∷ k2 ∷ k1 ∷ [])
+      → c1 ≡ dot o (a0 ∷ a1 ∷ a2 ∷ a3 ∷ []) (b1 ∷ b0 ∷ k3 ∷ k2 ∷ [])
+      → c2 ≡ dot o (a0 ∷ a1 ∷ a2 ∷ a3 ∷ []) (b2 ∷ b1 ∷ b0 ∷ k3 ∷ [])
+      → c3 ≡ dot o (a0 ∷ a1 ∷ a2 ∷ a3 ∷ []) (b3 ∷ b2 ∷ b1 ∷ b0 ∷ [])
+      → c0 ∷ c1 ∷ c2 ∷ c3 ∷ [] ≡ quotient_mul o 4 (binomial o 4 w) (a0 ∷ a1 ∷ a2 ∷ a3 ∷ []) (b0 ∷ b1 ∷ b2 ∷ b3 ∷ [])
+  quartic_items {a0} {a1} {a2} {a3} {b0} {b1} {b2} {b3} {w} {k1} {k2} {k3} {c0} {c1} {c2} {c3} f1 f2 f3 g0 g1 g2 g3 =
+      formula o (a0 ∷ a1 ∷ a2 ∷ a3 ∷ b0 ∷ b1 ∷ b2 ∷ b3 ∷ w ∷ []) (c0 ∷ c1 ∷ c2 ∷ c3 ∷ []) l
+      (λ P xa0 xa1 xa2 xa3 xb0 xb1 xb2 xb3 xw. search (reads_list, answer_read o P f1, answer_read o P f2, answer_read o P f3, answer_read o P g0, answer_read o P g1, answer_read o P g2, answer_read o P g3) depth 99 fits 99999)
+      (quotient_mul free 4 (binomial free 4 (V 8)) (variables 0 4) (variables 4 4)) yes
+
+  pub quartic_formula : (a : List A) (b0 w : A) {b1 b2 b3 k1 k2 k3 c0 c1 c2 c3 : A} → length a ≡ 4
+      → k1 ≡ o.mul b1 w
+      → k2 ≡ o.mul b2 w
+      → k3 ≡ o.mul b3 w
+      → c0 ≡ dot o a (b0 ∷ k3 ∷ k2 ∷ k1 ∷ [])
+      → c1 ≡ dot o a (b1 ∷ b0 ∷ k3 ∷ k2 ∷ [])
+      → c2 ≡ dot o a (b2 ∷ b1 ∷ b0 ∷ k3 ∷ [])
+      → c3 ≡ dot o a (b3 ∷ b2 ∷ b1 ∷ b0 ∷ [])
+      → c0 ∷ c1 ∷ c2 ∷ c3 ∷ [] ≡ quotient_mul o 4 (binomial o 4 w) a (b0 ∷ b1 ∷ b2 ∷ b3 ∷ [])
+  quartic_formula a b0 w {b1} {b2} {b3} {k1} {k2} {k3} h f1 f2 f3 g0 g1 g2 g3 =
+      let items : a ≡ tabulate 4 (λ k. get_or a k o.zero) = to-tabulate o.zero 4 (λ k. get_or a k o.zero) a h (λ k lt. refl) in
+      let at : (row : List A) → dot o a row ≡ dot o (tabulate 4 (λ k. get_or a k o.zero)) row = λ row. ap (λ u. dot o u row) items in
+      quartic_items {a0 = get_or a 0 o.zero} {a1 = get_or a 1 o.zero} {a2 = get_or a 2 o.zero} {a3 = get_or a 3 o.zero} {b0 = b0} f1 f2 f3
+      (g0 ∙ at (b0 ∷ k3 ∷ k2 ∷ k1 ∷ []))
+      (g1 ∙ at (b1 ∷ b0 ∷ k3 ∷ k2 ∷ []))
+      (g2 ∙ at (b2 ∷ b1 ∷ b0 ∷ k3 ∷ []))
+      (g3 ∙ at (b3 ∷ b2 ∷ b1 ∷ b0 ∷ []))
+      ∙ ap (λ u. quotient_mul o 4 (binomial o 4 w) u (b0 ∷ b1 ∷ b2 ∷ b3 ∷ [])) (sym items)
+
+  quintic_items : {a0 a1 a2 a3 a4 b0 b1 b2 b3 b4 w k1 k2 k3 k4 c0 c1 c2 c3 c4 : A}
+      → k1 ≡ o.mul b1 w
+      → k2 ≡ o.mul b2 w
+      → k3 ≡ o.mul b3 w
+      → k4 ≡ o.mul b4 w
+      → c0 ≡ dot o (a0 ∷ a1 ∷ a2 ∷ a3 ∷ a4 ∷ []) (b0 ∷ k4 ∷ k3 ∷ k2 ∷ k1 ∷ [])
+      → c1 ≡ dot o (a0 ∷ a1 ∷ a2 ∷ a3 ∷ a4 ∷ []) (b1 ∷ b0 ∷ k4 ∷ k3 ∷ k2 ∷ [])
+      → c2 ≡ dot o (a0 ∷ a1 ∷ a2 ∷ a3 ∷ a4 ∷ []) (b2 ∷ b1 ∷ b0 ∷ k4 ∷ k3 ∷ [])
+      → c3 ≡ dot o (a0 ∷ a1 ∷ a2 ∷ a3 ∷ a4 ∷ []) (b3 ∷ b2 ∷ b1 ∷ b0 ∷ k4 ∷ [])
+      → c4 ≡ dot o (a0 ∷ a1 ∷ a2 ∷ a3 ∷ a4 ∷ []) (b4 ∷ b3 ∷ b2 ∷ b1 ∷ b0 ∷ [])
+      → c0 ∷ c1 ∷ c2 ∷ c3 ∷ c4 ∷ [] ≡ quotient_mul o 5 (binomial o 5 w) (a0 ∷ a1 ∷ a2 ∷ a3 ∷ a4 ∷ []) (b0 ∷ b1 ∷ b2 ∷ b3 ∷ b4 ∷ [])
+  quintic_items {a0} {a1} {a2} {a3} {a4} {b0} {b1} {b2} {b3} {b4} {w} {k1} {k2} {k3} {k4} {c0} {c1} {c2} {c3} {c4} f1 f2 f3 f4 g0 g1 g2 g3 g4 =
+      formula o (a0 ∷ a1 ∷ a2 ∷ a3 ∷ a4 ∷ b0 ∷ b1 ∷ b2 ∷ b3 ∷ b4 ∷ w ∷ []) (c0 ∷ c1 ∷ c2 ∷ c3 ∷ c4 ∷ []) l
+      (λ P xa0 xa1 xa2 xa3 xa4 xb0 xb1 xb2 xb3 xb4 xw. search (reads_list, answer_read o P f1, answer_read o P f2, answer_read o P f3, answer_read o P f4, answer_read o P g0, answer_read o P g1, answer_read o P g2, answer_read o P g3, answer_read o P g4) depth 99 fits 99999)
+      (quotient_mul free 5 (binomial free 5 (V 10)) (variables 0 5) (variables 5 5)) yes
+
+  pub quintic_formula : (a : List A) (b0 w : A) {b1 b2 b3 b4 k1 k2 k3 k4 c0 c1 c2 c3 c4 : A} → length a ≡ 5
+      → k1 ≡ o.mul b1 w
+      → k2 ≡ o.mul b2 w
+      → k3 ≡ o.mul b3 w
+      → k4 ≡ o.mul b4 w
+      → c0 ≡ dot o a (b0 ∷ k4 ∷ k3 ∷ k2 ∷ k1 ∷ [])
+      → c1 ≡ dot o a (b1 ∷ b0 ∷ k4 ∷ k3 ∷ k2 ∷ [])
+      → c2 ≡ dot o a (b2 ∷ b1 ∷ b0 ∷ k4 ∷ k3 ∷ [])
+      → c3 ≡ dot o a (b3 ∷ b2 ∷ b1 ∷ b0 ∷ k4 ∷ [])
+      → c4 ≡ dot o a (b4 ∷ b3 ∷ b2 ∷ b1 ∷ b0 ∷ [])
+      → c0 ∷ c1 ∷ c2 ∷ c3 ∷ c4 ∷ [] ≡ quotient_mul o 5 (binomial o 5 w) a (b0 ∷ b1 ∷ b2 ∷ b3 ∷ b4 ∷ [])
+  quintic_formula a b0 w {b1} {b2} {b3} {b4} {k1} {k2} {k3} {k4} h f1 f2 f3 f4 g0 g1 g2 g3 g4 =
+      let items : a ≡ tabulate 5 (λ k. get_or a k o.zero) = to-tabulate o.zero 5 (λ k. get_or a k o.zero) a h (λ k lt. refl) in
+      let at : (row : List A) → dot o a row ≡ dot o (tabulate 5 (λ k. get_or a k o.zero)) row = λ row. ap (λ u. dot o u row) items in
+      quintic_items {a0 = get_or a 0 o.zero} {a1 = get_or a 1 o.zero} {a2 = get_or a 2 o.zero} {a3 = get_or a 3 o.zero} {a4 = get_or a 4 o.zero} {b0 = b0} f1 f2 f3 f4
+      (g0 ∙ at (b0 ∷ k4 ∷ k3 ∷ k2 ∷ k1 ∷ []))
+      (g1 ∙ at (b1 ∷ b0 ∷ k4 ∷ k3 ∷ k2 ∷ []))
+      (g2 ∙ at (b2 ∷ b1 ∷ b0 ∷ k4 ∷ k3 ∷ []))
+      (g3 ∙ at (b3 ∷ b2 ∷ b1 ∷ b0 ∷ k4 ∷ []))
+      (g4 ∙ at (b4 ∷ b3 ∷ b2 ∷ b1 ∷ b0 ∷ []))
+      ∙ ap (λ u. quotient_mul o 5 (binomial o 5 w) u (b0 ∷ b1 ∷ b2 ∷ b3 ∷ b4 ∷ [])) (sym items)
+
   octic_items : {a0 a1 a2 a3 a4 a5 a6 a7 b0 b1 b2 b3 b4 b5 b6 b7 w k1 k2 k3 k4 k5 k6 k7 c0 c1 c2 c3 c4 c5 c6 c7 : A}
       → k1 ≡ o.mul b1 w
       → k2 ≡ o.mul b2 w
@@ -64,7 +135,41 @@ module _ {A : Type 0} (o : Ops A) (l : RingLaws o) where
       (g7 ∙ at (b7 ∷ b6 ∷ b5 ∷ b4 ∷ b3 ∷ b2 ∷ b1 ∷ b0 ∷ []))
       ∙ ap (λ u. quotient_mul o 8 (binomial o 8 w) u (b0 ∷ b1 ∷ b2 ∷ b3 ∷ b4 ∷ b5 ∷ b6 ∷ b7 ∷ [])) (sym items)
 
-  -- the square, each product of two coefficients once
+  -- the square, each product of two coefficients once: at degree 4, 5 and 8
+  pub quartic_square_formula : {a0 a1 a2 a3 w d0 d1 d2 k2 k3 c0 c1 c2 c3 : A}
+      → d0 ≡ o.add a0 a0
+      → d1 ≡ o.add a1 a1
+      → d2 ≡ o.add a2 a2
+      → k2 ≡ o.mul a2 w
+      → k3 ≡ o.mul a3 w
+      → c0 ≡ dot o (a0 ∷ k2 ∷ d1 ∷ []) (a0 ∷ a2 ∷ k3 ∷ [])
+      → c1 ≡ dot o (d0 ∷ d2 ∷ []) (a1 ∷ k3 ∷ [])
+      → c2 ≡ dot o (a1 ∷ k3 ∷ d0 ∷ []) (a1 ∷ a3 ∷ a2 ∷ [])
+      → c3 ≡ dot o (d0 ∷ d2 ∷ []) (a3 ∷ a1 ∷ [])
+      → c0 ∷ c1 ∷ c2 ∷ c3 ∷ [] ≡ quotient_mul o 4 (binomial o 4 w) (a0 ∷ a1 ∷ a2 ∷ a3 ∷ []) (a0 ∷ a1 ∷ a2 ∷ a3 ∷ [])
+  quartic_square_formula {a0} {a1} {a2} {a3} {w} {d0} {d1} {d2} {k2} {k3} {c0} {c1} {c2} {c3} p0 p1 p2 f2 f3 g0 g1 g2 g3 =
+      formula o (a0 ∷ a1 ∷ a2 ∷ a3 ∷ w ∷ []) (c0 ∷ c1 ∷ c2 ∷ c3 ∷ []) l
+      (λ P xa0 xa1 xa2 xa3 xw. search (reads_list, answer_read o P p0, answer_read o P p1, answer_read o P p2, answer_read o P f2, answer_read o P f3, answer_read o P g0, answer_read o P g1, answer_read o P g2, answer_read o P g3) depth 99 fits 99999)
+      (quotient_mul free 4 (binomial free 4 (V 4)) (variables 0 4) (variables 0 4)) yes
+
+  pub quintic_square_formula : {a0 a1 a2 a3 a4 w d0 d1 d2 d3 k3 k4 c0 c1 c2 c3 c4 : A}
+      → d0 ≡ o.add a0 a0
+      → d1 ≡ o.add a1 a1
+      → d2 ≡ o.add a2 a2
+      → d3 ≡ o.add a3 a3
+      → k3 ≡ o.mul a3 w
+      → k4 ≡ o.mul a4 w
+      → c0 ≡ dot o (a0 ∷ k4 ∷ k3 ∷ []) (a0 ∷ d1 ∷ d2 ∷ [])
+      → c1 ≡ dot o (k3 ∷ d0 ∷ k4 ∷ []) (a3 ∷ a1 ∷ d2 ∷ [])
+      → c2 ≡ dot o (a1 ∷ d0 ∷ k4 ∷ []) (a1 ∷ a2 ∷ d3 ∷ [])
+      → c3 ≡ dot o (k4 ∷ d0 ∷ d1 ∷ []) (a4 ∷ a3 ∷ a2 ∷ [])
+      → c4 ≡ dot o (a2 ∷ d0 ∷ d1 ∷ []) (a2 ∷ a4 ∷ a3 ∷ [])
+      → c0 ∷ c1 ∷ c2 ∷ c3 ∷ c4 ∷ [] ≡ quotient_mul o 5 (binomial o 5 w) (a0 ∷ a1 ∷ a2 ∷ a3 ∷ a4 ∷ []) (a0 ∷ a1 ∷ a2 ∷ a3 ∷ a4 ∷ [])
+  quintic_square_formula {a0} {a1} {a2} {a3} {a4} {w} {d0} {d1} {d2} {d3} {k3} {k4} {c0} {c1} {c2} {c3} {c4} p0 p1 p2 p3 f3 f4 g0 g1 g2 g3 g4 =
+      formula o (a0 ∷ a1 ∷ a2 ∷ a3 ∷ a4 ∷ w ∷ []) (c0 ∷ c1 ∷ c2 ∷ c3 ∷ c4 ∷ []) l
+      (λ P xa0 xa1 xa2 xa3 xa4 xw. search (reads_list, answer_read o P p0, answer_read o P p1, answer_read o P p2, answer_read o P p3, answer_read o P f3, answer_read o P f4, answer_read o P g0, answer_read o P g1, answer_read o P g2, answer_read o P g3, answer_read o P g4) depth 99 fits 99999)
+      (quotient_mul free 5 (binomial free 5 (V 5)) (variables 0 5) (variables 0 5)) yes
+
   pub octic_square_formula : {a0 a1 a2 a3 a4 a5 a6 a7 w d0 d1 d2 d3 k4 k5 k6 k7 e5 e6 e7 c0 c1 c2 c3 c4 c5 c6 c7 : A}
       → d0 ≡ o.add a0 a0
       → d1 ≡ o.add a1 a1
