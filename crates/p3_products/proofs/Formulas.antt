@@ -4,6 +4,8 @@ use Rattle.p3_theory.specs.Rings.Ring.{Ops, RingLaws, subtract}
 use Rattle.p3_theory.specs.Rings.DotProduct.{dot}
 use Rattle.p3_theory.specs.Polynomials.Polynomial.{tabulate, quotient_mul, binomial}
 use Rattle.p3_theory.specs.Lists.Places.{to-tabulate}
+use Rattle.p3_theory.specs.Inverses.CubicNorm.{cubic_norm, cubic_rest}
+use Rattle.p3_theory.specs.Inverses.EvenOdd.{norm_by_halves}
 use Rattle.p3_theory.specs.Products.Trinomials.{quintic_trinomial}
 use Rattle.p3_theory.specs.RingSolver.Solver.{V, free}
 use Rattle.p3_theory.specs.RingSolver.Reify.{yes}
@@ -221,3 +223,47 @@ module _ {A : Type 0} (o : Ops A) (l : RingLaws o) where
       formula o (a0 ∷ a1 ∷ a2 ∷ a3 ∷ a4 ∷ b0 ∷ b1 ∷ b2 ∷ b3 ∷ b4 ∷ []) (r0 ∷ r1 ∷ r2 ∷ r3 ∷ r4 ∷ []) l
       (λ P xa0 xa1 xa2 xa3 xa4 xb0 xb1 xb2 xb3 xb4. search (reads_list, answer_read o P g0, answer_read o P g1, answer_read o P g2, answer_read o P g3, answer_read o P g4, answer_read o P g5, answer_read o P g6, answer_read o P g7, answer_read o P g8, answer_read o P h, answer_read o P h0, answer_read o P h1, answer_read o P t2, answer_read o P h2, answer_read o P t3, answer_read o P h3, answer_read o P h4) depth 99 fits 99999)
       (quotient_mul free 5 (quintic_trinomial free) (variables 0 5) (variables 5 5)) yes
+
+  -- the norm modulo X^3 - w, from the squares and what the cubes and the cross product give
+  pub cubic_norm_formula : {w a0 a1 a2 q0 q1 k p u v n : A}
+      → q0 ≡ o.mul a0 a0
+      → q1 ≡ o.mul a1 a1
+      → k ≡ o.mul w a2
+      → p ≡ o.mul a0 a1
+      → u ≡ o.add (o.add (o.mul q0 a0) (o.mul (o.mul w a1) q1)) (o.mul (o.mul k k) a2)
+      → v ≡ o.mul (o.mul (o.add o.one (o.add o.one o.one)) k) p
+      → n ≡ subtract o u v
+      → n ≡ cubic_norm o w a0 a1 a2
+  cubic_norm_formula {w} {a0} {a1} {a2} e0 e1 ek ep eu ev en =
+      en ∙ (λ i. subtract o (eu i) (ev i))
+      ∙ (λ i. subtract o (o.add (o.add (o.mul (e0 i) a0) (o.mul (o.mul w a1) (e1 i))) (o.mul (o.mul (ek i) (ek i)) a2)) (o.mul (o.mul (o.add o.one (o.add o.one o.one)) (ek i)) (ep i)))
+
+  -- the product of the two conjugates times m
+  pub cubic_rest_formula : {w m a0 a1 a2 q0 q1 k p c0 c1 c2 : A}
+      → q0 ≡ o.mul a0 a0
+      → q1 ≡ o.mul a1 a1
+      → k ≡ o.mul w a2
+      → p ≡ o.mul a0 a1
+      → c0 ≡ o.mul m (subtract o q0 (o.mul a1 k))
+      → c1 ≡ o.mul m (subtract o (o.mul k a2) p)
+      → c2 ≡ o.mul m (subtract o q1 (o.mul a0 a2))
+      → c0 ∷ c1 ∷ c2 ∷ [] ≡ cubic_rest o w m a0 a1 a2
+  cubic_rest_formula {w} {m} {a0} {a1} {a2} e0 e1 ek ep h0 h1 h2 =
+      (λ i. h0 i ∷ h1 i ∷ h2 i ∷ [])
+      ∙ (λ i. o.mul m (subtract o (e0 i) (o.mul a1 (ek i))) ∷ o.mul m (subtract o (o.mul (ek i) a2) (ep i)) ∷ o.mul m (subtract o (e1 i) (o.mul a0 a2)) ∷ [])
+
+  -- the norm modulo X^4 - w of the even and odd places
+  pub quartic_norm_formula : {a0 a1 a2 a3 w r1 r3 d1 d2 k2 k3 n0 n1 : A}
+      → r1 ≡ o.neg a1
+      → r3 ≡ o.neg a3
+      → d1 ≡ o.add r1 r1
+      → d2 ≡ o.add a2 a2
+      → k2 ≡ o.mul a2 w
+      → k3 ≡ o.mul a3 w
+      → n0 ≡ dot o (a0 ∷ a2 ∷ d1 ∷ []) (a0 ∷ k2 ∷ k3 ∷ [])
+      → n1 ≡ dot o (a0 ∷ a1 ∷ r3 ∷ []) (d2 ∷ r1 ∷ k3 ∷ [])
+      → n0 ∷ n1 ∷ [] ≡ norm_by_halves o 2 w (o.zero ∷ o.one ∷ []) (a0 ∷ a2 ∷ []) (a1 ∷ a3 ∷ [])
+  quartic_norm_formula {a0} {a1} {a2} {a3} {w} {r1} {r3} {d1} {d2} {k2} {k3} {n0} {n1} q1 q3 p1 p2 f2 f3 g0 g1 =
+      formula o (a0 ∷ a1 ∷ a2 ∷ a3 ∷ w ∷ []) (n0 ∷ n1 ∷ []) l
+      (λ P xa0 xa1 xa2 xa3 xw. search (reads_list, answer_read o P q1, answer_read o P q3, answer_read o P p1, answer_read o P p2, answer_read o P f2, answer_read o P f3, answer_read o P g0, answer_read o P g1) depth 99 fits 99999)
+      (norm_by_halves free 2 (V 4) (free.zero ∷ free.one ∷ []) (V 0 ∷ V 2 ∷ []) (V 1 ∷ V 3 ∷ [])) yes

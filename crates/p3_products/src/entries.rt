@@ -18,6 +18,17 @@ pub(crate) fn write_entries<A: Copy, const N: usize>(entries: [A; N], res: &mut 
     res.copy_from_slice(&entries);
 }
 
+/// Three entries of a slice one after the other.
+#[inline]
+pub(crate) fn three_from<A: Copy>(a: &[A], start: usize) -> (A, A, A)
+    requires { start + 3 ≤ length a.now }
+    ensures first { result.0 ≡ get_or a.now start result.0 }
+    ensures second { result.1 ≡ get_or a.now (start + 1) result.1 }
+    ensures third { result.2 ≡ get_or a.now (start + 2) result.2 }
+{
+    (a[start], a[start + 1], a[start + 2])
+}
+
 /// Four entries of a slice one after the other.
 #[inline]
 pub(crate) fn four_from<A: Copy>(a: &[A], start: usize) -> (A, A, A, A)
