@@ -6,7 +6,7 @@ use Rattle.p3_theory.specs.Polynomials.Polynomial.{tabulate, quotient_mul, binom
 use Rattle.p3_theory.specs.Lists.Places.{to-tabulate}
 use Rattle.p3_theory.specs.Inverses.CubicNorm.{cubic_norm, cubic_rest}
 use Rattle.p3_theory.specs.Inverses.EvenOdd.{norm_by_halves}
-use Rattle.p3_theory.specs.Products.Trinomials.{quintic_trinomial}
+use Rattle.p3_theory.specs.Products.Trinomials.{cubic_trinomial, quintic_trinomial}
 use Rattle.p3_theory.specs.RingSolver.Solver.{V, free}
 use Rattle.p3_theory.specs.RingSolver.Reify.{yes}
 use Rattle.p3_theory.specs.RingSolver.StraightLine.{reads_list, answer_read, formula, variables}
@@ -267,3 +267,71 @@ module _ {A : Type 0} (o : Ops A) (l : RingLaws o) where
       formula o (a0 ∷ a1 ∷ a2 ∷ a3 ∷ w ∷ []) (n0 ∷ n1 ∷ []) l
       (λ P xa0 xa1 xa2 xa3 xw. search (reads_list, answer_read o P q1, answer_read o P q3, answer_read o P p1, answer_read o P p2, answer_read o P f2, answer_read o P f3, answer_read o P g0, answer_read o P g1) depth 99 fits 99999)
       (norm_by_halves free 2 (V 4) (free.zero ∷ free.one ∷ []) (V 0 ∷ V 2 ∷ []) (V 1 ∷ V 3 ∷ [])) yes
+
+  -- the product modulo X^3 - w by Karatsuba's method
+  pub cubic_formula : {a0 a1 a2 b0 b1 b2 w p0 p1 p2 s12 s01 s02 k12 k2 c0 c1 c2 : A}
+      → p0 ≡ o.mul a0 b0
+      → p1 ≡ o.mul a1 b1
+      → p2 ≡ o.mul a2 b2
+      → s12 ≡ subtract o (subtract o (o.mul (o.add a1 a2) (o.add b1 b2)) p1) p2
+      → s01 ≡ subtract o (subtract o (o.mul (o.add a0 a1) (o.add b0 b1)) p0) p1
+      → s02 ≡ subtract o (subtract o (o.mul (o.add a0 a2) (o.add b0 b2)) p0) p2
+      → k12 ≡ o.mul s12 w
+      → k2 ≡ o.mul p2 w
+      → c0 ≡ o.add p0 k12
+      → c1 ≡ o.add s01 k2
+      → c2 ≡ o.add s02 p1
+      → c0 ∷ c1 ∷ c2 ∷ [] ≡ quotient_mul o 3 (binomial o 3 w) (a0 ∷ a1 ∷ a2 ∷ []) (b0 ∷ b1 ∷ b2 ∷ [])
+  cubic_formula {a0} {a1} {a2} {b0} {b1} {b2} {w} {p0} {p1} {p2} {s12} {s01} {s02} {k12} {k2} {c0} {c1} {c2} e0 e1 e2 e3 e4 e5 e6 e7 e8 e9 e10 =
+      formula o (a0 ∷ a1 ∷ a2 ∷ b0 ∷ b1 ∷ b2 ∷ w ∷ []) (c0 ∷ c1 ∷ c2 ∷ []) l
+      (λ P xa0 xa1 xa2 xb0 xb1 xb2 xw. search (reads_list, answer_read o P e0, answer_read o P e1, answer_read o P e2, answer_read o P e3, answer_read o P e4, answer_read o P e5, answer_read o P e6, answer_read o P e7, answer_read o P e8, answer_read o P e9, answer_read o P e10) depth 99 fits 99999)
+      (quotient_mul free 3 (binomial free 3 (V 6)) (variables 0 3) (variables 3 3)) yes
+
+  -- the square modulo X^3 - w
+  pub cubic_square_formula : {a0 a1 a2 w k2 q0 q1 p12 p22 p01 p02 d12 d01 d02 c0 c1 c2 : A}
+      → k2 ≡ o.mul a2 w
+      → q0 ≡ o.mul a0 a0
+      → q1 ≡ o.mul a1 a1
+      → p12 ≡ o.mul a1 k2
+      → p22 ≡ o.mul k2 a2
+      → p01 ≡ o.mul a0 a1
+      → p02 ≡ o.mul a0 a2
+      → d12 ≡ o.add p12 p12
+      → d01 ≡ o.add p01 p01
+      → d02 ≡ o.add p02 p02
+      → c0 ≡ o.add q0 d12
+      → c1 ≡ o.add p22 d01
+      → c2 ≡ o.add q1 d02
+      → c0 ∷ c1 ∷ c2 ∷ [] ≡ quotient_mul o 3 (binomial o 3 w) (a0 ∷ a1 ∷ a2 ∷ []) (a0 ∷ a1 ∷ a2 ∷ [])
+  cubic_square_formula {a0} {a1} {a2} {w} {k2} {q0} {q1} {p12} {p22} {p01} {p02} {d12} {d01} {d02} {c0} {c1} {c2} e0 e1 e2 e3 e4 e5 e6 e7 e8 e9 e10 e11 e12 =
+      formula o (a0 ∷ a1 ∷ a2 ∷ w ∷ []) (c0 ∷ c1 ∷ c2 ∷ []) l
+      (λ P xa0 xa1 xa2 xw. search (reads_list, answer_read o P e0, answer_read o P e1, answer_read o P e2, answer_read o P e3, answer_read o P e4, answer_read o P e5, answer_read o P e6, answer_read o P e7, answer_read o P e8, answer_read o P e9, answer_read o P e10, answer_read o P e11, answer_read o P e12) depth 99 fits 99999)
+      (quotient_mul free 3 (binomial free 3 (V 3)) (variables 0 3) (variables 0 3)) yes
+
+  -- the product modulo X^3 - X - 1
+  pub cubic_trinomial_formula : {a0 a1 a2 b0 b1 b2 s u c0 c1 c2 : A}
+      → s ≡ o.add b0 b2
+      → u ≡ o.add b1 b2
+      → c0 ≡ dot o (a0 ∷ a1 ∷ a2 ∷ []) (b0 ∷ b2 ∷ b1 ∷ [])
+      → c1 ≡ dot o (a0 ∷ a1 ∷ a2 ∷ []) (b1 ∷ s ∷ u ∷ [])
+      → c2 ≡ dot o (a0 ∷ a1 ∷ a2 ∷ []) (b2 ∷ b1 ∷ s ∷ [])
+      → c0 ∷ c1 ∷ c2 ∷ [] ≡ quotient_mul o 3 (cubic_trinomial o) (a0 ∷ a1 ∷ a2 ∷ []) (b0 ∷ b1 ∷ b2 ∷ [])
+  cubic_trinomial_formula {a0} {a1} {a2} {b0} {b1} {b2} {s} {u} {c0} {c1} {c2} e0 e1 e2 e3 e4 =
+      formula o (a0 ∷ a1 ∷ a2 ∷ b0 ∷ b1 ∷ b2 ∷ []) (c0 ∷ c1 ∷ c2 ∷ []) l
+      (λ P xa0 xa1 xa2 xb0 xb1 xb2. search (reads_list, answer_read o P e0, answer_read o P e1, answer_read o P e2, answer_read o P e3, answer_read o P e4) depth 99 fits 99999)
+      (quotient_mul free 3 (cubic_trinomial free) (variables 0 3) (variables 3 3)) yes
+
+  -- the square modulo X^3 - X - 1
+  pub cubic_trinomial_square_formula : {a0 a1 a2 d0 d1 s u c0 c1 c2 : A}
+      → d0 ≡ o.add a0 a0
+      → d1 ≡ o.add a1 a1
+      → s ≡ o.add d0 a2
+      → u ≡ o.add d1 a2
+      → c0 ≡ dot o (a0 ∷ d1 ∷ []) (a0 ∷ a2 ∷ [])
+      → c1 ≡ dot o (d0 ∷ a2 ∷ []) (a1 ∷ u ∷ [])
+      → c2 ≡ dot o (a1 ∷ a2 ∷ []) (a1 ∷ s ∷ [])
+      → c0 ∷ c1 ∷ c2 ∷ [] ≡ quotient_mul o 3 (cubic_trinomial o) (a0 ∷ a1 ∷ a2 ∷ []) (a0 ∷ a1 ∷ a2 ∷ [])
+  cubic_trinomial_square_formula {a0} {a1} {a2} {d0} {d1} {s} {u} {c0} {c1} {c2} e0 e1 e2 e3 e4 e5 e6 =
+      formula o (a0 ∷ a1 ∷ a2 ∷ []) (c0 ∷ c1 ∷ c2 ∷ []) l
+      (λ P xa0 xa1 xa2. search (reads_list, answer_read o P e0, answer_read o P e1, answer_read o P e2, answer_read o P e3, answer_read o P e4, answer_read o P e5, answer_read o P e6) depth 99 fits 99999)
+      (quotient_mul free 3 (cubic_trinomial free) (variables 0 3) (variables 0 3)) yes

@@ -1,2 +1,3 @@
+mod FirstSums
 mod Formulas
 mod ProductRows

@@ -6,7 +6,7 @@ ghost use Rattle.p3_theory.specs.Rings.DotProduct.{dot};
 ghost use Rattle.p3_theory.specs.Rings.Ring.{subtract};
 ghost use Rattle.p3_theory.specs.Products.ProductPlaces.{product_place};
 
-use crate::entries::{entries_of, four_from, write_entries};
+use crate::entries::{entries_of, four_from, three_from, write_entries};
 use p3_ring::ring::{Algebra, PrimeCharacteristicRing};
 use std::ops::Mul;
 
@@ -146,12 +146,8 @@ pub fn cubic_mul<F: PrimeCharacteristicRing, A: Algebra<F>>(a: &[A], b: &[A], re
     requires room { length res.old ≡ 3 }
     ensures { res.new ≡ quotient_mul A.ops 3 (binomial A.ops 3 (A.embed w)) a.now b.now }
 {
-    let a0 = a[0];
-    let a1 = a[1];
-    let a2 = a[2];
-    let b0 = b[0];
-    let b1 = b[1];
-    let b2 = b[2];
+    let (a0, a1, a2) = three_from(a, 0);
+    let (b0, b1, b2) = three_from(b, 0);
     let a0_b0 = a0 * b0;
     let a1_b1 = a1 * b1;
     let a2_b2 = a2 * b2;
@@ -163,9 +159,7 @@ pub fn cubic_mul<F: PrimeCharacteristicRing, A: Algebra<F>>(a: &[A], b: &[A], re
     let c0 = a0_b0 + cross_12_w;
     let c1 = cross_01 + a2_b2_w;
     let c2 = cross_02 + a1_b1;
-    res[0] = c0;
-    res[1] = c1;
-    res[2] = c2;
+    write_entries([c0, c1, c2], res);
 }
 
 /// The square of a list of three coefficients modulo `X^3 - W`.
@@ -175,9 +169,7 @@ pub fn cubic_square<F: PrimeCharacteristicRing, A: Algebra<F>>(a: &[A], res: &mu
     requires room { length res.old ≡ 3 }
     ensures { res.new ≡ quotient_mul A.ops 3 (binomial A.ops 3 (A.embed w)) a.now a.now }
 {
-    let a0 = a[0];
-    let a1 = a[1];
-    let a2 = a[2];
+    let (a0, a1, a2) = three_from(a, 0);
     let a2_w = a2 * w;
     let a0_a0 = a0.square();
     let a1_a1 = a1.square();
@@ -185,15 +177,11 @@ pub fn cubic_square<F: PrimeCharacteristicRing, A: Algebra<F>>(a: &[A], res: &mu
     let a2_a2_w = a2_w * a2;
     let a0_a1 = a0 * a1;
     let a0_a2 = a0 * a2;
-    let two_a1_a2_w = a1_a2_w.double();
-    let two_a0_a1 = a0_a1.double();
-    let two_a0_a2 = a0_a2.double();
+    let (two_a1_a2_w, two_a0_a1, two_a0_a2) = double_three((a1_a2_w, a0_a1, a0_a2));
     let c0 = a0_a0 + two_a1_a2_w;
     let c1 = a2_a2_w + two_a0_a1;
     let c2 = a1_a1 + two_a0_a2;
-    res[0] = c0;
-    res[1] = c1;
-    res[2] = c2;
+    write_entries([c0, c1, c2], res);
 }
 
 /// The sum of the products of two lists of N coefficients, index by index: `dot_product`, with the
