@@ -376,8 +376,12 @@ pub fn octic_product<F: PrimeCharacteristicRing, A: Algebra<F>>(
     let high = four_from(b, 4);
     let (w_b1, w_b2, w_b3) = scale_three((low.1, low.2, low.3), w);
     let (w_b4, w_b5, w_b6, w_b7) = scale_four(high, w);
-    let (c0, c1, c2, c3) =
-        octic_coefficients(left, low, (w_b4, w_b5, w_b6, w_b7), (w_b1, w_b2, w_b3));
+    let (c0, c1, c2, c3) = octic_coefficients(
+        left,
+        low,
+        (w_b4, w_b5, w_b6, w_b7),
+        (w_b1, w_b2, w_b3),
+    );
     let (c4, c5, c6, c7) = octic_coefficients(left, high, low, (w_b5, w_b6, w_b7));
     write_entries([c0, c1, c2, c3, c4, c5, c6, c7], res);
 }
