@@ -1,2 +1,4 @@
+mod FirstSums
+mod FixedDegrees
 mod Formulas
 mod ProductRows

@@ -1,4 +1,4 @@
-ghost use Rattle.std.specs.Prelude.{◌≡◌, ◌≤◌, ◌<◌, ◌+◌, ◌-◌, ◌∷◌, length, get_or, reverse, take};
+ghost use Rattle.std.specs.Prelude.{◌≡◌, ◌≤◌, ◌<◌, ◌+◌, ◌-◌, ◌∷◌, [], length, get_or, reverse, take};
 ghost use Rattle.p3_theory.specs.Polynomials.Polynomial.{quotient_mul, binomial};
 ghost use Rattle.p3_theory.specs.Polynomials.BaseProduct.{scaled};
 ghost use Rattle.p3_theory.specs.Polynomials.ConvolutionSums.{first_sum};
@@ -6,7 +6,9 @@ ghost use Rattle.p3_theory.specs.Rings.DotProduct.{dot};
 ghost use Rattle.p3_theory.specs.Rings.Ring.{subtract};
 ghost use Rattle.p3_theory.specs.Products.ProductPlaces.{product_place};
 
+use crate::entries::{entries_of, four_from, three_from, write_entries};
 use p3_ring::ring::{Algebra, PrimeCharacteristicRing};
+use std::ops::Mul;
 
 /// The sum of `a[skip + i] * b[top - i]` for i below `count`.
 #[inline]
@@ -144,12 +146,8 @@ pub fn cubic_mul<F: PrimeCharacteristicRing, A: Algebra<F>>(a: &[A], b: &[A], re
     requires room { length res.old ≡ 3 }
     ensures { res.new ≡ quotient_mul A.ops 3 (binomial A.ops 3 (A.embed w)) a.now b.now }
 {
-    let a0 = a[0];
-    let a1 = a[1];
-    let a2 = a[2];
-    let b0 = b[0];
-    let b1 = b[1];
-    let b2 = b[2];
+    let (a0, a1, a2) = three_from(a, 0);
+    let (b0, b1, b2) = three_from(b, 0);
     let a0_b0 = a0 * b0;
     let a1_b1 = a1 * b1;
     let a2_b2 = a2 * b2;
@@ -161,9 +159,7 @@ pub fn cubic_mul<F: PrimeCharacteristicRing, A: Algebra<F>>(a: &[A], b: &[A], re
     let c0 = a0_b0 + cross_12_w;
     let c1 = cross_01 + a2_b2_w;
     let c2 = cross_02 + a1_b1;
-    res[0] = c0;
-    res[1] = c1;
-    res[2] = c2;
+    write_entries([c0, c1, c2], res);
 }
 
 /// The square of a list of three coefficients modulo `X^3 - W`.
@@ -173,9 +169,7 @@ pub fn cubic_square<F: PrimeCharacteristicRing, A: Algebra<F>>(a: &[A], res: &mu
     requires room { length res.old ≡ 3 }
     ensures { res.new ≡ quotient_mul A.ops 3 (binomial A.ops 3 (A.embed w)) a.now a.now }
 {
-    let a0 = a[0];
-    let a1 = a[1];
-    let a2 = a[2];
+    let (a0, a1, a2) = three_from(a, 0);
     let a2_w = a2 * w;
     let a0_a0 = a0.square();
     let a1_a1 = a1.square();
@@ -183,15 +177,11 @@ pub fn cubic_square<F: PrimeCharacteristicRing, A: Algebra<F>>(a: &[A], res: &mu
     let a2_a2_w = a2_w * a2;
     let a0_a1 = a0 * a1;
     let a0_a2 = a0 * a2;
-    let two_a1_a2_w = a1_a2_w.double();
-    let two_a0_a1 = a0_a1.double();
-    let two_a0_a2 = a0_a2.double();
+    let (two_a1_a2_w, two_a0_a1, two_a0_a2) = double_three((a1_a2_w, a0_a1, a0_a2));
     let c0 = a0_a0 + two_a1_a2_w;
     let c1 = a2_a2_w + two_a0_a1;
     let c2 = a1_a1 + two_a0_a2;
-    res[0] = c0;
-    res[1] = c1;
-    res[2] = c2;
+    write_entries([c0, c1, c2], res);
 }
 
 /// The sum of the products of two lists of N coefficients, index by index: `dot_product`, with the
@@ -204,6 +194,57 @@ pub(crate) fn array_dot_product<A: PrimeCharacteristicRing, const N: usize>(
     ensures { result ≡ dot A.ops left right }
 {
     A::dot_product(&left, &right)
+}
+
+/// Three values, each times W.
+#[inline]
+fn scale_three<F: Copy, A: Copy + Mul<F, Output = A>>(x: (A, A, A), w: F) -> (A, A, A)
+    requires { (x : A) (v : F) → ⟦<A as Mul<F>>⟧.can_mul x v }
+    ensures first { ⟦<A as Mul<F>>⟧.mul_gives x.0 w result.0 }
+    ensures second { ⟦<A as Mul<F>>⟧.mul_gives x.1 w result.1 }
+    ensures third { ⟦<A as Mul<F>>⟧.mul_gives x.2 w result.2 }
+{
+    let w_x0 = x.0 * w;
+    let w_x1 = x.1 * w;
+    let w_x2 = x.2 * w;
+    (w_x0, w_x1, w_x2)
+}
+
+/// Four values, each times W.
+#[inline]
+fn scale_four<F: Copy, A: Copy + Mul<F, Output = A>>(x: (A, A, A, A), w: F) -> (A, A, A, A)
+    requires { (x : A) (v : F) → ⟦<A as Mul<F>>⟧.can_mul x v }
+    ensures first { ⟦<A as Mul<F>>⟧.mul_gives x.0 w result.0 }
+    ensures second { ⟦<A as Mul<F>>⟧.mul_gives x.1 w result.1 }
+    ensures third { ⟦<A as Mul<F>>⟧.mul_gives x.2 w result.2 }
+    ensures fourth { ⟦<A as Mul<F>>⟧.mul_gives x.3 w result.3 }
+{
+    let w_x0 = x.0 * w;
+    let w_x1 = x.1 * w;
+    let w_x2 = x.2 * w;
+    let w_x3 = x.3 * w;
+    (w_x0, w_x1, w_x2, w_x3)
+}
+
+/// Three values, each doubled.
+#[inline]
+fn double_three<A: PrimeCharacteristicRing>(x: (A, A, A)) -> (A, A, A)
+    ensures first { result.0 ≡ A.ops.add x.0 x.0 }
+    ensures second { result.1 ≡ A.ops.add x.1 x.1 }
+    ensures third { result.2 ≡ A.ops.add x.2 x.2 }
+{
+    (x.0.double(), x.1.double(), x.2.double())
+}
+
+/// Four values, each doubled.
+#[inline]
+pub(crate) fn double_four<A: PrimeCharacteristicRing>(x: (A, A, A, A)) -> (A, A, A, A)
+    ensures first { result.0 ≡ A.ops.add x.0 x.0 }
+    ensures second { result.1 ≡ A.ops.add x.1 x.1 }
+    ensures third { result.2 ≡ A.ops.add x.2 x.2 }
+    ensures fourth { result.3 ≡ A.ops.add x.3 x.3 }
+{
+    (x.0.double(), x.1.double(), x.2.double(), x.3.double())
 }
 
 /// The product of two lists of four coefficients modulo `X^4 - W`.
@@ -219,20 +260,14 @@ pub fn quartic_product<F: PrimeCharacteristicRing, A: Algebra<F>>(
     requires room { length res.old ≡ 4 }
     ensures { res.new ≡ quotient_mul A.ops 4 (binomial A.ops 4 (A.embed w)) a.now b.now }
 {
-    let (a0, a1, a2, a3) = (a[0], a[1], a[2], a[3]);
-    let (b0, b1, b2, b3) = (b[0], b[1], b[2], b[3]);
-    let b1_w = b1 * w;
-    let b2_w = b2 * w;
-    let b3_w = b3 * w;
-    let left = [a0, a1, a2, a3];
+    let left = entries_of::<A, 4>(a);
+    let (b0, b1, b2, b3) = four_from(b, 0);
+    let (b1_w, b2_w, b3_w) = scale_three((b1, b2, b3), w);
     let c0 = array_dot_product(left, [b0, b3_w, b2_w, b1_w]);
     let c1 = array_dot_product(left, [b1, b0, b3_w, b2_w]);
     let c2 = array_dot_product(left, [b2, b1, b0, b3_w]);
     let c3 = array_dot_product(left, [b3, b2, b1, b0]);
-    res[0] = c0;
-    res[1] = c1;
-    res[2] = c2;
-    res[3] = c3;
+    write_entries([c0, c1, c2, c3], res);
 }
 
 /// The square of a list of four coefficients modulo `X^4 - W`.
@@ -242,23 +277,15 @@ pub fn quartic_square<F: PrimeCharacteristicRing, A: Algebra<F>>(a: &[A], res: &
     requires room { length res.old ≡ 4 }
     ensures { res.new ≡ quotient_mul A.ops 4 (binomial A.ops 4 (A.embed w)) a.now a.now }
 {
-    let a0 = a[0];
-    let a1 = a[1];
-    let a2 = a[2];
-    let a3 = a[3];
-    let two_a0 = a0.double();
-    let two_a1 = a1.double();
-    let two_a2 = a2.double();
+    let (a0, a1, a2, a3) = four_from(a, 0);
+    let (two_a0, two_a1, two_a2) = double_three((a0, a1, a2));
     let a2_w = a2 * w;
     let a3_w = a3 * w;
     let c0 = array_dot_product([a0, a2_w, two_a1], [a0, a2, a3_w]);
     let c1 = array_dot_product([two_a0, two_a2], [a1, a3_w]);
     let c2 = array_dot_product([a1, a3_w, two_a0], [a1, a3, a2]);
     let c3 = array_dot_product([two_a0, two_a2], [a3, a1]);
-    res[0] = c0;
-    res[1] = c1;
-    res[2] = c2;
-    res[3] = c3;
+    write_entries([c0, c1, c2, c3], res);
 }
 
 /// The product of two lists of five coefficients modulo `X^5 - W`.
@@ -274,23 +301,16 @@ pub fn quintic_product<F: PrimeCharacteristicRing, A: Algebra<F>>(
     requires room { length res.old ≡ 5 }
     ensures { res.new ≡ quotient_mul A.ops 5 (binomial A.ops 5 (A.embed w)) a.now b.now }
 {
-    let (a0, a1, a2, a3, a4) = (a[0], a[1], a[2], a[3], a[4]);
-    let (b0, b1, b2, b3, b4) = (b[0], b[1], b[2], b[3], b[4]);
-    let b1_w = b1 * w;
-    let b2_w = b2 * w;
-    let b3_w = b3 * w;
-    let b4_w = b4 * w;
-    let left = [a0, a1, a2, a3, a4];
+    let left = entries_of::<A, 5>(a);
+    let b0 = b[0];
+    let (b1, b2, b3, b4) = four_from(b, 1);
+    let (b1_w, b2_w, b3_w, b4_w) = scale_four((b1, b2, b3, b4), w);
     let c0 = array_dot_product(left, [b0, b4_w, b3_w, b2_w, b1_w]);
     let c1 = array_dot_product(left, [b1, b0, b4_w, b3_w, b2_w]);
     let c2 = array_dot_product(left, [b2, b1, b0, b4_w, b3_w]);
     let c3 = array_dot_product(left, [b3, b2, b1, b0, b4_w]);
     let c4 = array_dot_product(left, [b4, b3, b2, b1, b0]);
-    res[0] = c0;
-    res[1] = c1;
-    res[2] = c2;
-    res[3] = c3;
-    res[4] = c4;
+    write_entries([c0, c1, c2, c3, c4], res);
 }
 
 /// The square of a list of five coefficients modulo `X^5 - W`.
@@ -300,15 +320,9 @@ pub fn quintic_square<F: PrimeCharacteristicRing, A: Algebra<F>>(a: &[A], res: &
     requires room { length res.old ≡ 5 }
     ensures { res.new ≡ quotient_mul A.ops 5 (binomial A.ops 5 (A.embed w)) a.now a.now }
 {
-    let a0 = a[0];
-    let a1 = a[1];
-    let a2 = a[2];
-    let a3 = a[3];
+    let (a0, a1, a2, a3) = four_from(a, 0);
     let a4 = a[4];
-    let two_a0 = a0.double();
-    let two_a1 = a1.double();
-    let two_a2 = a2.double();
-    let two_a3 = a3.double();
+    let (two_a0, two_a1, two_a2, two_a3) = double_four((a0, a1, a2, a3));
     let w_a3 = a3 * w;
     let w_a4 = a4 * w;
     let c0 = array_dot_product([a0, w_a4, w_a3], [a0, two_a1, two_a2]);
@@ -316,11 +330,32 @@ pub fn quintic_square<F: PrimeCharacteristicRing, A: Algebra<F>>(a: &[A], res: &
     let c2 = array_dot_product([a1, two_a0, w_a4], [a1, a2, two_a3]);
     let c3 = array_dot_product([w_a4, two_a0, two_a1], [a4, a3, a2]);
     let c4 = array_dot_product([a2, two_a0, two_a1], [a2, a4, a3]);
-    res[0] = c0;
-    res[1] = c1;
-    res[2] = c2;
-    res[3] = c3;
-    res[4] = c4;
+    write_entries([c0, c1, c2, c3, c4], res);
+}
+
+/// Four coefficients one after the other of a product with `left` of degree 8: the dot products
+/// with the eight entries up to each of the four in `first`, the last one of these before it. Before
+/// `first` stand `second`, and before those `third`.
+#[inline]
+fn octic_coefficients<A: PrimeCharacteristicRing>(
+    left: [A; 8],
+    first: (A, A, A, A),
+    second: (A, A, A, A),
+    third: (A, A, A),
+) -> (A, A, A, A)
+    ensures first { result.0 ≡ dot A.ops left (first.0 ∷ second.3 ∷ second.2 ∷ second.1 ∷ second.0 ∷ third.2 ∷ third.1 ∷ third.0 ∷ []) }
+    ensures second { result.1 ≡ dot A.ops left (first.1 ∷ first.0 ∷ second.3 ∷ second.2 ∷ second.1 ∷ second.0 ∷ third.2 ∷ third.1 ∷ []) }
+    ensures third { result.2 ≡ dot A.ops left (first.2 ∷ first.1 ∷ first.0 ∷ second.3 ∷ second.2 ∷ second.1 ∷ second.0 ∷ third.2 ∷ []) }
+    ensures fourth { result.3 ≡ dot A.ops left (first.3 ∷ first.2 ∷ first.1 ∷ first.0 ∷ second.3 ∷ second.2 ∷ second.1 ∷ second.0 ∷ []) }
+{
+    let (x1, x2, x3) = third;
+    let (y0, y1, y2, y3) = second;
+    let (z0, z1, z2, z3) = first;
+    let c0 = array_dot_product(left, [z0, y3, y2, y1, y0, x3, x2, x1]);
+    let c1 = array_dot_product(left, [z1, z0, y3, y2, y1, y0, x3, x2]);
+    let c2 = array_dot_product(left, [z2, z1, z0, y3, y2, y1, y0, x3]);
+    let c3 = array_dot_product(left, [z3, z2, z1, z0, y3, y2, y1, y0]);
+    (c0, c1, c2, c3)
 }
 
 /// The product of two lists of eight coefficients modulo `X^8 - W`.
@@ -336,32 +371,19 @@ pub fn octic_product<F: PrimeCharacteristicRing, A: Algebra<F>>(
     requires room { length res.old ≡ 8 }
     ensures { res.new ≡ quotient_mul A.ops 8 (binomial A.ops 8 (A.embed w)) a.now b.now }
 {
-    let left = <[A; 8]>::try_from(a).unwrap();
-    let (b0, b1, b2, b3) = (b[0], b[1], b[2], b[3]);
-    let (b4, b5, b6, b7) = (b[4], b[5], b[6], b[7]);
-    let b1_w = b1 * w;
-    let b2_w = b2 * w;
-    let b3_w = b3 * w;
-    let b4_w = b4 * w;
-    let b5_w = b5 * w;
-    let b6_w = b6 * w;
-    let b7_w = b7 * w;
-    let c0 = array_dot_product(left, [b0, b7_w, b6_w, b5_w, b4_w, b3_w, b2_w, b1_w]);
-    let c1 = array_dot_product(left, [b1, b0, b7_w, b6_w, b5_w, b4_w, b3_w, b2_w]);
-    let c2 = array_dot_product(left, [b2, b1, b0, b7_w, b6_w, b5_w, b4_w, b3_w]);
-    let c3 = array_dot_product(left, [b3, b2, b1, b0, b7_w, b6_w, b5_w, b4_w]);
-    let c4 = array_dot_product(left, [b4, b3, b2, b1, b0, b7_w, b6_w, b5_w]);
-    let c5 = array_dot_product(left, [b5, b4, b3, b2, b1, b0, b7_w, b6_w]);
-    let c6 = array_dot_product(left, [b6, b5, b4, b3, b2, b1, b0, b7_w]);
-    let c7 = array_dot_product(left, [b7, b6, b5, b4, b3, b2, b1, b0]);
-    res[0] = c0;
-    res[1] = c1;
-    res[2] = c2;
-    res[3] = c3;
-    res[4] = c4;
-    res[5] = c5;
-    res[6] = c6;
-    res[7] = c7;
+    let left = entries_of::<A, 8>(a);
+    let low = four_from(b, 0);
+    let high = four_from(b, 4);
+    let (w_b1, w_b2, w_b3) = scale_three((low.1, low.2, low.3), w);
+    let (w_b4, w_b5, w_b6, w_b7) = scale_four(high, w);
+    let (c0, c1, c2, c3) = octic_coefficients(
+        left,
+        low,
+        (w_b4, w_b5, w_b6, w_b7),
+        (w_b1, w_b2, w_b3),
+    );
+    let (c4, c5, c6, c7) = octic_coefficients(left, high, low, (w_b5, w_b6, w_b7));
+    write_entries([c0, c1, c2, c3, c4, c5, c6, c7], res);
 }
 
 /// The square of a list of eight coefficients modulo `X^8 - W`.
@@ -371,19 +393,11 @@ pub fn octic_square<F: PrimeCharacteristicRing, A: Algebra<F>>(a: &[A], res: &mu
     requires room { length res.old ≡ 8 }
     ensures { res.new ≡ quotient_mul A.ops 8 (binomial A.ops 8 (A.embed w)) a.now a.now }
 {
-    let (a0, a1, a2, a3) = (a[0], a[1], a[2], a[3]);
-    let (a4, a5, a6, a7) = (a[4], a[5], a[6], a[7]);
-    let a0_2 = a0.double();
-    let a1_2 = a1.double();
-    let a2_2 = a2.double();
-    let a3_2 = a3.double();
-    let w_a4 = a4 * w;
-    let w_a5 = a5 * w;
-    let w_a6 = a6 * w;
-    let w_a7 = a7 * w;
-    let w_a5_2 = w_a5.double();
-    let w_a6_2 = w_a6.double();
-    let w_a7_2 = w_a7.double();
+    let (a0, a1, a2, a3) = four_from(a, 0);
+    let (a4, a5, a6, a7) = four_from(a, 4);
+    let (a0_2, a1_2, a2_2, a3_2) = double_four((a0, a1, a2, a3));
+    let (w_a4, w_a5, w_a6, w_a7) = scale_four((a4, a5, a6, a7), w);
+    let (w_a5_2, w_a6_2, w_a7_2) = double_three((w_a5, w_a6, w_a7));
     let c0 = array_dot_product([a0, a1, a2, a3, a4], [a0, w_a7_2, w_a6_2, w_a5_2, w_a4]);
     let c1 = array_dot_product([a0_2, a2, a3, a4], [a1, w_a7_2, w_a6_2, w_a5_2]);
     let c2 = array_dot_product([a0_2, a1, a3, a4, a5], [a2, a1, w_a7_2, w_a6_2, w_a5]);
@@ -392,12 +406,5 @@ pub fn octic_square<F: PrimeCharacteristicRing, A: Algebra<F>>(a: &[A], res: &mu
     let c5 = array_dot_product([a0_2, a1_2, a2_2, a6], [a5, a4, a3, w_a7_2]);
     let c6 = array_dot_product([a0_2, a1_2, a2_2, a3, a7], [a6, a5, a4, a3, w_a7]);
     let c7 = array_dot_product([a0_2, a1_2, a2_2, a3_2], [a7, a6, a5, a4]);
-    res[0] = c0;
-    res[1] = c1;
-    res[2] = c2;
-    res[3] = c3;
-    res[4] = c4;
-    res[5] = c5;
-    res[6] = c6;
-    res[7] = c7;
+    write_entries([c0, c1, c2, c3, c4, c5, c6, c7], res);
 }

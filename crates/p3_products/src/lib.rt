@@ -5,6 +5,7 @@ pub mod binomial_extension;
 pub mod binomial_inverses;
 pub mod binomial_products;
 pub mod cubic_extension;
+mod entries;
 pub mod power_table;
 pub mod quintic_extension;
 pub mod vectors;

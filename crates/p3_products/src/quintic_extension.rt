@@ -3,7 +3,8 @@ ghost use Rattle.p3_theory.specs.Polynomials.Polynomial.{quotient_mul};
 ghost use Rattle.p3_theory.specs.Products.Trinomials.{quintic_trinomial};
 ghost use Rattle.p3_products.specs.TrinomialRemainders.{quintic_reduced};
 
-use crate::binomial_products::array_dot_product;
+use crate::binomial_products::{array_dot_product, double_four};
+use crate::entries::{four_from, write_entries};
 use p3_ring::ring::PrimeCharacteristicRing;
 
 /// Writes the remainder modulo `X^5 + X^2 - 1` of the polynomial with these nine coefficients.
@@ -31,11 +32,7 @@ fn write_reduced<R: PrimeCharacteristicRing>(
     let rest3 = c3 - c6;
     let r3 = rest3 + c8;
     let r4 = c4 - c7;
-    res[0] = r0;
-    res[1] = r1;
-    res[2] = r2;
-    res[3] = r3;
-    res[4] = r4;
+    write_entries([r0, r1, r2, r3, r4], res);
 }
 
 /// The product of two lists of five coefficients modulo `X^5 + X^2 - 1`. Upstream's
@@ -47,8 +44,10 @@ pub fn trinomial_quintic_mul<R: PrimeCharacteristicRing>(a: &[R], b: &[R], res: 
     requires room { length res.old ≡ 5 }
     ensures { res.new ≡ quotient_mul R.ops 5 (quintic_trinomial R.ops) a.now b.now }
 {
-    let (a0, a1, a2, a3, a4) = (a[0], a[1], a[2], a[3], a[4]);
-    let (b0, b1, b2, b3, b4) = (b[0], b[1], b[2], b[3], b[4]);
+    let (a0, a1, a2, a3) = four_from(a, 0);
+    let a4 = a[4];
+    let (b0, b1, b2, b3) = four_from(b, 0);
+    let b4 = b[4];
     let c0 = a0 * b0;
     let c1 = array_dot_product([a0, a1], [b1, b0]);
     let c2 = array_dot_product([a0, a1, a2], [b2, b1, b0]);
@@ -68,11 +67,9 @@ pub fn quintic_square<R: PrimeCharacteristicRing>(a: &[R], res: &mut [R])
     requires room { length res.old ≡ 5 }
     ensures { res.new ≡ quotient_mul R.ops 5 (quintic_trinomial R.ops) a.now a.now }
 {
-    let (a0, a1, a2, a3, a4) = (a[0], a[1], a[2], a[3], a[4]);
-    let a0_2 = a0.double();
-    let a1_2 = a1.double();
-    let a2_2 = a2.double();
-    let a3_2 = a3.double();
+    let (a0, a1, a2, a3) = four_from(a, 0);
+    let a4 = a[4];
+    let (a0_2, a1_2, a2_2, a3_2) = double_four((a0, a1, a2, a3));
     let c0 = a0.square();
     let c1 = a0_2 * a1;
     let c2 = array_dot_product([a0_2, a1], [a2, a1]);

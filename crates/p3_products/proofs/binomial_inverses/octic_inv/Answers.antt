@@ -8,39 +8,46 @@ use Rattle.p3_products.proofs.binomial_inverses.octic_inv.Goals as goal
 
 pub returns-then-not-quartic_inv-clause-none : goal.returns-then-not-quartic_inv-clause-none
 returns-then-not-quartic_inv-clause-none g c = λ _.
-    let o = g.F.PrimeCharacteristicRing.ops in
-    let a = c.args.a.now in
-    let a0 = c.index-a-0.result in
-    let a1 = c.index-a-1.result in
-    let a2 = c.index-a-2.result in
-    let a3 = c.index-a-3.result in
-    let a4 = c.index-a-4.result in
-    let a5 = c.index-a-5.result in
-    let a6 = c.index-a-6.result in
-    let a7 = c.index-a-7.result in
-    let items = items_are a (a0 ∷ a1 ∷ a2 ∷ a3 ∷ a4 ∷ a5 ∷ a6 ∷ a7 ∷ []) c.requires.input
-    (c.index-a-0.is, (c.index-a-1.is, (c.index-a-2.is, (c.index-a-3.is, (c.index-a-4.is, (c.index-a-5.is, (c.index-a-6.is, (c.index-a-7.is, tt)))))))) in
-    octic_absent (ring_of g.met.F.PrimeCharacteristicRing.ring) c.args.w a c.sub_shifted.new.res a0 a1 a2 a3 a4 a5 a6 a7 items
-    c.quartic_square.new.res c.quartic_square-2.new.res c.quartic_square.ensures c.quartic_square-2.ensures c.sub_shifted.ensures
-    (c.quartic_inv.ensures.none c.if-not-quartic_inv.true)
+    let low = c.four_from-a0 in
+    let high = c.four_from-a4 in
+    let a0 = low.result.0 in
+    let a1 = low.result.1 in
+    let a2 = low.result.2 in
+    let a3 = low.result.3 in
+    let a4 = high.result.0 in
+    let a5 = high.result.1 in
+    let a6 = high.result.2 in
+    let a7 = high.result.3 in
+    let items = items_are c.args.a.now (a0 ∷ a1 ∷ a2 ∷ a3 ∷ a4 ∷ a5 ∷ a6 ∷ a7 ∷ []) c.requires.input
+    (low.ensures.first, (low.ensures.second, (low.ensures.third, (low.ensures.fourth, (high.ensures.first, (high.ensures.second, (high.ensures.third, (high.ensures.fourth, tt)))))))) in
+    let evens = c.square_at_four-evens_square in
+    let odds = c.square_at_four-odds_square in
+    let norm = c.sub_shifted-norm in
+    octic_absent (ring_of g.met.F.PrimeCharacteristicRing.ring) c.args.w c.args.a.now norm.result a0 a1 a2 a3 a4 a5 a6 a7 items
+    evens.result odds.result evens.ensures odds.ensures norm.ensures (c.quartic_inv.ensures.none c.if-not-quartic_inv.true)
 
 pub returns-clause-inverse : goal.returns-clause-inverse
 returns-clause-inverse g c = λ _.
-    let o = g.F.PrimeCharacteristicRing.ops in
-    let a = c.args.a.now in
-    let a0 = c.index-a-0.result in
-    let a1 = c.index-a-1.result in
-    let a2 = c.index-a-2.result in
-    let a3 = c.index-a-3.result in
-    let a4 = c.index-a-4.result in
-    let a5 = c.index-a-5.result in
-    let a6 = c.index-a-6.result in
-    let a7 = c.index-a-7.result in
-    let items = items_are a (a0 ∷ a1 ∷ a2 ∷ a3 ∷ a4 ∷ a5 ∷ a6 ∷ a7 ∷ []) c.requires.input
-    (c.index-a-0.is, (c.index-a-1.is, (c.index-a-2.is, (c.index-a-3.is, (c.index-a-4.is, (c.index-a-5.is, (c.index-a-6.is, (c.index-a-7.is, tt)))))))) in
-    let half : length c.quartic_product.new.res ≡ 4 = search rules in
-    octic_inverse (ring_of g.met.F.PrimeCharacteristicRing.ring) c.args.w a c.sub_shifted.new.res a0 a1 a2 a3 a4 a5 a6 a7 items
-    c.quartic_square.new.res c.quartic_square-2.new.res c.quartic_square.ensures c.quartic_square-2.ensures c.sub_shifted.ensures
-    c.quartic_inv.new.res c.quartic_product.new.res c.quartic_product-2.new.res c.write_conjugate.new.res
-    (search rules) (c.quartic_inv.ensures.inverse c.if-not-quartic_inv.false) c.quartic_product.ensures c.quartic_product-2.ensures
-    (c.write_conjugate.ensures ∙ ap (λ n. interleave c.quartic_product.new.res (quotient_neg o n c.quartic_product-2.new.res)) half)
+    let low = c.four_from-a0 in
+    let high = c.four_from-a4 in
+    let a0 = low.result.0 in
+    let a1 = low.result.1 in
+    let a2 = low.result.2 in
+    let a3 = low.result.3 in
+    let a4 = high.result.0 in
+    let a5 = high.result.1 in
+    let a6 = high.result.2 in
+    let a7 = high.result.3 in
+    let items = items_are c.args.a.now (a0 ∷ a1 ∷ a2 ∷ a3 ∷ a4 ∷ a5 ∷ a6 ∷ a7 ∷ []) c.requires.input
+    (low.ensures.first, (low.ensures.second, (low.ensures.third, (low.ensures.fourth, (high.ensures.first, (high.ensures.second, (high.ensures.third, (high.ensures.fourth, tt)))))))) in
+    let evens = c.square_at_four-evens_square in
+    let odds = c.square_at_four-odds_square in
+    let norm = c.sub_shifted-norm in
+    let even = c.product_at_four-even in
+    let odd = c.product_at_four-odd in
+    let half : length even.result ≡ 4 = search rules in
+    octic_inverse (ring_of g.met.F.PrimeCharacteristicRing.ring) c.args.w c.args.a.now norm.result a0 a1 a2 a3 a4 a5 a6 a7 items
+    evens.result odds.result evens.ensures odds.ensures norm.ensures
+    c.quartic_inv.new.res even.result odd.result c.write_conjugate.new.res
+    (search rules) (c.quartic_inv.ensures.inverse c.if-not-quartic_inv.false) even.ensures odd.ensures
+    (c.write_conjugate.ensures ∙ ap (λ n. interleave even.result (quotient_neg g.F.PrimeCharacteristicRing.ops n odd.result)) half)

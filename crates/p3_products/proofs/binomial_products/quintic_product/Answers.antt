@@ -1,23 +1,21 @@
-use Rattle.std.proofs.Common.{◌++◌, ◌∙◌, [], ◌∷◌, ap₂, sym}
+use Rattle.std.proofs.Common.{◌∙◌, [], ◌∷◌, length, ap, ap₂, sym}
 use Rattle.p3_theory.specs.Polynomials.Polynomial.{quotient_mul, binomial}
 use Rattle.p3_theory.specs.Lists.ListItems.{items_are}
-use Rattle.p3_theory.specs.Lists.WrittenItems.{all_written}
-use Rattle.p3_theory.specs.RingSolver.Solver.{V, free}
-use Rattle.p3_theory.specs.RingSolver.Reify.{yes}
-use Rattle.p3_theory.specs.RingSolver.StraightLine.{reads_list, scaled_read, answer_read, formula, variables}
+use Rattle.p3_products.proofs.Formulas.{quintic_formula}
 use Rattle.p3_products.proofs.binomial_products.quintic_product.Goals as goal
 
 pub returns : goal.returns
 returns g c =
     let o = g.A.PrimeCharacteristicRing.ops in
-    let m = g.met.A.PrimeCharacteristicRing in
-    let x = g.met.A.Algebra in
-    let w = g.A.Algebra.embed c.args.w in
-    let a = c.index-a-0.result ∷ c.index-a-1.result ∷ c.index-a-2.result ∷ c.index-a-3.result ∷ c.index-a-4.result ∷ [] in
-    let b = c.index-b-0.result ∷ c.index-b-1.result ∷ c.index-b-2.result ∷ c.index-b-3.result ∷ c.index-b-4.result ∷ [] in
-    let places = c.array_dot_product-c0.result ∷ c.array_dot_product-c1.result ∷ c.array_dot_product-c2.result ∷ c.array_dot_product-c3.result ∷ c.array_dot_product-c4.result ∷ [] in
-    all_written c.args.res.now places c.requires.room
-    ∙ formula o (a ++ b ++ w ∷ []) places m.ring
-    (λ P a0 a1 a2 a3 a4 b0 b1 b2 b3 b4 w_read. search (reads_list, scaled_read o P x.mixed_muls, c.mul-b1_w.ensures, c.mul-b2_w.ensures, c.mul-b3_w.ensures, c.mul-b4_w.ensures, answer_read o P c.array_dot_product-c0.ensures, answer_read o P c.array_dot_product-c1.ensures, answer_read o P c.array_dot_product-c2.ensures, answer_read o P c.array_dot_product-c3.ensures, answer_read o P c.array_dot_product-c4.ensures) depth 99 fits 99999)
-    (quotient_mul free 5 (binomial free 5 (V 10)) (variables 0 5) (variables 5 5)) yes
-    ∙ ap₂ (quotient_mul o 5 (binomial o 5 w)) (sym (items_are c.args.a.now a c.requires.left search)) (sym (items_are c.args.b.now b c.requires.right search))
+    let k = g.met.A.Algebra.mixed_muls in
+    let left = c.entries_of-left in
+    let first = c.index-b-0 in
+    let read = c.four_from-b1 in
+    let scaled = c.scale_four-b1_w.ensures in
+    let b = first.result ∷ read.result.0 ∷ read.result.1 ∷ read.result.2 ∷ read.result.3 ∷ [] in
+    c.write_entries.ensures
+    ∙ quintic_formula o g.met.A.PrimeCharacteristicRing.ring left.result first.result (g.A.Algebra.embed c.args.w) (ap length left.ensures ∙ c.requires.left)
+    (k.answer _ _ _ scaled.first) (k.answer _ _ _ scaled.second) (k.answer _ _ _ scaled.third) (k.answer _ _ _ scaled.fourth)
+    c.array_dot_product-c0.ensures c.array_dot_product-c1.ensures c.array_dot_product-c2.ensures c.array_dot_product-c3.ensures c.array_dot_product-c4.ensures
+    ∙ ap₂ (quotient_mul o 5 (binomial o 5 (g.A.Algebra.embed c.args.w))) left.ensures
+    (sym (items_are c.args.b.now b c.requires.right (first.is, (read.ensures.first, (read.ensures.second, (read.ensures.third, (read.ensures.fourth, tt)))))))

@@ -1,6 +1,5 @@
 use Rattle.std.proofs.Common.{◌∙◌, [], ◌∷◌, ap}
 use Rattle.p3_theory.specs.Rings.Ring.{subtract}
-use Rattle.p3_theory.specs.Lists.WrittenItems.{all_written}
 use Rattle.p3_products.proofs.quintic_extension.write_reduced.Goals as goal
 
 pub returns : goal.returns
@@ -13,5 +12,5 @@ returns g c =
     let r2 = m.adds.answer _ _ _ c.add-r2.ensures ∙ ap (λ x. o.add x c.args.c7) (m.subs.answer _ _ _ c.sub-rest2.ensures ∙ ap (subtract o c.args.c2) high) in
     let r3 = m.adds.answer _ _ _ c.add-r3.ensures ∙ ap (λ x. o.add x c.args.c8) (m.subs.answer _ _ _ c.sub-rest3.ensures) in
     let r4 = m.subs.answer _ _ _ c.sub-r4.ensures in
-    all_written c.args.res.now (c.add-r0.result ∷ c.add-r1.result ∷ c.add-r2.result ∷ c.add-r3.result ∷ c.sub-r4.result ∷ []) c.requires
+    c.write_entries.ensures
     ∙ (λ i. r0 i ∷ r1 i ∷ r2 i ∷ r3 i ∷ r4 i ∷ [])
