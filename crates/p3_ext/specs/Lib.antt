@@ -14,3 +14,4 @@ pub mod ExtensionGenerators
 pub mod ComplexTowers
 pub mod Domains
 pub mod Shapes
+pub mod EntryOperators
