@@ -1,4 +1,4 @@
-ghost use Rattle.std.specs.Prelude.{◌≡◌, ◌++◌, IfOk};
+ghost use Rattle.std.specs.Prelude.{◌≡◌, IfOk};
 ghost use Rattle.p3_theory.specs.Rings.Ring.{Ops, Invertible, IsInverse};
 ghost use Rattle.p3_theory.specs.FrobeniusMaps.Frobenius.{iterate, IsFrobenius};
 ghost use Rattle.p3_theory.specs.FrobeniusMaps.FrobeniusTable.{orbit_list};
@@ -57,21 +57,12 @@ impl<F: FrobeniusExtendable<D, S>, const D: usize, S: ExtensionShape> ExtField<F
         ensures { IfOk result (λ orbit. orbit.items ≡ orbit_list (frobenius_map F.ops F.modulus F.image) D self) }
     {
         let mut orbit = Vec::with_capacity(alloc, D)?;
-        self.push_orbit(&mut orbit)?;
-        Ok(orbit)
-    }
-
-    /// Appends the value and its images, D in all.
-    #[inline]
-    fn push_orbit<A: Allocator + Copy>(self, orbit: &mut Vec<Self, A>) -> Result<(), AllocError>
-        ensures { IfOk result (λ _. orbit.new.items ≡ orbit.old.items ++ orbit_list (frobenius_map F.ops F.modulus F.image) D self) }
-    {
         let mut image = self;
         for _ in 0..D {
             orbit.push(image)?;
             image = image.frobenius_image();
         }
-        Ok(())
+        Ok(orbit)
     }
 }
 
