@@ -14,3 +14,5 @@ pub mod ExtensionGenerators
 pub mod ComplexTowers
 pub mod Domains
 pub mod Shapes
+pub mod EntryOperators
+pub mod WrittenPlaces

@@ -17,6 +17,7 @@ pub mod complex_extension;
 pub mod cubic_extension;
 mod defaults;
 pub mod display;
+mod entries;
 pub mod ext_field;
 mod field_bounds;
 pub mod frobenius;
@@ -28,6 +29,7 @@ mod two_adic;
 
 pub use complex_binomial::HasComplexBinomialExtension;
 pub use complex_extension::{Complex, ComplexExtendable};
+use entries::{add_each, scale_each, sub_each};
 pub use ext_field::ExtField;
 pub use has_frobenius::HasFrobenius;
 use p3_base::field::Field;
@@ -37,9 +39,9 @@ pub use p3_products::binomial_extension::{
 pub use p3_products::binomial_inverses::InverseByFormula;
 pub use p3_products::cubic_extension::{cubic_square, trinomial_cubic_mul};
 pub use p3_products::quintic_extension::{quintic_square, trinomial_quintic_mul};
-use p3_products::vectors::{add_entries, scale_entries, sub_entries};
 pub use p3_products::vectors::{vector_add, vector_sub};
 use p3_ring::ring::{Algebra, PrimeCharacteristicRing};
+use std::alloc::AllocError;
 use std::marker::PhantomData;
 pub use streams::{ByteCountFits, NestedByteCountFits};
 pub use two_adic::{
@@ -59,8 +61,23 @@ pub trait ExtensionShape: Copy + sealed::Sealed {
 }
 
 /// The shape `X^D = W`, for a base field F.
-#[derive(Clone, Copy, Debug, PartialEq, Eq, PartialOrd, Ord, Hash)]
+#[derive(Debug, PartialEq, Eq, PartialOrd, Ord, Hash)]
 pub struct Binomial<F>(PhantomData<F>);
+
+impl<F> Clone for Binomial<F> {
+    ghost use Rattle.std.specs.Prelude.{⊤};
+
+    ghost is_clone = { λ x y. y ≡ x };
+
+    ghost is_infallible = { λ _. ⊤ };
+
+    #[inline]
+    fn clone(&self) -> Result<Self, AllocError> {
+        Ok(*self)
+    }
+}
+
+impl<F> Copy for Binomial<F> {}
 
 impl<F: Copy> sealed::Sealed for Binomial<F> {}
 
@@ -147,7 +164,7 @@ pub trait ExtensionAlgebra<F: Copy, const D: usize, S: ExtensionShape>: PrimeCha
         requires room { length res.old ≡ D }
         ensures { res.new ≡ quotient_add Self.ops D a.now b.now }
     {
-        add_entries::<Self, Self>(a, b, res);
+        add_each(a, b, res);
     }
 
     /// The difference entry by entry.
@@ -158,7 +175,7 @@ pub trait ExtensionAlgebra<F: Copy, const D: usize, S: ExtensionShape>: PrimeCha
         requires room { length res.old ≡ D }
         ensures { res.new ≡ entrywise_difference Self.ops D a.now b.now }
     {
-        sub_entries::<Self, Self>(a, b, res);
+        sub_each(a, b, res);
     }
 
     /// The product with an embedded element: each entry times `rhs`.
@@ -168,7 +185,7 @@ pub trait ExtensionAlgebra<F: Copy, const D: usize, S: ExtensionShape>: PrimeCha
         requires room { length res.old ≡ D }
         ensures { res.new ≡ quotient_mul Self.ops D modulus lhs.now (embed Self.ops D rhs) }
     {
-        scale_entries(lhs, rhs, res);
+        scale_each(lhs, rhs, res);
     }
 
     /// The degree is two or more.

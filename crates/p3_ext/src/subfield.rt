@@ -35,4 +35,16 @@ impl<F: FrobeniusExtendable<D, S>, const D: usize, S: ExtensionShape> HasSubfiel
     fn as_subfield(&self) -> Option<F> {
         <Self as ExtensionField<F>>::as_base(self)
     }
+
+    #[inline]
+    fn all_in_subfield(values: &[Self]) -> bool {
+        for i in 0..values.len() {
+            let value = values[i];
+            match <Self as ExtensionField<F>>::as_base(&value) {
+                Some(_) => {}
+                None => return false,
+            }
+        }
+        true
+    }
 }

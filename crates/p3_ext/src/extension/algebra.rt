@@ -4,6 +4,7 @@ ghost use Rattle.p3_ext.specs.Scalars.{ChangesFirst};
 use super::ext_field::ExtField;
 use super::{ExtensionAlgebra, ExtensionShape};
 use p3_ring::ring::{Algebra, PrimeCharacteristicRing};
+use p3_ring::sums::sum_of_products;
 use std::ops::{Add, AddAssign, Mul, MulAssign, Sub, SubAssign};
 
 /// An element of the coefficient ring as a value: x, 0, .., 0.
@@ -126,6 +127,12 @@ impl<F: ExtensionAlgebra<F, D, S>, const D: usize, S: ExtensionShape> Algebra<F>
     const BATCHED_LC_CHUNK: usize = 8;
 
     ghost BATCHED_LC_CHUNK = { 8 };
+
+    #[inline]
+    fn mixed_dot_product(a: &[Self], f: &[F]) -> Self {
+        let zero = ExtField::<F, D, S, F>::constant(F::zero());
+        sum_of_products(zero, a, f)
+    }
 
     ghost chunk_length = { (3, lit< tt, refl) };
 

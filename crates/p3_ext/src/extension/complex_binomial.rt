@@ -5,6 +5,7 @@ ghost use Rattle.p3_theory.specs.Polynomials.Polynomial.{binomial, quotient_mul}
 ghost use Rattle.p3_ext.specs.ComplexValues.{complex_ops, ArePowersApart};
 
 use super::complex_extension::{Complex, ComplexExtendable};
+use super::entries::{add_each, scale_each, sub_each};
 use super::{Binomial, BinomiallyExtendable, ExtensionAlgebra, ExtensionProduct};
 use p3_products::binomial_extension::{ring_product, ring_square};
 
@@ -89,6 +90,21 @@ impl<F: HasComplexBinomialExtension<D>, const D: usize> ExtensionAlgebra<
     fn ext_square(a: &[Complex<F>], res: &mut [Complex<F>]) {
         let w = <F as HasComplexBinomialExtension<D>>::w();
         ring_square::<Complex<F>, D>(a, res, w);
+    }
+
+    #[inline]
+    fn ext_add(a: &[Complex<F>], b: &[Complex<F>], res: &mut [Complex<F>]) {
+        add_each(a, b, res);
+    }
+
+    #[inline]
+    fn ext_sub(a: &[Complex<F>], b: &[Complex<F>], res: &mut [Complex<F>]) {
+        sub_each(a, b, res);
+    }
+
+    #[inline]
+    fn ext_base_mul(lhs: &[Complex<F>], rhs: Complex<F>, res: &mut [Complex<F>]) {
+        scale_each(lhs, rhs, res);
     }
 
     ghost at_least_two = { F.HasComplexBinomialExtension.at_least_two };

@@ -1,6 +1,6 @@
 //! Extensions by a root of minus one, and extensions over them.
 ghost use Rattle.std.specs.Prelude.{◌≡◌, ◌≤◌, ◌<◌, [], ◌∷◌, ℕ};
-ghost use Rattle.p3_theory.specs.Rings.Ring.{Ops, Invertible};
+ghost use Rattle.p3_theory.specs.Rings.Ring.{Ops, Invertible, subtract};
 ghost use Rattle.p3_theory.specs.Rings.Multiples.{two};
 ghost use Rattle.p3_theory.specs.Products.ComplexExtensions.{real_part, imaginary_part, conjugated, complex_norm, rotated};
 
@@ -205,10 +205,25 @@ impl<F: Copy, A: PrimeCharacteristicRing> BinomialExtensionField<F, 2, A> {
     {
         let real = self.real();
         let imag = self.imag();
-        let outer = rhs.real() * real;
-        let inner = rhs.imag() * imag;
-        let left = rhs.imag() * real;
-        let right = rhs.real() * imag;
-        Complex::<E>::new_complex(outer - inner, left + right)
+        let (x, y) = (rhs.real(), rhs.imag());
+        let turned_real = difference_of_multiples(x, real, y, imag);
+        let turned_imag = sum_of_multiples(y, real, x, imag);
+        Complex::<E>::new_complex(turned_real, turned_imag)
     }
+}
+
+/// `x * a - y * b`.
+#[inline]
+fn difference_of_multiples<A: PrimeCharacteristicRing, E: Algebra<A>>(x: E, a: A, y: E, b: A) -> E
+    ensures { result ≡ subtract E.ops (E.ops.mul x (E.embed a)) (E.ops.mul y (E.embed b)) }
+{
+    x * a - y * b
+}
+
+/// `x * a + y * b`.
+#[inline]
+fn sum_of_multiples<A: PrimeCharacteristicRing, E: Algebra<A>>(x: E, a: A, y: E, b: A) -> E
+    ensures { result ≡ E.ops.add (E.ops.mul x (E.embed a)) (E.ops.mul y (E.embed b)) }
+{
+    x * a + y * b
 }

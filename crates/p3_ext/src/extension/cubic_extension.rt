@@ -1,6 +1,6 @@
+use super::entries::dot_of_arrays;
 use super::{CubicTrinomial, CubicTrinomialExtendable, FrobeniusExtendable};
 use p3_products::power_table::{PowerTable, image_by_table};
-use p3_ring::ring::PrimeCharacteristicRing;
 use std::marker::PhantomData;
 
 /// The powers of the image of X, as columns of the matrix.
@@ -45,7 +45,7 @@ impl<F: CubicTrinomialExtendable> FrobeniusExtendable<3, CubicTrinomial> for F {
         let (a0, a1, a2) = (a[0], a[1], a[2]);
         let (b0, b1, b2) = (b[0], b[1], b[2]);
         let c0 = a0 * b0;
-        let c3 = F::dot_product(&[a1, a2], &[b2, b1]);
+        let c3 = dot_of_arrays([a1, a2], [b2, b1]);
         c0 + c3
     }
 

@@ -17,11 +17,21 @@ fn write_power<W: fmt::Write>(f: &mut fmt::Formatter<W>, i: usize) -> fmt::Resul
     }
 }
 
+/// Writes what `Display` writes, under the smallest bound.
+fn write_shown<C: fmt::Display + Copy, W: fmt::Write>(
+    f: &mut fmt::Formatter<W>,
+    c: C,
+) -> fmt::Result
+    ensures { (text : List ℕ) → C.output c ≡ Some text → WritesOnOk W.write_str_gives f.old result text f.new }
+{
+    write!(f, "{c}")
+}
+
 /// Writes a coefficient's own text.
 fn write_coefficient<F: Field, W: fmt::Write>(f: &mut fmt::Formatter<W>, c: F) -> fmt::Result
     ensures { WritesOnOk W.write_str_gives f.old result (F.text c) f.new }
 {
-    write!(f, "{c}")
+    write_shown(f, c)
 }
 
 /// Writes the term of a coefficient at `X^i`.

@@ -2,6 +2,7 @@ ghost use Rattle.std.specs.Prelude.{◌≡◌, IfOk};
 ghost use Rattle.p3_theory.specs.Rings.Ring.{Ops, Invertible, IsInverse};
 ghost use Rattle.p3_theory.specs.FrobeniusMaps.Frobenius.{iterate, IsFrobenius};
 ghost use Rattle.p3_theory.specs.FrobeniusMaps.FrobeniusTable.{orbit_list};
+ghost use Rattle.p3_ext.specs.Conjugates.{frobenius_map};
 
 use super::ext_field::ExtField;
 use super::{ExtensionShape, FrobeniusExtendable};
@@ -49,10 +50,25 @@ pub trait HasFrobenius<F: Field>: ExtensionField<F> {
     ghost frobenius_laws: { IsFrobenius F.ops Self.ops Self.embed Self.DIMENSION frobenius };
 }
 
+impl<F: FrobeniusExtendable<D, S>, const D: usize, S: ExtensionShape> ExtField<F, D, S, F> {
+    /// The value and its images under the map, D in all.
+    #[inline]
+    fn orbit_in<A: Allocator + Copy>(self, alloc: A) -> Result<Vec<Self, A>, AllocError>
+        ensures { IfOk result (λ orbit. orbit.items ≡ orbit_list (frobenius_map F.ops F.modulus F.image) D self) }
+    {
+        let mut orbit = Vec::with_capacity(alloc, D)?;
+        let mut image = self;
+        for _ in 0..D {
+            orbit.push(image)?;
+            image = image.frobenius_image();
+        }
+        Ok(orbit)
+    }
+}
+
 impl<F: FrobeniusExtendable<D, S>, const D: usize, S: ExtensionShape> HasFrobenius<F>
     for ExtField<F, D, S, F> {
     ghost use Rattle.p3_theory.specs.Rings.Ring.{ring_of};
-    ghost use Rattle.p3_ext.specs.Conjugates.{frobenius_map};
     ghost use Rattle.p3_ext.specs.FrobeniusLaws.{map_keeps_sums, map_is_frobenius};
 
     ghost frobenius = { frobenius_map F.ops F.modulus F.image };
@@ -79,14 +95,13 @@ impl<F: FrobeniusExtendable<D, S>, const D: usize, S: ExtensionShape> HasFrobeni
     }
 
     #[inline]
+    fn galois_orbit(self, alloc: Global) -> Result<Vec<Self>, AllocError> {
+        self.orbit_in(alloc)
+    }
+
+    #[inline]
     fn galois_orbit_in<A: Allocator + Copy>(self, alloc: A) -> Result<Vec<Self, A>, AllocError> {
-        let mut orbit = Vec::with_capacity(alloc, D)?;
-        let mut image = self;
-        for _ in 0..D {
-            orbit.push(image)?;
-            image = image.frobenius_image();
-        }
-        Ok(orbit)
+        self.orbit_in(alloc)
     }
 
     ghost keeps_sums = { map_keeps_sums F.ops F.modulus F.image F.frobenius_laws };

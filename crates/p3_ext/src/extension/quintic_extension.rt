@@ -1,7 +1,18 @@
+ghost use Rattle.std.specs.Prelude.{◌≡◌, ◌∷◌, [], length};
+
+use super::entries::dot_of_arrays;
 use super::{FrobeniusExtendable, QuinticTrinomial, QuinticTrinomialExtendable};
 use p3_products::power_table::{PowerTable, image_by_table};
-use p3_ring::ring::PrimeCharacteristicRing;
 use std::marker::PhantomData;
+
+/// The entries of a list of five.
+#[inline]
+fn five_entries<A: Copy>(a: &[A]) -> (A, A, A, A, A)
+    requires { length a.now ≡ 5 }
+    ensures { a.now ≡ result.0 ∷ result.1 ∷ result.2 ∷ result.3 ∷ result.4 ∷ [] }
+{
+    (a[0], a[1], a[2], a[3], a[4])
+}
 
 /// The powers of the image of X, as the rows that the field gives.
 pub(super) struct QuinticPowers<F>(PhantomData<F>);
@@ -42,10 +53,10 @@ impl<F: QuinticTrinomialExtendable> FrobeniusExtendable<5, QuinticTrinomial> for
 
     #[inline]
     fn constant_of_product(a: &[F], b: &[F]) -> F {
-        let (a0, a1, a2, a3, a4) = (a[0], a[1], a[2], a[3], a[4]);
-        let (b0, b1, b2, b3, b4) = (b[0], b[1], b[2], b[3], b[4]);
+        let (a0, a1, a2, a3, a4) = five_entries(a);
+        let (b0, b1, b2, b3, b4) = five_entries(b);
         let c0 = a0 * b0;
-        let c5 = F::dot_product(&[a1, a2, a3, a4], &[b4, b3, b2, b1]);
+        let c5 = dot_of_arrays([a1, a2, a3, a4], [b4, b3, b2, b1]);
         let c8 = a4 * b4;
         let sum = c0 + c5;
         sum - c8

@@ -1,7 +1,7 @@
 use Rattle.p3_theory.specs.FrobeniusMaps.FrobeniusTable.{orbit_list}
 use Rattle.p3_theory.specs.FrobeniusMaps.OrbitLists.{orbit_list-step}
 use Rattle.p3_ext.specs.Conjugates.{frobenius_map}
-use Rattle.p3_ext.proofs.extension.has_frobenius.ExtFieldHasFrobenius.galois_orbit_in.Goals as goal
+use Rattle.p3_ext.proofs.extension.has_frobenius.ExtField+F+D+S+F.orbit_in.Goals as goal
 
 pub loop-preserved : goal.loop-preserved
 loop-preserved g c =

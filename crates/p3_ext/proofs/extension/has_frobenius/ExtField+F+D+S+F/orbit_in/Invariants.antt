@@ -1,7 +1,7 @@
 use Rattle.std.proofs.Common.{◌≡◌, ◌-◌, ◌++◌}
 use Rattle.p3_theory.specs.FrobeniusMaps.FrobeniusTable.{orbit_list}
 use Rattle.p3_ext.specs.Conjugates.{frobenius_map}
-use Rattle.p3_ext.proofs.extension.has_frobenius.ExtFieldHasFrobenius.galois_orbit_in.Given as goal
+use Rattle.p3_ext.proofs.extension.has_frobenius.ExtField+F+D+S+F.orbit_in.Given as goal
 
 abbrev pub invariant-loop : goal.invariant-loop
 invariant-loop g l =
