@@ -15,6 +15,7 @@ pub use Rattle.p3_theory.specs.Lanes.VectorLanes
 pub use Rattle.p3_theory.specs.Lists.ListOrder
 pub use Rattle.p3_theory.specs.Lists.PairedLists
 pub use Rattle.p3_theory.specs.Lists.TabulatedPlaces
+pub use Rattle.p3_theory.specs.Polynomials.BaseProduct
 pub use Rattle.p3_theory.specs.Polynomials.Coefficients
 pub use Rattle.p3_theory.specs.Polynomials.HornerFold
 pub use Rattle.p3_theory.specs.Polynomials.Polynomial
