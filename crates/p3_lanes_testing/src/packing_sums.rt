@@ -4,8 +4,10 @@ ghost use Rattle.std.specs.Prelude.{◌≡◌, ◌<◌, length};
 use crate::rows::{Row, holds, packing, packings, value_at, word};
 use p3_base::field::Field;
 use p3_base::packed_traits::{PackedField, PackedValue};
+use p3_columns::columnwise::{
+    AsRow, coeffwise_dot_product, generic_batched_columnwise_dot_product,
+};
 use p3_ring::ring::{Algebra, PrimeCharacteristicRing};
-use p3_columns::columnwise::{AsRow, coeffwise_dot_product, generic_batched_columnwise_dot_product};
 use std::alloc::{AllocError, Global};
 
 /// Whether eight packings hold the values of a text, word by word.

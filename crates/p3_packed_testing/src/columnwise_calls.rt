@@ -5,8 +5,8 @@ ghost use Rattle.std.specs.Prelude.{◌≡◌, ◌<◌, length};
 use crate::rows::{Row, part, word};
 use crate::texts::{base_packings, holds, packings, values};
 use p3_base::field::Field;
-use p3_packings::packed_field_extension::PackedFieldExtension;
 use p3_columns::columnwise::{AsRow, generic_batched_columnwise_dot_product};
+use p3_packings::packed_field_extension::PackedFieldExtension;
 use p3_spaces::extension_field::ExtensionField;
 use std::alloc::{AllocError, Global};
 

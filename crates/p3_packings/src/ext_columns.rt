@@ -3,9 +3,9 @@ ghost use Rattle.std.specs.Prelude.{◌≡◌, ◌<◌, ℕ, length, get_or, sli
 ghost use Rattle.p3_columns.specs.Columns.{column};
 
 use crate::extension_lanes::ExtensionLanes;
+use p3_columns::columnwise::AsRow;
 use p3_columns::entries::entry_at;
 use p3_ring::ring::PrimeCharacteristicRing;
-use p3_columns::columnwise::AsRow;
 
 /// The packing whose lane l is entry c of row l.
 #[inline]
