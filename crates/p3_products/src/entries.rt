@@ -15,7 +15,10 @@ pub(crate) fn write_entries<A: Copy, const N: usize>(entries: [A; N], res: &mut 
     requires { length res.old ≡ N }
     ensures { res.new ≡ entries }
 {
-    res.copy_from_slice(&entries);
+    for i in 0..N {
+        let entry = entries[i];
+        res[i] = entry;
+    }
 }
 
 /// Three entries of a slice one after the other.
