@@ -260,14 +260,20 @@ pub fn quartic_product<F: PrimeCharacteristicRing, A: Algebra<F>>(
     requires room { length res.old ≡ 4 }
     ensures { res.new ≡ quotient_mul A.ops 4 (binomial A.ops 4 (A.embed w)) a.now b.now }
 {
-    let left = entries_of::<A, 4>(a);
-    let (b0, b1, b2, b3) = four_from(b, 0);
-    let (b1_w, b2_w, b3_w) = scale_three((b1, b2, b3), w);
+    let (a0, a1, a2, a3) = (a[0], a[1], a[2], a[3]);
+    let (b0, b1, b2, b3) = (b[0], b[1], b[2], b[3]);
+    let b1_w = b1 * w;
+    let b2_w = b2 * w;
+    let b3_w = b3 * w;
+    let left = [a0, a1, a2, a3];
     let c0 = array_dot_product(left, [b0, b3_w, b2_w, b1_w]);
     let c1 = array_dot_product(left, [b1, b0, b3_w, b2_w]);
     let c2 = array_dot_product(left, [b2, b1, b0, b3_w]);
     let c3 = array_dot_product(left, [b3, b2, b1, b0]);
-    write_entries([c0, c1, c2, c3], res);
+    res[0] = c0;
+    res[1] = c1;
+    res[2] = c2;
+    res[3] = c3;
 }
 
 /// The square of a list of four coefficients modulo `X^4 - W`.
