@@ -147,7 +147,33 @@ impl<F: LanesPow2<N>, const N: usize> PackedFieldPow2<F> for Packed<F, N> {
     }
 }
 
-impl<W: Form<T>, T: Word> Lanes<1> for Fp<W, T> {
+/// A number of lanes of the bench's packings. Every marker has those below, so that a function over a marker
+/// is one for all of them.
+pub trait LaneCount<const N: usize> {
+    /// There is at least one lane.
+    ghost some_lane: { 0 < N };
+
+    /// The number of lanes is a `usize`.
+    ghost counted: { N < 2 ^ 64 };
+}
+
+/// A number of lanes that is a power of two.
+pub trait LaneCountPow2<const N: usize>: LaneCount<N> {
+    /// The number of lanes is a power of two.
+    ghost power_of_two: { (k : ℕ) × (N ≡ 2 ^ k) };
+}
+
+impl<W: Form<T> + LaneCount<N>, T: Word, const N: usize> Lanes<N> for Fp<W, T> {
+    ghost some_lane = { W.some_lane };
+
+    ghost counted = { W.counted };
+}
+
+impl<W: Form<T> + LaneCountPow2<N>, T: Word, const N: usize> LanesPow2<N> for Fp<W, T> {
+    ghost power_of_two = { W.power_of_two };
+}
+
+impl<W> LaneCount<1> for W {
     ghost use Rattle.std.proofs.Common.{lit<};
 
     ghost some_lane = { lit< tt };
@@ -155,13 +181,13 @@ impl<W: Form<T>, T: Word> Lanes<1> for Fp<W, T> {
     ghost counted = { lit< tt };
 }
 
-impl<W: Form<T>, T: Word> LanesPow2<1> for Fp<W, T> {
+impl<W> LaneCountPow2<1> for W {
     ghost use Rattle.std.specs.Prelude.{refl};
 
     ghost power_of_two = { (0, refl) };
 }
 
-impl<W: Form<T>, T: Word> Lanes<2> for Fp<W, T> {
+impl<W> LaneCount<2> for W {
     ghost use Rattle.std.proofs.Common.{lit<};
 
     ghost some_lane = { lit< tt };
@@ -169,13 +195,13 @@ impl<W: Form<T>, T: Word> Lanes<2> for Fp<W, T> {
     ghost counted = { lit< tt };
 }
 
-impl<W: Form<T>, T: Word> LanesPow2<2> for Fp<W, T> {
+impl<W> LaneCountPow2<2> for W {
     ghost use Rattle.std.specs.Prelude.{refl};
 
     ghost power_of_two = { (1, refl) };
 }
 
-impl<W: Form<T>, T: Word> Lanes<3> for Fp<W, T> {
+impl<W> LaneCount<3> for W {
     ghost use Rattle.std.proofs.Common.{lit<};
 
     ghost some_lane = { lit< tt };
@@ -183,7 +209,7 @@ impl<W: Form<T>, T: Word> Lanes<3> for Fp<W, T> {
     ghost counted = { lit< tt };
 }
 
-impl<W: Form<T>, T: Word> Lanes<4> for Fp<W, T> {
+impl<W> LaneCount<4> for W {
     ghost use Rattle.std.proofs.Common.{lit<};
 
     ghost some_lane = { lit< tt };
@@ -191,13 +217,13 @@ impl<W: Form<T>, T: Word> Lanes<4> for Fp<W, T> {
     ghost counted = { lit< tt };
 }
 
-impl<W: Form<T>, T: Word> LanesPow2<4> for Fp<W, T> {
+impl<W> LaneCountPow2<4> for W {
     ghost use Rattle.std.specs.Prelude.{refl};
 
     ghost power_of_two = { (2, refl) };
 }
 
-impl<W: Form<T>, T: Word> Lanes<8> for Fp<W, T> {
+impl<W> LaneCount<8> for W {
     ghost use Rattle.std.proofs.Common.{lit<};
 
     ghost some_lane = { lit< tt };
@@ -205,13 +231,13 @@ impl<W: Form<T>, T: Word> Lanes<8> for Fp<W, T> {
     ghost counted = { lit< tt };
 }
 
-impl<W: Form<T>, T: Word> LanesPow2<8> for Fp<W, T> {
+impl<W> LaneCountPow2<8> for W {
     ghost use Rattle.std.specs.Prelude.{refl};
 
     ghost power_of_two = { (3, refl) };
 }
 
-impl<W: Form<T>, T: Word> Lanes<16> for Fp<W, T> {
+impl<W> LaneCount<16> for W {
     ghost use Rattle.std.proofs.Common.{lit<};
 
     ghost some_lane = { lit< tt };
@@ -219,7 +245,7 @@ impl<W: Form<T>, T: Word> Lanes<16> for Fp<W, T> {
     ghost counted = { lit< tt };
 }
 
-impl<W: Form<T>, T: Word> LanesPow2<16> for Fp<W, T> {
+impl<W> LaneCountPow2<16> for W {
     ghost use Rattle.std.specs.Prelude.{refl};
 
     ghost power_of_two = { (4, refl) };

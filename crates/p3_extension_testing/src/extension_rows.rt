@@ -2,34 +2,57 @@
 
 use p3_bench_prime::extensions::F17x4;
 use p3_bench_prime::small::F17;
+use p3_field::extension::{BinomialExtensionField, BinomiallyExtendable};
 use p3_field::{
     Algebra, AlgebraIdentity, BasedVectorSpace, ExtensionField, PrimeCharacteristicRing,
 };
+use std::process::Abort;
 use std::test::Fail;
 
-/// The residues modulo 17 of some numbers.
-fn mod_17<const N: usize>(numbers: [u32; N]) -> [F17; N] {
-    let mut residues = [F17::zero(); N];
+/// The residues of some numbers.
+fn residues<F: PrimeCharacteristicRing, const N: usize>(numbers: [u32; N]) -> [F; N] {
+    let mut residues = [F::zero(); N];
     for i in 0..N {
-        residues[i] = F17::new(numbers[i]);
+        residues[i] = F::from_u32(numbers[i]);
     }
     residues
 }
 
+/// The residues modulo 17 of some numbers.
+fn mod_17<const N: usize>(numbers: [u32; N]) -> [F17; N] {
+    residues(numbers)
+}
+
+/// Asserts the calls on the basis of the extension of degree 4, whose X is given. A test at the name of an
+/// extension passes the field's own traits alone.
+fn assert_basis<F: BinomiallyExtendable<4>>(rt: &impl Abort, x: BinomialExtensionField<F, 4>) {
+    let three: [F; 3] = residues([1, 2, 3]);
+    assert!(rt;
+        <BinomialExtensionField<F, 4> as BasedVectorSpace<F>>::from_basis_coefficients_slice(
+            &three
+        ).is_none()
+    );
+    let element = <BinomialExtensionField<F, 4> as BasedVectorSpace<F>>::ith_basis_element(4);
+    assert!(rt; element.is_none());
+    let element = <BinomialExtensionField<F, 4> as BasedVectorSpace<F>>::ith_basis_element(1);
+    assert!(rt; element == Some(x));
+}
+
+/// Asserts that a value has no element of the base, and another one has five.
+fn assert_base<F: BinomiallyExtendable<4>>(
+    rt: &impl Abort,
+    x: BinomialExtensionField<F, 4>,
+    five: BinomialExtensionField<F, 4>,
+) {
+    assert!(rt; ExtensionField::<F>::as_base(&x) == None);
+    assert!(rt; ExtensionField::<F>::as_base(&five) == Some(F::from_u32(5)));
+}
+
 #[test]
 fn basis_calls(rt: HostRuntime) {
-    let three = mod_17([1, 2, 3]);
-    assert!(rt; F17x4::from_basis_coefficients_slice(&three).is_none());
-    let element: Option<F17x4> = BasedVectorSpace::<F17>::ith_basis_element(4);
-    assert!(rt; element.is_none());
     let x = F17x4::new(mod_17([0, 1, 0, 0]));
-    let element: Option<F17x4> = BasedVectorSpace::<F17>::ith_basis_element(1);
-    assert_eq!(rt; element, Some(x));
-    assert_eq!(rt; ExtensionField::<F17>::as_base(&x), None);
-    assert_eq!(rt;
-        ExtensionField::<F17>::as_base(&F17x4::new(mod_17([5, 0, 0, 0]))),
-        Some(F17::new(5))
-    );
+    assert_basis::<F17>(&rt, x);
+    assert_base::<F17>(&rt, x, F17x4::new(mod_17([5, 0, 0, 0])));
 }
 
 #[test]
@@ -45,13 +68,42 @@ fn mixed_operators(rt: HostRuntime) {
     assert_eq!(rt; Algebra::<F17>::mixed_dot_product(&[x, x], &ones), x + x);
 }
 
+/// Asserts the names of a field and of its extension of degree 4 as algebras over it.
+fn assert_names<F: BinomiallyExtendable<4>>(
+    rt: &(impl Abort + AllocGlobal),
+    name: &[u8],
+) -> Result<(), Fail> {
+    let scalars: Vec<u8> = <F as AlgebraIdentity<F>>::algebra_id(rt.alloc())?;
+    assert!(rt; scalars.as_slice() == b"p3-scalar-basis-v1".as_slice());
+    let values: Vec<u8> = <BinomialExtensionField<F, 4> as AlgebraIdentity<F>>::algebra_id(
+        rt.alloc(),
+    )?;
+    assert!(rt; values.as_slice() == name);
+    Ok(())
+}
+
+/// Asserts that a list of two zeros is one.
+fn assert_zeros<R: PrimeCharacteristicRing + PartialEq>(
+    rt: &(impl Abort + AllocGlobal),
+) -> Result<(), Fail> {
+    let zeros: Vec<R> = R::zero_vec(rt.alloc(), 2)?;
+    assert!(rt; zeros.len() == 2);
+    for i in 0..zeros.len() {
+        assert!(rt; zeros[i] == R::zero());
+    }
+    Ok(())
+}
+
+/// Asserts that a list of two zeros of the extension of degree 4 is one.
+fn assert_extension_zeros<F: BinomiallyExtendable<4>>(
+    rt: &(impl Abort + AllocGlobal),
+    _value: BinomialExtensionField<F, 4>,
+) -> Result<(), Fail> {
+    assert_zeros::<BinomialExtensionField<F, 4>>(rt)
+}
+
 #[test]
 fn names_and_zeros(rt: HostRuntime) -> Result<(), Fail> {
-    let name: Vec<u8> = <F17 as AlgebraIdentity<F17>>::algebra_id(rt.alloc())?;
-    assert_eq!(rt; name.as_slice(), b"p3-scalar-basis-v1".as_slice());
-    let name: Vec<u8> = <F17x4 as AlgebraIdentity<F17>>::algebra_id(rt.alloc())?;
-    assert_eq!(rt; name.as_slice(), b"bench:f17x4".as_slice());
-    let zeros: Vec<F17x4> = F17x4::zero_vec(rt.alloc(), 2)?;
-    assert_eq!(rt; zeros.as_slice(), [F17x4::zero(), F17x4::zero()].as_slice());
-    Ok(())
+    assert_names::<F17>(&rt, b"bench:f17x4".as_slice())?;
+    assert_extension_zeros::<F17>(&rt, F17x4::default())
 }

@@ -1,11 +1,14 @@
 //! Order, hash and default of extension values, and calls on lists of them, at one type.
+ghost use Rattle.std.specs.Prelude.{◌≡◌, ◌%◌, vec_len};
 
 use p3_bench_prime::extensions::{F17x2, F17x4};
 use p3_bench_prime::small::F17;
-use p3_field::{BasedVectorSpace, Packable, PrimeField64};
+use p3_field::extension::{BinomialExtensionField, BinomiallyExtendable};
+use p3_field::{BasedVectorSpace, InMemory, Packable, PrimeField64};
 use std::alloc::{AllocError, Global};
 use std::collections::hash_map::DefaultHasher;
 use std::hash::{Hash, Hasher};
+use std::process::Abort;
 use std::test::Fail;
 
 /// The residues modulo 17 of some numbers.
@@ -40,12 +43,47 @@ fn values_of_one_type(rt: HostRuntime) -> Result<(), Fail> {
     assert!(rt; !text.is_empty());
     let pair = F17x4::new_array([residues([1, 2, 3, 4]), residues([5, 6, 7, 8])]);
     assert!(rt; pair[1] == y);
-    let values = Vec::from_slice(rt.alloc(), &[x, y])?;
-    let flat: Vec<F17> = F17x4::flatten_to_base(rt.alloc(), values)?;
-    assert!(rt; flat.as_slice() == residues([1, 2, 3, 4, 5, 6, 7, 8]).as_slice());
-    let back: Vec<F17x4> = F17x4::reconstitute_from_base(rt.alloc(), flat)?;
-    assert!(rt; back.as_slice() == [x, y].as_slice());
     Ok(())
+}
+
+/// Asserts the coefficients of a list of values of the extension of degree 4.
+fn assert_flat<F: BinomiallyExtendable<4> + InMemory>(
+    rt: &(impl Abort + AllocGlobal),
+    values: Vec<BinomialExtensionField<F, 4>>,
+    coefficients: &[F],
+) -> Result<(), Fail> {
+    let flat: Vec<F> = <BinomialExtensionField<F, 4> as BasedVectorSpace<F>>::flatten_to_base(
+        rt.alloc(),
+        values,
+    )?;
+    assert!(rt; flat.as_slice() == coefficients);
+    Ok(())
+}
+
+/// Asserts the values of the extension of degree 4 that a list of coefficients makes.
+fn assert_reconstituted<F: BinomiallyExtendable<4> + InMemory>(
+    rt: &(impl Abort + AllocGlobal),
+    coefficients: Vec<F>,
+    values: &[BinomialExtensionField<F, 4>],
+) -> Result<(), Fail>
+    requires { vec_len coefficients % 4 ≡ 0 }
+{
+    let back: Vec<BinomialExtensionField<F, 4>> = <BinomialExtensionField<F, 4> as BasedVectorSpace<
+        F,
+    >>::reconstitute_from_base(rt.alloc(), coefficients)?;
+    assert!(rt; back.as_slice() == values);
+    Ok(())
+}
+
+#[test]
+fn lists_of_values(rt: HostRuntime) -> Result<(), Fail> {
+    let x = F17x4::new(residues([1, 2, 3, 4]));
+    let y = F17x4::new(residues([5, 6, 7, 8]));
+    let coefficients: [F17; 8] = residues([1, 2, 3, 4, 5, 6, 7, 8]);
+    let values = Vec::from_slice(rt.alloc(), &[x, y])?;
+    assert_flat::<F17>(&rt, values, &coefficients)?;
+    let flat = Vec::from_slice(rt.alloc(), &coefficients)?;
+    assert_reconstituted::<F17>(&rt, flat, &[x, y])
 }
 
 /// The text of `a + b X`, written by hand.

@@ -72,12 +72,16 @@ fn assert_two_adic_roots<F: TwoAdicField + PrimeField64>(rt: &impl Abort, rows: 
 }
 
 #[test]
-fn residues(rt: HostRuntime) {
+fn residues_of_order_17(rt: HostRuntime) {
     assert_eq!(rt; counted::<F17>(13), (Some(8), 3));
     assert_eq!(rt; counted::<F17>(3), (None, 4));
     assert_eq!(rt; counted::<F17>(0), (Some(0), 0));
     assert_eq!(rt; counted::<F17>(2), (Some(6), 3));
     assert_eq!(rt; counted::<F17b>(16), (Some(4), 1));
+}
+
+#[test]
+fn residues(rt: HostRuntime) {
     assert_eq!(rt; counted::<F31>(2), (Some(8), 0));
     assert_eq!(rt; counted::<F31>(3), (None, 1));
     assert_eq!(rt; counted::<F2>(1), (Some(1), 0));

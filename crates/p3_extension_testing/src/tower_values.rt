@@ -3,7 +3,16 @@ use p3_bench_prime::complex_tower::F31cx2;
 use p3_bench_prime::extensions::F31c;
 use p3_bench_prime::small::F31;
 use p3_field::Field;
-use p3_field::extension::{BinomialExtensionField, Complex, HasComplexBinomialExtension};
+use p3_field::extension::{
+    BinomialExtensionField, BinomiallyExtendable, Complex, HasComplexBinomialExtension,
+};
+
+/// The inverse of an extension value, where it has one.
+fn inverse_of<F: BinomiallyExtendable<D>, const D: usize>(
+    x: BinomialExtensionField<F, D>,
+) -> Option<BinomialExtensionField<F, D>> {
+    x.try_inverse()
+}
 
 /// The calls of the test, implemented once for all such extensions: a call at the type's own name
 /// passes the constants of its field alone.
@@ -20,7 +29,7 @@ impl<F: HasComplexBinomialExtension<D>, const D: usize> TowerValue<F, D>
     }
 
     fn inverse_or_none(self) -> Option<Self> {
-        self.try_inverse()
+        inverse_of::<Complex<F>, D>(self)
     }
 }
 

@@ -21,7 +21,7 @@ use p3_bench_prime::extensions::F31c;
 use p3_bench_prime::form::{Form, Word};
 use p3_bench_prime::fp::Fp;
 use p3_calculator_fields::field::CalculatorField;
-use p3_calculator_fields::names::{NamedBinomial, NamedTrinomial};
+use p3_calculator_fields::names::{NamedBinomial, NamedComplex, NamedTrinomial};
 use p3_calculator_fields::registers::Registers;
 use p3_ext::extension::{
     BinomialExtensionField, CubicTrinomial, CubicTrinomialExtensionField, QuinticTrinomial,
@@ -328,6 +328,20 @@ pub fn act_at_quintic<W: NamedTrinomial<5, QuinticTrinomial>, A: Allocator + Cop
     act(alloc, operation, regs, args)
 }
 
+/// The same at the extension of a field by `X^2 = -1`.
+fn act_at_complex_values<F: NamedComplex, A: Allocator + Copy>(
+    alloc: A,
+    operation: Operation,
+    regs: &mut Registers<BinomialExtensionField<F, 2>>,
+    args: &[u8],
+) -> Result<Vec<u8, A>, Fault>
+    ensures computes { let old = state_at F.spec (all_coefficients F.canon) regs.old in let new = state_at F.spec (all_coefficients F.canon) regs.new in
+        Computes operation F.spec old.registers (words args.now) (outcome result new) }
+    ensures kept { OnErr result (state_at F.spec (all_coefficients F.canon) regs.new ≡ state_at F.spec (all_coefficients F.canon) regs.old) }
+{
+    act(alloc, operation, regs, args)
+}
+
 /// The same at the extension of `F31` by `X^2 = -1`.
 pub fn act_at_complex<A: Allocator + Copy>(
     alloc: A,
@@ -339,5 +353,5 @@ pub fn act_at_complex<A: Allocator + Copy>(
         Computes operation field_f31c old.registers (words args.now) (outcome result new) }
     ensures kept { OnErr result (state_at field_f31c (all_coefficients canon) regs.new ≡ state_at field_f31c (all_coefficients canon) regs.old) }
 {
-    act(alloc, operation, regs, args)
+    act_at_complex_values(alloc, operation, regs, args)
 }

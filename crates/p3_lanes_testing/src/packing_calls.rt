@@ -8,7 +8,7 @@ use crate::packing_slices::{lengths_agree, loaded, slices_agree, stored};
 use crate::packing_sums::{counted_columnwise_agree, sums_agree};
 use crate::power_growths::lists_grow;
 use crate::power_lists::are_taken;
-use crate::rows::{Row, Shape, holds, packing, packings, value_at, values};
+use crate::rows::{Row, Shape, entry, holds, packing, packings, value_at, values};
 use crate::vector_calls::{Vectors, counted_vectors_agree};
 use p3_base::field::Field;
 use p3_base::packed_traits::{PackedField, PackedFieldPow2, PackedValue};
@@ -43,7 +43,7 @@ fn operated<F: Field, P: PackedField<F>>(call: &str, left: &str, right: &str) ->
     let x = packing::<F, P>(left);
     let y = packing::<F, P>(right);
     let before = value_at::<F>(left, 0)?;
-    let after = value_at::<F>(right, 0).unwrap_or(F::zero());
+    let after = entry::<F>(right, 0);
     match call {
         "broadcast" => Some(P::broadcast(before)),
         "div" => quotient::<F, P>(x, y),

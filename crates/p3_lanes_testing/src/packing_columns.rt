@@ -1,7 +1,7 @@
 //! Columns of rows as packings, and back, told by the rows of tables.
 ghost use Rattle.std.specs.Prelude.{◌≡◌, length};
 
-use crate::rows::{Row, holds, packing, value_at, word};
+use crate::rows::{Row, entry, holds, packing, word};
 use p3_base::field::Field;
 use p3_base::packed_traits::{PackedField, PackedValue};
 use p3_columns::columns::{pack_columns, pack_columns_fn, unpack_into};
@@ -11,7 +11,7 @@ use std::alloc::{AllocError, Global};
 
 /// The N values of a text, zero past its end.
 fn array<F: Field, const N: usize>(text: &str) -> [F; N] {
-    std::array::from_fn(|c: usize| -> F { value_at::<F>(text, c).unwrap_or(F::zero()) })
+    std::array::from_fn(|c: usize| -> F { entry::<F>(text, c) })
 }
 
 /// The arrays of N values of a text.
@@ -20,11 +20,9 @@ fn arrays<F: Field, const N: usize>(
     _array: &[[F; N]],
     text: &str,
 ) -> Result<Vec<[F; N]>, AllocError> {
-    let mut arrays = Vec::new(alloc);
-    for word in text.split_ascii_whitespace() {
-        arrays.push(array::<F, N>(word))?;
-    }
-    Ok(arrays)
+    text.split_ascii_whitespace()
+        .map(|word: &str| -> [F; N] { array::<F, N>(word) })
+        .collect(alloc)
 }
 
 /// The packings of a text.
@@ -86,10 +84,7 @@ fn unpacked_agree<F: Field, P: PackedField<F>, const N: usize>(
     }
     unpack_into::<P, N>(&packed, &mut unpacked);
     let rows = unpack_iter::<P, N>(packed);
-    let mut read: Vec<[F; N]> = Vec::new(alloc);
-    for row in rows {
-        read.push(row)?;
-    }
+    let read: Vec<[F; N]> = rows.collect(alloc)?;
     Ok(Some(unpacked.as_slice() == expected.as_slice() && read.as_slice() == expected.as_slice()))
 }
 

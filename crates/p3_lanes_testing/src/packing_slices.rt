@@ -8,13 +8,20 @@ use p3_ring::ring::PrimeCharacteristicRing;
 use p3_tools::helpers::{add_scaled_slice_in_place, add_slices, scale_slice_in_place_single_core};
 use std::alloc::{AllocError, Global};
 
+/// The value of the number `(i + 1) * step`.
+fn multiple<R: PrimeCharacteristicRing>(i: usize, step: u64) -> R {
+    R::from_u64((i as u64).wrapping_add(1).wrapping_mul(step))
+}
+
 /// So many values, the multiples of a number.
-fn multiples<F: Field>(alloc: Global, length: usize, step: u64) -> Result<Vec<F>, AllocError> {
-    let mut values = Vec::new(alloc);
-    for i in 0..length {
-        values.push(F::from_u64((i as u64).wrapping_add(1).wrapping_mul(step)))?;
-    }
-    Ok(values)
+fn multiples<R: PrimeCharacteristicRing>(
+    alloc: Global,
+    length: usize,
+    step: u64,
+) -> Result<Vec<R>, AllocError> {
+    (0..length)
+        .map(|i: usize| -> R { multiple::<R>(i, step) })
+        .collect(alloc)
 }
 
 /// Whether each entry is that of the first list and that of the second one times the factor.

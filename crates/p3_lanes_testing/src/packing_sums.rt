@@ -1,7 +1,7 @@
 //! Sums of products of lists of packings, told by the rows of tables.
 ghost use Rattle.std.specs.Prelude.{◌≡◌, ◌<◌, length};
 
-use crate::rows::{Row, holds, packing, packings, value_at, word};
+use crate::rows::{Row, entry, holds, packing, packings, word};
 use p3_base::field::Field;
 use p3_base::packed_traits::{PackedField, PackedValue};
 use p3_columns::columnwise::{
@@ -102,26 +102,21 @@ fn broadcast_values<F: Field, P: PackedField<F>>(
     alloc: Global,
     text: &str,
 ) -> Result<Vec<P>, AllocError> {
-    let mut packings = Vec::new(alloc);
-    for word in text.split_ascii_whitespace() {
-        let value = value_at::<F>(word, 0).unwrap_or(F::zero());
-        packings.push(P::from(value))?;
-    }
-    Ok(packings)
+    text.split_ascii_whitespace()
+        .map(|word: &str| -> P { P::from(entry::<F>(word, 0)) })
+        .collect(alloc)
 }
 
 /// The packing whose lanes stand between spaces, zero past the end of the text.
 fn spaced<F: Field, P: PackedField<F>>(text: &str) -> P {
-    P::from_fn(|lane: usize| -> F { value_at::<F>(word(text, lane), 0).unwrap_or(F::zero()) })
+    P::from_fn(|lane: usize| -> F { entry::<F>(word(text, lane), 0) })
 }
 
 /// The packings of a text with semicolons, whose lanes stand between spaces.
 fn listed<F: Field, P: PackedField<F>>(alloc: Global, text: &str) -> Result<Vec<P>, AllocError> {
-    let mut packings = Vec::new(alloc);
-    for word in text.split_terminator(';') {
-        packings.push(spaced::<F, P>(word))?;
-    }
-    Ok(packings)
+    text.split_terminator(';')
+        .map(|word: &str| -> P { spaced::<F, P>(word) })
+        .collect(alloc)
 }
 
 /// Whether two lists have the same packings, lane by lane.

@@ -16,7 +16,7 @@ use p3_bench_prime::fp::Fp;
 use p3_bench_prime::goldilocks::Goldilocks;
 use p3_bench_prime::koala_bear::KoalaBearModulus;
 use p3_bench_prime::montgomery::Montgomery;
-use p3_bench_prime::small::{M2, M15, M17, M31};
+use p3_bench_prime::small::{F17, M2, M15, M17, M31};
 use std::alloc::{AllocError, Global};
 use std::process::Abort;
 use std::test::Fail;
@@ -107,8 +107,8 @@ fn over_goldilocks(alloc: Global, row: Row<'_>) -> Result<Option<bool>, AllocErr
 fn powers_over_f17x2(alloc: Global, row: Row<'_>) -> Result<Option<bool>, AllocError> {
     match row.call {
         "collect" => {
-            let generator = <Plain<M17> as ExtensionPowers<2>>::generator();
-            <Plain<M17> as ExtensionPowers<2>>::extension_powers_agree(alloc, generator, row)
+            let generator = <F17 as ExtensionPowers<2>>::generator();
+            <F17 as ExtensionPowers<2>>::extension_powers_agree(alloc, generator, row)
         }
         _ => Ok(None),
     }

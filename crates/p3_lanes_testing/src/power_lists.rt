@@ -2,10 +2,7 @@
 use crate::rows::Row;
 use p3_base::field::Field;
 use p3_base::packed_traits::Packable;
-use p3_bench_prime::binomial_constants::BinomialConstants;
-use p3_bench_prime::form::Form;
-use p3_bench_prime::fp::Fp;
-use p3_ext::extension::{Binomial, ExtField};
+use p3_ext::extension::{BinomialExtensionField, BinomiallyExtendable};
 use p3_ring::packed_ring::PackedRing;
 use p3_ring::powers::BoundedPowers;
 use p3_ring::ring::PrimeCharacteristicRing;
@@ -73,9 +70,9 @@ fn are_taken_alone<F: Field + Packable>(
     are_taken::<F, F>(alloc, generator, row)
 }
 
-/// Lists of powers over the extension of degree D by a binomial, implemented once for all fields: a call
-/// at a marker's own name passes the field's constants alone.
-pub(crate) trait ExtensionPowers<const D: usize>: Form<u32> {
+/// Lists of powers over the extension of degree D of this field by a binomial, implemented once for all
+/// fields: a call at a field's own name passes the field's traits alone.
+pub(crate) trait ExtensionPowers<const D: usize>: Copy {
     /// What stands in a list. Of an associated type it is known that its values have room.
     type Value: Copy;
 
@@ -90,22 +87,20 @@ pub(crate) trait ExtensionPowers<const D: usize>: Form<u32> {
     ) -> Result<Option<bool>, AllocError>;
 }
 
-impl<W: BinomialConstants<D>, const D: usize> ExtensionPowers<D> for W {
-    type Value = ExtField<Fp<W>, D, Binomial<Fp<W>>, Fp<W>>;
+impl<F: BinomiallyExtendable<D> + Packable, const D: usize> ExtensionPowers<D> for F {
+    type Value = BinomialExtensionField<F, D>;
 
-    fn generator() -> ExtField<Fp<W>, D, Binomial<Fp<W>>, Fp<W>> {
-        ExtField::new(std::array::from_fn(|i: usize| -> Fp<W> {
-            if i == 1 {
-                Fp::<W>::one()
-            } else {
-                Fp::<W>::zero()
-            }
-        }))
+    fn generator() -> BinomialExtensionField<F, D> {
+        let mut coefficients = [F::zero(); D];
+        if 1 < D {
+            coefficients[1] = F::one();
+        }
+        BinomialExtensionField::<F, D>::new(coefficients)
     }
 
     fn extension_powers_agree(
         alloc: Global,
-        generator: ExtField<Fp<W>, D, Binomial<Fp<W>>, Fp<W>>,
+        generator: BinomialExtensionField<F, D>,
         row: Row<'_>,
     ) -> Result<Option<bool>, AllocError> {
         are_taken_alone(alloc, generator, row)

@@ -70,18 +70,21 @@ pub(crate) fn value_at<F: Field>(text: &str, index: usize) -> Option<F> {
     Some(F::from_u64(word.parse::<u64>().ok()?))
 }
 
+/// The value at an index of a text, zero past its end.
+pub(crate) fn entry<F: Field>(text: &str, index: usize) -> F {
+    value_at::<F>(text, index).unwrap_or(F::zero())
+}
+
 /// The values of a text.
 pub(crate) fn values<F: Field>(alloc: Global, text: &str) -> Result<Vec<F>, AllocError> {
-    let mut values = Vec::new(alloc);
-    for word in text.split_terminator(',') {
-        values.push(value_at::<F>(word, 0).unwrap_or(F::zero()))?;
-    }
-    Ok(values)
+    text.split_terminator(',')
+        .map(|word: &str| -> F { entry::<F>(word, 0) })
+        .collect(alloc)
 }
 
 /// The packing with the values of a text, zero past its end.
 pub(crate) fn packing<F: Field, P: PackedField<F>>(text: &str) -> P {
-    P::from_fn(|lane: usize| -> F { value_at::<F>(text, lane).unwrap_or(F::zero()) })
+    P::from_fn(|lane: usize| -> F { entry::<F>(text, lane) })
 }
 
 /// The packings of a text.
@@ -89,11 +92,9 @@ pub(crate) fn packings<F: Field, P: PackedField<F>>(
     alloc: Global,
     text: &str,
 ) -> Result<Vec<P>, AllocError> {
-    let mut packings = Vec::new(alloc);
-    for word in text.split_ascii_whitespace() {
-        packings.push(packing::<F, P>(word))?;
-    }
-    Ok(packings)
+    text.split_ascii_whitespace()
+        .map(|word: &str| -> P { packing::<F, P>(word) })
+        .collect(alloc)
 }
 
 /// Whether the lanes of a packing are the values of a text.

@@ -1,18 +1,16 @@
 //! Calls on vectors of packings, told by the rows of tables.
 use crate::operations::{mixed_product, operation, product};
-use crate::rows::{Row, value_at, values};
+use crate::rows::{Row, entry, value_at, values};
 use p3_base::field::Field;
 use p3_base::packed_traits::{PackedField, PackedValue};
-use p3_ring::ring::PrimeCharacteristicRing;
+use p3_ring::ring::{Algebra, PrimeCharacteristicRing};
 use p3_vectorized::vectorized::Vectorized;
 use std::alloc::{AllocError, Global};
 
 /// The packing whose lanes stand in a text behind those of `index` packings, zero past its end.
 fn part<F: Field, P: PackedField<F>>(text: &str, index: usize) -> P {
     let start = index.saturating_mul(P::WIDTH);
-    P::from_fn(|lane: usize| -> F {
-        value_at::<F>(text, start.saturating_add(lane)).unwrap_or(F::zero())
-    })
+    P::from_fn(|lane: usize| -> F { entry::<F>(text, start.saturating_add(lane)) })
 }
 
 /// The vector with the values of a text, zero past its end.
@@ -52,6 +50,37 @@ fn vector_holds<F: Field, P: PackedField<F>, const N: usize>(
     lanes.next().is_none()
 }
 
+/// The first of some values, zero where there is none.
+fn first_or_zero<A: PrimeCharacteristicRing>(values: &[A]) -> A {
+    match values.first() {
+        Some(value) => *value,
+        None => A::zero(),
+    }
+}
+
+/// What a call answers on lists of vectors; operations take the first of each. None where there is no such
+/// call.
+fn called<F: Field, A: Algebra<F>>(
+    call: &str,
+    xs: &[A],
+    ys: &[A],
+    second: &str,
+    scalars: &[F],
+) -> Option<A> {
+    match call {
+        "dot_product" => Some(product(xs, ys)),
+        "mixed_dot_product" => Some(mixed_product(xs, scalars)),
+        _ => operation::<F, A>(
+            call,
+            first_or_zero(xs),
+            first_or_zero(ys),
+            F::zero(),
+            entry::<F>(second, 0),
+            second,
+        ),
+    }
+}
+
 /// What the row's call answers; `Ok(None)` where the row names no call.
 fn answered<F: Field, P: PackedField<F>, const N: usize>(
     alloc: Global,
@@ -59,27 +88,11 @@ fn answered<F: Field, P: PackedField<F>, const N: usize>(
     call: &str,
     row: Row<'_>,
 ) -> Result<Option<Vectorized<F, P, N>>, AllocError> {
-    let (first, second) = (row.argument(0), row.argument(1));
-    match call {
-        "dot_product" => {
-            let xs = vectors::<F, P, N>(alloc, vector_room, first)?;
-            let ys = vectors::<F, P, N>(alloc, vector_room, second)?;
-            Ok(Some(product(&xs, &ys)))
-        }
-        "mixed_dot_product" => {
-            let xs = vectors::<F, P, N>(alloc, vector_room, first)?;
-            let scalars: Vec<F> = values(alloc, second)?;
-            Ok(Some(mixed_product(&xs, &scalars)))
-        }
-        _ => Ok(operation::<F, Vectorized<F, P, N>>(
-            call,
-            vector::<F, P, N>(first),
-            vector::<F, P, N>(second),
-            F::zero(),
-            value_at::<F>(second, 0).unwrap_or(F::zero()),
-            second,
-        )),
-    }
+    let second = row.argument(1);
+    let xs = vectors::<F, P, N>(alloc, vector_room, row.argument(0))?;
+    let ys = vectors::<F, P, N>(alloc, vector_room, second)?;
+    let scalars: Vec<F> = values(alloc, second)?;
+    Ok(called::<F, Vectorized<F, P, N>>(call, &xs, &ys, second, &scalars))
 }
 
 /// Whether a call on vectors of N packings has the row's answer.

@@ -1,6 +1,6 @@
 //! The calls of the tables over the extensions of the bench. The functions that choose the number of lanes
 //! are generic over the marker of a field: a test then passes the field's constants alone.
-use crate::extension_calls::{BaseCalls, PackedCalls};
+use crate::extension_calls::{BaseCalls, ExtensionCalls};
 use crate::rows::Row;
 use crate::{
     call_tables as tables, columnwise_tables as columnwise, operation_tables as operations,
@@ -24,15 +24,9 @@ fn over_quadratic<W: BinomialConstants<2>>(
     row: Row<'_>,
 ) -> Result<Option<bool>, AllocError> {
     match row.lanes {
-        "1" => {
-            <Packed<Fp<W>, 1> as PackedCalls<Fp<W>, Binomial<Fp<W>>, 2>>::agrees(alloc, None, row)
-        }
-        "4" => {
-            <Packed<Fp<W>, 4> as PackedCalls<Fp<W>, Binomial<Fp<W>>, 2>>::agrees(alloc, None, row)
-        }
-        "8" => {
-            <Packed<Fp<W>, 8> as PackedCalls<Fp<W>, Binomial<Fp<W>>, 2>>::agrees(alloc, None, row)
-        }
+        "1" => <Fp<W> as ExtensionCalls<Binomial<Fp<W>>, 2, 1>>::extension_agrees(alloc, None, row),
+        "4" => <Fp<W> as ExtensionCalls<Binomial<Fp<W>>, 2, 4>>::extension_agrees(alloc, None, row),
+        "8" => <Fp<W> as ExtensionCalls<Binomial<Fp<W>>, 2, 8>>::extension_agrees(alloc, None, row),
         _ => Ok(None),
     }
 }
@@ -43,15 +37,9 @@ fn over_quartic<W: BinomialConstants<4>>(
     row: Row<'_>,
 ) -> Result<Option<bool>, AllocError> {
     match row.lanes {
-        "1" => {
-            <Packed<Fp<W>, 1> as PackedCalls<Fp<W>, Binomial<Fp<W>>, 4>>::agrees(alloc, None, row)
-        }
-        "4" => {
-            <Packed<Fp<W>, 4> as PackedCalls<Fp<W>, Binomial<Fp<W>>, 4>>::agrees(alloc, None, row)
-        }
-        "8" => {
-            <Packed<Fp<W>, 8> as PackedCalls<Fp<W>, Binomial<Fp<W>>, 4>>::agrees(alloc, None, row)
-        }
+        "1" => <Fp<W> as ExtensionCalls<Binomial<Fp<W>>, 4, 1>>::extension_agrees(alloc, None, row),
+        "4" => <Fp<W> as ExtensionCalls<Binomial<Fp<W>>, 4, 4>>::extension_agrees(alloc, None, row),
+        "8" => <Fp<W> as ExtensionCalls<Binomial<Fp<W>>, 4, 8>>::extension_agrees(alloc, None, row),
         _ => Ok(None),
     }
 }
@@ -62,15 +50,9 @@ fn over_cubic<W: TrinomialConstants<3, CubicTrinomial>>(
     row: Row<'_>,
 ) -> Result<Option<bool>, AllocError> {
     match row.lanes {
-        "1" => <Packed<Fp<W>, 1> as PackedCalls<Fp<W>, CubicTrinomial, 3>>::agrees(
-            alloc, None, row,
-        ),
-        "4" => <Packed<Fp<W>, 4> as PackedCalls<Fp<W>, CubicTrinomial, 3>>::agrees(
-            alloc, None, row,
-        ),
-        "8" => <Packed<Fp<W>, 8> as PackedCalls<Fp<W>, CubicTrinomial, 3>>::agrees(
-            alloc, None, row,
-        ),
+        "1" => <Fp<W> as ExtensionCalls<CubicTrinomial, 3, 1>>::extension_agrees(alloc, None, row),
+        "4" => <Fp<W> as ExtensionCalls<CubicTrinomial, 3, 4>>::extension_agrees(alloc, None, row),
+        "8" => <Fp<W> as ExtensionCalls<CubicTrinomial, 3, 8>>::extension_agrees(alloc, None, row),
         _ => Ok(None),
     }
 }
@@ -81,15 +63,15 @@ fn over_quintic<W: TrinomialConstants<5, QuinticTrinomial>>(
     row: Row<'_>,
 ) -> Result<Option<bool>, AllocError> {
     match row.lanes {
-        "1" => {
-            <Packed<Fp<W>, 1> as PackedCalls<Fp<W>, QuinticTrinomial, 5>>::agrees(alloc, None, row)
-        }
-        "4" => {
-            <Packed<Fp<W>, 4> as PackedCalls<Fp<W>, QuinticTrinomial, 5>>::agrees(alloc, None, row)
-        }
-        "8" => {
-            <Packed<Fp<W>, 8> as PackedCalls<Fp<W>, QuinticTrinomial, 5>>::agrees(alloc, None, row)
-        }
+        "1" => <Fp<W> as ExtensionCalls<QuinticTrinomial, 5, 1>>::extension_agrees(
+            alloc, None, row,
+        ),
+        "4" => <Fp<W> as ExtensionCalls<QuinticTrinomial, 5, 4>>::extension_agrees(
+            alloc, None, row,
+        ),
+        "8" => <Fp<W> as ExtensionCalls<QuinticTrinomial, 5, 8>>::extension_agrees(
+            alloc, None, row,
+        ),
         _ => Ok(None),
     }
 }

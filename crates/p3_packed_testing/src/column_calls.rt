@@ -20,11 +20,9 @@ fn arrays<F: Field, EF: BasedVectorSpace<F>, const N: usize>(
     _array: &[[EF; N]],
     text: &str,
 ) -> Result<Vec<[EF; N]>, AllocError> {
-    let mut arrays = Vec::new(alloc);
-    for part in text.split_terminator(';') {
-        arrays.push(array::<F, EF, N>(part))?;
-    }
-    Ok(arrays)
+    text.split_terminator(';')
+        .map(|part: &str| -> [EF; N] { array::<F, EF, N>(part) })
+        .collect(alloc)
 }
 
 /// The packings of a text.
@@ -111,10 +109,7 @@ where
     }
     unpack_ext_into::<F, EF, PE, N>(&packed, &mut unpacked);
     let rows = unpack_ext_iter::<F, EF, PE, N>(packed);
-    let mut read: Vec<[EF; N]> = Vec::new(alloc);
-    for row in rows {
-        read.push(row)?;
-    }
+    let read: Vec<[EF; N]> = rows.collect(alloc)?;
     Ok(Some(unpacked.as_slice() == expected.as_slice() && read.as_slice() == expected.as_slice()))
 }
 

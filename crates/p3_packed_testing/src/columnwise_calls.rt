@@ -25,16 +25,15 @@ impl<T, const N: usize> AsRow<T, N> for Scales<T, N> {
     }
 }
 
-/// The packings that have an extension value of a text in all lanes.
-fn broadcasts<F: Field, EF: ExtensionField<F>, PE: PackedFieldExtension<F, EF>>(
+/// The packings that have each of some values in all lanes.
+fn broadcasts<EF: Copy, PE: Copy + From<EF>>(
     alloc: Global,
-    text: &str,
+    values: &[EF],
 ) -> Result<Vec<PE>, AllocError> {
-    let mut packings = Vec::new(alloc);
-    for value in values::<F, EF>(alloc, text)? {
-        packings.push(<PE as From<EF>>::from(value))?;
-    }
-    Ok(packings)
+    values
+        .iter()
+        .map(|value: &EF| -> PE { PE::from(*value) })
+        .collect(alloc)
 }
 
 /// The items of a product, told after the accumulators by turns by a row and its N scales.
@@ -54,7 +53,7 @@ where
         let (Some(row), Some(scales)) = (sides.next(), sides.next()) else {
             break;
         };
-        let scales = broadcasts::<F, EF, PE>(alloc, scales)?;
+        let scales = broadcasts::<EF, PE>(alloc, &values::<F, EF>(alloc, scales)?)?;
         if scales.len() != N {
             return Ok(None);
         }

@@ -1,5 +1,6 @@
 //! Operations on packings of extension values, told by the rows of tables: the call's second word is the
 //! operation, and its third what the other side is, where that isn't such a packing.
+use crate::extension_calls::ExtensionRooms;
 use crate::operations::{
     half, mixed_operation, mixed_sum_of_products, operation, sum_of_products, total,
 };
@@ -8,7 +9,10 @@ use crate::texts::{
     base_packing, base_packings, coefficient, holds, packing, packings, value, values,
 };
 use p3_base::field::Field;
-use p3_base::packed_traits::PackedValue;
+use p3_base::packed_traits::{Packable, PackedField, PackedValue};
+use p3_ext::extension::{ExtField, ExtensionOverAlgebra, ExtensionShape, FrobeniusExtendable};
+use p3_packed::holds_scalar::HoldsScalar;
+use p3_packed::packed_ext_field::PackedExtField;
 use p3_packings::extension_lanes::ExtensionLanes;
 use p3_packings::packed_field_extension::PackedFieldExtension;
 use p3_ring::ring::RingSums;
@@ -77,10 +81,7 @@ fn products<F: Field, EF: ExtensionField<F>, PE: PackedFieldExtension<F, EF>>(
 }
 
 /// Whether the sum or the product of a list of packings is the row's.
-pub(crate) fn total_agrees<F, EF, PE>(
-    alloc: Global,
-    row: Row<'_>,
-) -> Result<Option<bool>, AllocError>
+fn total_agrees<F, EF, PE>(alloc: Global, row: Row<'_>) -> Result<Option<bool>, AllocError>
 where
     F: Field,
     EF: Field + BasedVectorSpace<F>,
@@ -91,4 +92,18 @@ where
         Some(packing) => Ok(Some(holds::<F, EF, PE>(&packing, row.answer))),
         None => Ok(None),
     }
+}
+
+/// `total_agrees` over packings P of values of an extension of F. Nothing is read of `_rooms`.
+pub(crate) fn extension_total_agrees<F, S, P, const D: usize>(
+    alloc: Global,
+    _rooms: Option<ExtensionRooms<F, S, P, D>>,
+    row: Row<'_>,
+) -> Result<Option<bool>, AllocError>
+where
+    F: FrobeniusExtendable<D, S> + ExtensionOverAlgebra<P, D, S> + Packable,
+    S: ExtensionShape,
+    P: PackedField<F> + HoldsScalar<F>,
+{
+    total_agrees::<F, ExtField<F, D, S, F>, PackedExtField<F, D, S, P>>(alloc, row)
 }

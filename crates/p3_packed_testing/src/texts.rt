@@ -46,11 +46,9 @@ pub fn counted<EF: PrimeCharacteristicRing>(
     alloc: Global,
     count: usize,
 ) -> Result<Vec<EF>, AllocError> {
-    let mut values = Vec::new(alloc);
-    for i in 0..count {
-        values.push(EF::from_usize(i))?;
-    }
-    Ok(values)
+    (0..count)
+        .map(|i: usize| -> EF { EF::from_usize(i) })
+        .collect(alloc)
 }
 
 /// The packing with the values of a text, zero past its end.
@@ -65,11 +63,9 @@ pub fn packings<F: Field, EF: Field + BasedVectorSpace<F>, PE: ExtensionLanes<F,
     alloc: Global,
     text: &str,
 ) -> Result<Vec<PE>, AllocError> {
-    let mut packings = Vec::new(alloc);
-    for part in text.split_terminator(';') {
-        packings.push(packing::<F, EF, PE>(part))?;
-    }
-    Ok(packings)
+    text.split_terminator(';')
+        .map(|part: &str| -> PE { packing::<F, EF, PE>(part) })
+        .collect(alloc)
 }
 
 /// The packing with the values of F of a text, which stand between commas, zero past its end.
@@ -82,11 +78,9 @@ pub fn base_packings<F: Field, P: PackedField<F>>(
     alloc: Global,
     text: &str,
 ) -> Result<Vec<P>, AllocError> {
-    let mut packings = Vec::new(alloc);
-    for word in text.split_ascii_whitespace() {
-        packings.push(base_packing::<F, P>(word))?;
-    }
-    Ok(packings)
+    text.split_ascii_whitespace()
+        .map(|word: &str| -> P { base_packing::<F, P>(word) })
+        .collect(alloc)
 }
 
 /// Whether the lanes of a packing hold the values of a text.

@@ -209,37 +209,37 @@ fn step_at(text: &str, index: usize) -> Step {
     read.unwrap_or(Step::Exp { d: 0, a: 0, e: 1 })
 }
 
+/// The step of a name with one register read.
+fn unary_step(name: &str, d: usize, a: usize) -> Option<Step> {
+    match name {
+        "Neg" => Some(Step::Neg { d, a }),
+        "Square" => Some(Step::Square { d, a }),
+        "Double" => Some(Step::Double { d, a }),
+        _ => None,
+    }
+}
+
+/// The step of a name with a number or a second register read.
+fn binary_step(name: &str, d: usize, a: usize, last: u64) -> Option<Step> {
+    let b = last as usize;
+    match name {
+        "Exp" => Some(Step::Exp { d, a, e: last }),
+        "Mul2Exp" => Some(Step::Mul2Exp { d, a, e: last }),
+        "Add" => Some(Step::Add { d, a, b }),
+        "Sub" => Some(Step::Sub { d, a, b }),
+        "Mul" => Some(Step::Mul { d, a, b }),
+        _ => None,
+    }
+}
+
 /// The step of a word, as `Add:0:1:2`.
 fn step(word: &str) -> Option<Step> {
     let mut parts = word.split(':');
     let name = parts.next()?;
     let d = parts.next()?.parse::<usize>().ok()?;
     let a = parts.next()?.parse::<usize>().ok()?;
-    match name {
-        "Neg" => return Some(Step::Neg { d, a }),
-        "Square" => return Some(Step::Square { d, a }),
-        "Double" => return Some(Step::Double { d, a }),
-        _ => {}
-    }
-    let last = parts.next()?.parse::<u64>().ok()?;
-    match name {
-        "Exp" => Some(Step::Exp { d, a, e: last }),
-        "Mul2Exp" => Some(Step::Mul2Exp { d, a, e: last }),
-        "Add" => Some(Step::Add {
-            d,
-            a,
-            b: last as usize,
-        }),
-        "Sub" => Some(Step::Sub {
-            d,
-            a,
-            b: last as usize,
-        }),
-        "Mul" => Some(Step::Mul {
-            d,
-            a,
-            b: last as usize,
-        }),
-        _ => None,
+    match parts.next() {
+        Some(last) => binary_step(name, d, a, last.parse::<u64>().ok()?),
+        None => unary_step(name, d, a),
     }
 }

@@ -3,6 +3,7 @@
 use crate::lane_run_tables as tables;
 use crate::lane_runs::{Vectors, counted_runs_agree};
 use p3_base::packed_traits::{Inhabited, Packable, PackedField};
+use p3_bench_packed::lanes::{LaneCount, Lanes};
 use p3_bench_packed::packed::Packed;
 use p3_bench_prime::baby_bear::BabyBearModulus;
 use p3_bench_prime::binomial_constants::BinomialConstants;
@@ -57,58 +58,107 @@ impl<
     }
 }
 
-/// A row's run over vectors of packings of 4 or 8 values of the extension by `X^2 = W`.
+/// Runs over vectors of packings of N values of an extension of this field, implemented once for all fields:
+/// a call at a field's own name passes the field's traits, and not what its packings have by them.
+trait ExtensionRuns<S: ExtensionShape, const D: usize, const N: usize>: Copy {
+    /// Vectors of one to three packings.
+    type RunVectors: Copy;
+
+    /// `PackedRuns::runs_agree` over packings of N lanes. Nothing is read of `vectors`.
+    fn extension_runs_agree(
+        alloc: Global,
+        vectors: Option<Self::RunVectors>,
+        row: Row<'_>,
+    ) -> Result<Option<bool>, AllocError>;
+}
+
+impl<
+    F: FrobeniusExtendable<D, S> + ExtensionOverAlgebra<Packed<F, N>, D, S> + Lanes<N>,
+    S: ExtensionShape,
+    const D: usize,
+    const N: usize,
+> ExtensionRuns<S, D, N> for F {
+    type RunVectors = Vectors<F, ExtField<F, D, S, F>, PackedExtField<F, D, S, Packed<F, N>>>;
+
+    fn extension_runs_agree(
+        alloc: Global,
+        vectors: Option<Vectors<F, ExtField<F, D, S, F>, PackedExtField<F, D, S, Packed<F, N>>>>,
+        row: Row<'_>,
+    ) -> Result<Option<bool>, AllocError> {
+        <Packed<F, N> as PackedRuns<F, S, D>>::runs_agree(alloc, vectors, row)
+    }
+}
+
+/// Vectors of packings of N values of the extension of degree D of the residues of a marker.
+type RunVectors<W, S, const D: usize, const N: usize> = Vectors<
+    Fp<W>,
+    ExtField<Fp<W>, D, S, Fp<W>>,
+    PackedExtField<Fp<W>, D, S, Packed<Fp<W>, N>>,
+>;
+
+/// A row's run over vectors of packings of N values of the extension by `X^2 = W`. That packings and
+/// vectors are named tells that they have room; nothing is read of them.
+fn quadratic_run_agrees<W: BinomialConstants<2> + LaneCount<N>, const N: usize>(
+    alloc: Global,
+    _packing: Option<Packed<Fp<W>, N>>,
+    vectors: Option<RunVectors<W, Binomial<Fp<W>>, 2, N>>,
+    row: Row<'_>,
+) -> Result<Option<bool>, AllocError> {
+    <Fp<W> as ExtensionRuns<Binomial<Fp<W>>, 2, N>>::extension_runs_agree(alloc, vectors, row)
+}
+
+/// The same of the extension by `X^4 = W`.
+fn quartic_run_agrees<W: BinomialConstants<4> + LaneCount<N>, const N: usize>(
+    alloc: Global,
+    _packing: Option<Packed<Fp<W>, N>>,
+    vectors: Option<RunVectors<W, Binomial<Fp<W>>, 4, N>>,
+    row: Row<'_>,
+) -> Result<Option<bool>, AllocError> {
+    <Fp<W> as ExtensionRuns<Binomial<Fp<W>>, 4, N>>::extension_runs_agree(alloc, vectors, row)
+}
+
+/// The same of the extension by `X^3 = X + 1`.
+fn cubic_run_agrees<W: TrinomialConstants<3, CubicTrinomial> + LaneCount<N>, const N: usize>(
+    alloc: Global,
+    _packing: Option<Packed<Fp<W>, N>>,
+    vectors: Option<RunVectors<W, CubicTrinomial, 3, N>>,
+    row: Row<'_>,
+) -> Result<Option<bool>, AllocError> {
+    <Fp<W> as ExtensionRuns<CubicTrinomial, 3, N>>::extension_runs_agree(alloc, vectors, row)
+}
+
+/// The runs at 4 and 8 lanes.
 fn runs_over_quadratic<W: BinomialConstants<2>>(
     alloc: Global,
     row: Row<'_>,
 ) -> Result<Option<bool>, AllocError> {
     match row.lanes {
-        "4" => {
-            <Packed<Fp<W>, 4> as PackedRuns<Fp<W>, Binomial<Fp<W>>, 2>>::runs_agree(
-                alloc, None, row,
-            )
-        }
-        "8" => {
-            <Packed<Fp<W>, 8> as PackedRuns<Fp<W>, Binomial<Fp<W>>, 2>>::runs_agree(
-                alloc, None, row,
-            )
-        }
+        "4" => quadratic_run_agrees::<W, 4>(alloc, None, None, row),
+        "8" => quadratic_run_agrees::<W, 8>(alloc, None, None, row),
         _ => Ok(None),
     }
 }
 
-/// The same of the extension by `X^4 = W`.
+/// The same at degree 4.
 fn runs_over_quartic<W: BinomialConstants<4>>(
     alloc: Global,
     row: Row<'_>,
 ) -> Result<Option<bool>, AllocError> {
     match row.lanes {
-        "4" => {
-            <Packed<Fp<W>, 4> as PackedRuns<Fp<W>, Binomial<Fp<W>>, 4>>::runs_agree(
-                alloc, None, row,
-            )
-        }
-        "8" => {
-            <Packed<Fp<W>, 8> as PackedRuns<Fp<W>, Binomial<Fp<W>>, 4>>::runs_agree(
-                alloc, None, row,
-            )
-        }
+        "4" => quartic_run_agrees::<W, 4>(alloc, None, None, row),
+        "8" => quartic_run_agrees::<W, 8>(alloc, None, None, row),
         _ => Ok(None),
     }
 }
 
-/// The same of the extension by `X^3 = X + 1`.
+/// The same at degree 3.
 fn runs_over_cubic<W: TrinomialConstants<3, CubicTrinomial>>(
     alloc: Global,
     row: Row<'_>,
 ) -> Result<Option<bool>, AllocError> {
     match row.lanes {
-        "4" => {
-            <Packed<Fp<W>, 4> as PackedRuns<Fp<W>, CubicTrinomial, 3>>::runs_agree(alloc, None, row)
-        }
-        "8" => {
-            <Packed<Fp<W>, 8> as PackedRuns<Fp<W>, CubicTrinomial, 3>>::runs_agree(alloc, None, row)
-        }
+        "4" => cubic_run_agrees::<W, 4>(alloc, None, None, row),
+        "8" => cubic_run_agrees::<W, 8>(alloc, None, None, row),
         _ => Ok(None),
     }
 }
