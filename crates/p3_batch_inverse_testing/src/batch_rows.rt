@@ -13,13 +13,12 @@ use p3_batch_inverse::batch_inverse::{
     batch_multiplicative_inverse, batch_multiplicative_inverse_general,
 };
 use p3_bench_prime::baby_bear::BabyBearModulus;
-use p3_bench_prime::binomial_constants::BinomialConstants;
 use p3_bench_prime::form::{Form, Plain, Word};
 use p3_bench_prime::fp::Fp;
 use p3_bench_prime::goldilocks::GoldilocksForm;
 use p3_bench_prime::montgomery::Montgomery;
-use p3_bench_prime::small::{M15, M17};
-use p3_ext::extension::{Binomial, ExtField};
+use p3_bench_prime::small::{F17, M15, M17};
+use p3_ext::extension::{BinomialExtensionField, BinomiallyExtendable};
 use p3_ring::ring::PrimeCharacteristicRing;
 use std::alloc::{AllocError, Global};
 use std::process::Abort;
@@ -134,9 +133,9 @@ fn assert_prime<W: Form<T>, T: Word>(
     assert_rows(rt, Fp::<W, T>::zero(), rows, inverses)
 }
 
-/// The tests over the extension of degree D by a binomial, implemented once for all fields: a call at a
-/// marker's own name passes the field's constants alone.
-trait ExtensionInverses<const D: usize>: Form<u32> {
+/// The tests over the extension of degree D of this field by a binomial, implemented once for all fields: a
+/// call at a field's own name passes the field's traits alone.
+trait ExtensionInverses<const D: usize>: Copy {
     /// What stands in a list. Of an associated type it is known that its values have room.
     type Value: Copy;
 
@@ -158,22 +157,20 @@ trait ExtensionInverses<const D: usize>: Form<u32> {
     ) -> Result<(), Fail>;
 }
 
-impl<W: BinomialConstants<D>, const D: usize> ExtensionInverses<D> for W {
-    type Value = ExtField<Fp<W>, D, Binomial<Fp<W>>, Fp<W>>;
+impl<F: BinomiallyExtendable<D>, const D: usize> ExtensionInverses<D> for F {
+    type Value = BinomialExtensionField<F, D>;
 
-    fn generator() -> ExtField<Fp<W>, D, Binomial<Fp<W>>, Fp<W>> {
-        ExtField::new(std::array::from_fn(|i: usize| -> Fp<W> {
-            if i == 1 {
-                Fp::<W>::one()
-            } else {
-                Fp::<W>::zero()
-            }
-        }))
+    fn generator() -> BinomialExtensionField<F, D> {
+        let mut coefficients = [F::zero(); D];
+        if 1 < D {
+            coefficients[1] = F::one();
+        }
+        BinomialExtensionField::<F, D>::new(coefficients)
     }
 
     fn assert_extension(
         rt: &(impl Abort + AllocGlobal),
-        generator: ExtField<Fp<W>, D, Binomial<Fp<W>>, Fp<W>>,
+        generator: BinomialExtensionField<F, D>,
         rows: &[Row],
         inverses: &[Inverses],
     ) -> Result<(), Fail> {
@@ -182,7 +179,7 @@ impl<W: BinomialConstants<D>, const D: usize> ExtensionInverses<D> for W {
 
     fn assert_extension_growths(
         rt: &(impl Abort + AllocGlobal),
-        generator: ExtField<Fp<W>, D, Binomial<Fp<W>>, Fp<W>>,
+        generator: BinomialExtensionField<F, D>,
     ) -> Result<(), Fail> {
         assert_growths(rt, generator)
     }
@@ -198,17 +195,12 @@ fn batch_inverses(rt: HostRuntime) -> Result<(), Fail> {
 
 #[test]
 fn batch_inverses_of_extension_values(rt: HostRuntime) -> Result<(), Fail> {
-    let generator = <Plain<M17> as ExtensionInverses<2>>::generator();
-    <Plain<M17> as ExtensionInverses<2>>::assert_extension(
-        &rt,
-        generator,
-        &OVER_F17X2,
-        &INVERSES_F17X2,
-    )
+    let generator = <F17 as ExtensionInverses<2>>::generator();
+    <F17 as ExtensionInverses<2>>::assert_extension(&rt, generator, &OVER_F17X2, &INVERSES_F17X2)
 }
 
 #[test]
 fn inverses_of_extension_values_ask_for_memory_once(rt: HostRuntime) -> Result<(), Fail> {
-    let generator = <Plain<M17> as ExtensionInverses<2>>::generator();
-    <Plain<M17> as ExtensionInverses<2>>::assert_extension_growths(&rt, generator)
+    let generator = <F17 as ExtensionInverses<2>>::generator();
+    <F17 as ExtensionInverses<2>>::assert_extension_growths(&rt, generator)
 }
