@@ -68,9 +68,11 @@ fn mixed_operators(rt: HostRuntime) {
     assert_eq!(rt; Algebra::<F17>::mixed_dot_product(&[x, x], &ones), x + x);
 }
 
-/// Asserts the names of a field and of its extension of degree 4 as algebras over it.
+/// Asserts the names of a field and of its extension of degree 4 as algebras over it. That a value is named
+/// tells that values have room; nothing is read of it.
 fn assert_names<F: BinomiallyExtendable<4>>(
     rt: &(impl Abort + AllocGlobal),
+    _value: Option<BinomialExtensionField<F, 4>>,
     name: &[u8],
 ) -> Result<(), Fail> {
     let scalars: Vec<u8> = <F as AlgebraIdentity<F>>::algebra_id(rt.alloc())?;
@@ -104,6 +106,6 @@ fn assert_extension_zeros<F: BinomiallyExtendable<4>>(
 
 #[test]
 fn names_and_zeros(rt: HostRuntime) -> Result<(), Fail> {
-    assert_names::<F17>(&rt, b"bench:f17x4".as_slice())?;
+    assert_names::<F17>(&rt, None, b"bench:f17x4".as_slice())?;
     assert_extension_zeros::<F17>(&rt, F17x4::default())
 }
