@@ -22,20 +22,25 @@ fn answered<F: Field, P: PackedField<F>>(
 ) -> Result<Option<P>, AllocError> {
     let (first, second) = (row.argument(0), row.argument(1));
     match row.call {
-        "dot_product" => {
-            let xs = packings::<F, P>(alloc, first)?;
-            let ys = packings::<F, P>(alloc, second)?;
-            Ok(Some(product(&xs, &ys)))
-        }
-        "mixed_dot_product" => {
-            let xs = packings::<F, P>(alloc, first)?;
-            let scalars: Vec<F> = values(alloc, second)?;
-            Ok(Some(mixed_product(&xs, &scalars)))
-        }
+        "dot_product" | "mixed_dot_product" => Ok(Some(sum_of_products::<F, P>(alloc, row)?)),
         "load_block" => loaded::<F, P>(alloc, first, second),
         "set_lane" => Ok(with_lane::<F, P>(first, second, row.argument(2))),
         _ => Ok(operated::<F, P>(row.call, first, second)),
     }
+}
+
+/// The sum of the products of a list of packings and one of packings, or of scalars.
+fn sum_of_products<F: Field, P: PackedField<F>>(
+    alloc: Global,
+    row: Row<'_>,
+) -> Result<P, AllocError> {
+    let xs = packings::<F, P>(alloc, row.argument(0))?;
+    if row.call == "dot_product" {
+        let ys = packings::<F, P>(alloc, row.argument(1))?;
+        return Ok(product(&xs, &ys));
+    }
+    let scalars: Vec<F> = values(alloc, row.argument(1))?;
+    Ok(mixed_product(&xs, &scalars))
 }
 
 /// What an operation on packings answers.

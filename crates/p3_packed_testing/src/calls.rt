@@ -1,10 +1,12 @@
 //! The calls of the tables over the extensions of the bench. The functions that choose the number of lanes
 //! are generic over the marker of a field: a test then passes the field's constants alone.
-use crate::extension_calls::{BaseCalls, ExtensionCalls};
+use crate::column_calls::Rooms;
+use crate::extension_calls::{BaseCalls, ExtensionCalls, ExtensionRooms};
 use crate::rows::Row;
 use crate::{
     call_tables as tables, columnwise_tables as columnwise, operation_tables as operations,
 };
+use p3_bench_packed::lanes::{LaneCount, Lanes};
 use p3_bench_packed::packed::Packed;
 use p3_bench_prime::baby_bear::BabyBearModulus;
 use p3_bench_prime::binomial_constants::BinomialConstants;
@@ -44,15 +46,44 @@ fn over_quartic<W: BinomialConstants<4>>(
     }
 }
 
-/// The same of the extension by `X^3 = X + 1`.
+/// The types that calls on packings of N values of an extension of the residues of a marker make values of.
+type CallRooms<W, S, const D: usize, const N: usize> = ExtensionRooms<
+    Fp<W>,
+    S,
+    Packed<Fp<W>, N>,
+    D,
+>;
+
+/// A row's call over packings of N values of the extension by `X^3 = X + 1`. That packings and what calls
+/// make values of are named tells that they have room; nothing is read of them.
+fn cubic_agrees<W: TrinomialConstants<3, CubicTrinomial> + LaneCount<N>, const N: usize>(
+    alloc: Global,
+    _packing: Option<Packed<Fp<W>, N>>,
+    rooms: Option<CallRooms<W, CubicTrinomial, 3, N>>,
+    row: Row<'_>,
+) -> Result<Option<bool>, AllocError> {
+    <Fp<W> as ExtensionCalls<CubicTrinomial, 3, N>>::extension_agrees(alloc, rooms, row)
+}
+
+/// The same of the extension by `X^5 = 1 - X^2`.
+fn quintic_agrees<W: TrinomialConstants<5, QuinticTrinomial> + LaneCount<N>, const N: usize>(
+    alloc: Global,
+    _packing: Option<Packed<Fp<W>, N>>,
+    rooms: Option<CallRooms<W, QuinticTrinomial, 5, N>>,
+    row: Row<'_>,
+) -> Result<Option<bool>, AllocError> {
+    <Fp<W> as ExtensionCalls<QuinticTrinomial, 5, N>>::extension_agrees(alloc, rooms, row)
+}
+
+/// A row's call over packings of 1, 4 or 8 values of the extension by `X^3 = X + 1`.
 fn over_cubic<W: TrinomialConstants<3, CubicTrinomial>>(
     alloc: Global,
     row: Row<'_>,
 ) -> Result<Option<bool>, AllocError> {
     match row.lanes {
-        "1" => <Fp<W> as ExtensionCalls<CubicTrinomial, 3, 1>>::extension_agrees(alloc, None, row),
-        "4" => <Fp<W> as ExtensionCalls<CubicTrinomial, 3, 4>>::extension_agrees(alloc, None, row),
-        "8" => <Fp<W> as ExtensionCalls<CubicTrinomial, 3, 8>>::extension_agrees(alloc, None, row),
+        "1" => cubic_agrees::<W, 1>(alloc, None, None, row),
+        "4" => cubic_agrees::<W, 4>(alloc, None, None, row),
+        "8" => cubic_agrees::<W, 8>(alloc, None, None, row),
         _ => Ok(None),
     }
 }
@@ -63,25 +94,30 @@ fn over_quintic<W: TrinomialConstants<5, QuinticTrinomial>>(
     row: Row<'_>,
 ) -> Result<Option<bool>, AllocError> {
     match row.lanes {
-        "1" => <Fp<W> as ExtensionCalls<QuinticTrinomial, 5, 1>>::extension_agrees(
-            alloc, None, row,
-        ),
-        "4" => <Fp<W> as ExtensionCalls<QuinticTrinomial, 5, 4>>::extension_agrees(
-            alloc, None, row,
-        ),
-        "8" => <Fp<W> as ExtensionCalls<QuinticTrinomial, 5, 8>>::extension_agrees(
-            alloc, None, row,
-        ),
+        "1" => quintic_agrees::<W, 1>(alloc, None, None, row),
+        "4" => quintic_agrees::<W, 4>(alloc, None, None, row),
+        "8" => quintic_agrees::<W, 8>(alloc, None, None, row),
         _ => Ok(None),
     }
 }
 
-/// The same of the field itself, which is an extension of its own.
+/// A row's call over packings of N values of a field itself, which is an extension of its own. That packings
+/// and what calls make values of are named tells that they have room; nothing is read of them.
+fn base_agrees<F: Lanes<N>, const N: usize>(
+    alloc: Global,
+    _packing: Option<Packed<F, N>>,
+    rooms: Option<Rooms<F, F, Packed<F, N>>>,
+    row: Row<'_>,
+) -> Result<Option<bool>, AllocError> {
+    <Packed<F, N> as BaseCalls<F>>::base_agrees(alloc, rooms, row)
+}
+
+/// The same at 1, 4 or 8 lanes.
 fn over_base<W: Form<u32>>(alloc: Global, row: Row<'_>) -> Result<Option<bool>, AllocError> {
     match row.lanes {
-        "1" => <Packed<Fp<W>, 1> as BaseCalls<Fp<W>>>::base_agrees(alloc, None, row),
-        "4" => <Packed<Fp<W>, 4> as BaseCalls<Fp<W>>>::base_agrees(alloc, None, row),
-        "8" => <Packed<Fp<W>, 8> as BaseCalls<Fp<W>>>::base_agrees(alloc, None, row),
+        "1" => base_agrees::<Fp<W>, 1>(alloc, None, None, row),
+        "4" => base_agrees::<Fp<W>, 4>(alloc, None, None, row),
+        "8" => base_agrees::<Fp<W>, 8>(alloc, None, None, row),
         _ => Ok(None),
     }
 }

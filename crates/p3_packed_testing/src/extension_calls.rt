@@ -21,6 +21,20 @@ pub(crate) type ExtensionRooms<F, S, P, const D: usize> = Rooms<
     PackedExtField<F, D, S, P>,
 >;
 
+/// `row_agrees` over packings P of values of an extension of F. Nothing is read of `rooms`.
+fn extension_row_agrees<F, S, P, const D: usize>(
+    alloc: Global,
+    rooms: Option<ExtensionRooms<F, S, P, D>>,
+    row: Row<'_>,
+) -> Result<Option<bool>, AllocError>
+where
+    F: FrobeniusExtendable<D, S> + ExtensionOverAlgebra<P, D, S> + Packable,
+    S: ExtensionShape,
+    P: PackedField<F> + HoldsScalar<F>,
+{
+    row_agrees::<F, ExtField<F, D, S, F>, PackedExtField<F, D, S, P>>(alloc, rooms, row)
+}
+
 /// Calls on packings of this type of the values of an extension of F: a call at a packing's own name passes
 /// the traits of the field and of the packing once.
 pub(crate) trait PackedCalls<
@@ -56,9 +70,7 @@ impl<
         match word(row.call, 1) {
             "div" => Ok(extension_quotient_agrees::<F, S, P, D>(rooms, row)),
             "sum" | "product" => extension_total_agrees::<F, S, P, D>(alloc, rooms, row),
-            _ => row_agrees::<F, ExtField<F, D, S, F>, PackedExtField<F, D, S, P>>(
-                alloc, rooms, row,
-            ),
+            _ => extension_row_agrees::<F, S, P, D>(alloc, rooms, row),
         }
     }
 }

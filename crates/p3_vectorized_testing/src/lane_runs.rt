@@ -81,28 +81,49 @@ where
     Ok(Some(true))
 }
 
-/// Puts the values into registers, a vector's lanes at a time, carries out the steps by `run_lane_steps`
-/// and reads the values back; whether the steps fit.
+/// Puts the values into registers, carries out the steps by `run_lane_steps` and reads the values back;
+/// whether the steps fit.
 fn run_vectors<F: Copy, EF: PrimeCharacteristicRing, PE: ExtensionLanes<F, EF>, const N: usize>(
     registers: &mut Vec<VectorizedExt<F, EF, PE, N>>,
     values: &mut [EF],
     steps: &[Step],
 ) -> Result<bool, AllocError> {
-    let Some(lanes) = PE::LANES.checked_mul(N) else {
+    put_values(registers, values)?;
+    if !steps_fit(steps, registers.len()) {
         return Ok(false);
+    }
+    run_lane_steps(registers, steps);
+    read_values(registers, values);
+    Ok(true)
+}
+
+/// Puts the values into registers, a vector's lanes at a time.
+fn put_values<F: Copy, EF: PrimeCharacteristicRing, PE: ExtensionLanes<F, EF>, const N: usize>(
+    registers: &mut Vec<VectorizedExt<F, EF, PE, N>>,
+    values: &[EF],
+) -> Result<(), AllocError> {
+    let Some(lanes) = PE::LANES.checked_mul(N) else {
+        return Ok(());
     };
     if lanes == 0 {
-        return Ok(false);
+        return Ok(());
     }
     for part in values.chunks(lanes) {
         if let Some(register) = register::<F, EF, PE, N>(part) {
             registers.push(register)?;
         }
     }
-    if !steps_fit(steps, registers.len()) {
-        return Ok(false);
-    }
-    run_lane_steps(registers, steps);
+    Ok(())
+}
+
+/// Reads the values of all lanes of the registers, one register after the other.
+fn read_values<F: Copy, EF: PrimeCharacteristicRing, PE: ExtensionLanes<F, EF>, const N: usize>(
+    registers: &[VectorizedExt<F, EF, PE, N>],
+    values: &mut [EF],
+) {
+    let Some(lanes) = PE::LANES.checked_mul(N) else {
+        return;
+    };
     let mut i = 0;
     for register in registers.iter() {
         for lane in 0..lanes {
@@ -114,7 +135,6 @@ fn run_vectors<F: Copy, EF: PrimeCharacteristicRing, PE: ExtensionLanes<F, EF>, 
             }
         }
     }
-    Ok(true)
 }
 
 /// The value of a register at a lane, where there is one.
