@@ -7,7 +7,7 @@ pub mod packed_traits;
 pub mod sqrt;
 
 pub use p3_ring::{
-    accumulate as accumulate, const_power as const_power, dup as dup, integers as integers,
+    accumulate as accumulate, dup as dup, integers as integers,
     linear_combination as linear_combination, powers as powers, ring as ring, sponge as sponge,
     sums as sums,
 };

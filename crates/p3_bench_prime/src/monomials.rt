@@ -9,8 +9,8 @@ use crate::fp::Fp;
 use crate::koala_bear::KoalaBearModulus;
 use crate::montgomery::Montgomery;
 use crate::small::{M17, M31};
-use p3_ring::exponentiation::{exp_1420470955, exp_1725656503};
 use p3_ring::ring::PrimeCharacteristicRing;
+use p3_spaces::exponentiation::{exp_1420470955, exp_1725656503};
 use p3_spaces::monomials::{InjectiveMonomial, PermutationMonomial};
 
 /// The power that undoes power N, for the marker of a form. It stands for what upstream writes in

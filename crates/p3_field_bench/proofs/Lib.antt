@@ -6,7 +6,6 @@ pub mod InverseLemmas
 pub mod Letters
 pub mod LineLemmas
 pub mod OneText
-pub mod Pieces
 pub mod RegisterValues
 pub mod RootLemmas
 pub mod Totality

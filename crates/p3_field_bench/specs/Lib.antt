@@ -1,10 +1,8 @@
 pub mod Effects
 pub mod Faults
 pub mod Lines
-pub mod Memory
 pub mod Outcomes
 pub mod SameTexts
 pub mod Standing
-pub mod Streams
 pub mod Text
 pub mod Words

@@ -7,7 +7,7 @@ use Rattle.p3_field_bench.specs.declared.machine.Stop.{Stop}
 use Rattle.p3_field_bench.specs.declared.machine.Stop.TheVariants.{AtFault, AtWrite}
 use Rattle.p3_calculator_fields.specs.Bank.{state_of}
 use Rattle.p3_field_bench.specs.Lines.{lines_of}
-use Rattle.p3_field_bench.specs.Streams.{AppendsFront}
+use Rattle.p3_calculator_streams.specs.Streams.{AppendsFront}
 use Rattle.p3_field_bench.specs.Text.{IsTextFrom, IsText, BeginsText, fault_line}
 
 -- no byte is 10

@@ -7,15 +7,11 @@ mod commands;
 mod faults;
 pub mod laws;
 mod machine;
-mod memory;
 mod report;
 mod run;
-mod standard;
 mod step;
-mod streams;
 mod words;
 
-pub use memory::{MemSink, MemSource};
 pub use p3_bench_prime::baby_bear::BabyBear;
 pub use p3_bench_prime::complex_tower::F31cx2;
 pub use p3_bench_prime::extensions::{
@@ -26,6 +22,7 @@ pub use p3_bench_prime::goldilocks::Goldilocks;
 pub use p3_bench_prime::koala_bear::KoalaBear;
 pub use p3_bench_prime::small::{F2, F17, F17b, F31, Z15};
 pub use p3_calculator_fields::{bank as bank, field as field, registers as registers};
+pub use p3_calculator_streams::memory::{MemSink, MemSource};
+pub use p3_calculator_streams::standard::{StdSink, StdSource};
+pub use p3_calculator_streams::streams::{ReadFailed, Sink, Source, WriteFailed, write_all};
 pub use run::{engine, engine_in};
-pub use standard::{StdSink, StdSource};
-pub use streams::{ReadFailed, Sink, Source, WriteFailed, write_all};

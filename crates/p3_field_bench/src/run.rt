@@ -7,7 +7,7 @@ use crate::faults::Fault;
 use crate::machine::{Line, Machine, Stop};
 use crate::report::FaultLine;
 use crate::step::step;
-use crate::streams::{Sink, Source, write_all};
+use p3_calculator_streams::streams::{Sink, Source, write_all};
 use std::alloc::{Allocator, Global};
 
 /// Carries out the line in the buffer, which its byte 10 ends, and writes its text.

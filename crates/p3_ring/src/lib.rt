@@ -1,10 +1,6 @@
 //! Rings and algebras, powers, sums and linear combinations, over the integer maps of `p3_integers`.
 #![tactic(auto)]
 
-pub mod accumulate;
-pub mod const_power;
-pub mod exponentiation;
-pub mod halves;
 pub mod linear_combination;
 pub mod packed_ring;
 mod power_chains;
@@ -13,4 +9,7 @@ pub mod ring;
 pub mod sponge;
 pub mod sums;
 
-pub use p3_integers::{dup as dup, integers as integers, packed_value as packed_value};
+pub use p3_integers::{
+    accumulate as accumulate, dup as dup, halves as halves, integers as integers,
+    packed_value as packed_value,
+};

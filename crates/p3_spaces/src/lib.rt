@@ -1,8 +1,11 @@
-//! Spaces over a ring: basis calls, extension fields, streams of bytes and words, and monomials.
+//! Spaces over a ring: basis calls, extension fields, streams of bytes and words, monomials, and powers by
+//! fixed chains.
 #![tactic(auto)]
 
 pub mod array_chunks;
 pub mod basis;
+pub mod const_power;
+pub mod exponentiation;
 pub mod extension_field;
 pub mod field_bounds;
 pub mod field_bytes;

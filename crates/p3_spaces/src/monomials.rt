@@ -3,7 +3,7 @@ ghost use Rattle.p3_theory.specs.Rings.Powers.{power};
 ghost use Rattle.p3_theory.specs.Roots.Monomials.{IsInjectivePower};
 ghost use Rattle.p3_theory.specs.Rings.ZeroDivisors.{HasNoZeroDivisors};
 
-use p3_ring::const_power::exp_const_u64;
+use crate::const_power::exp_const_u64;
 use p3_ring::ring::PrimeCharacteristicRing;
 
 /// A ring whose power N keeps distinct values distinct, where no product of values other than zero

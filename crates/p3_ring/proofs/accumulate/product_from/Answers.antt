@@ -1,6 +1,0 @@
-use Rattle.std.proofs.Common.{rules}
-use Rattle.p3_theory.specs.Rings.Accumulation.{Accumulates-push}
-use Rattle.p3_ring.proofs.accumulate.product_from.Goals as goal
-
-pub loop-x-preserved : goal.loop-x-preserved
-loop-x-preserved g c = (search rules, search rules, Accumulates-push g.R.Mul.mul_gives _ _ _ _ _ c.loop-x.invariant.2 c.mul-product.ensures)
