@@ -1,4 +1,3 @@
 mod ArrayItems
-mod PowerEntries
 mod WordBlocks
 mod WordProducts

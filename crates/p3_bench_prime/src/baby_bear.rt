@@ -1,11 +1,18 @@
 ghost use Rattle.std.specs.Prelude.{refl};
 ghost use Rattle.std.proofs.Common.{lit<};
 
+use crate::form::Order;
 use crate::fp::Fp;
 use crate::montgomery::{Montgomery, MontgomeryModulus};
 
 /// The marker of the order 2^31 - 2^27 + 1.
 pub struct BabyBearModulus;
+
+impl Order for BabyBearModulus {
+    ghost order = { 2013265921 };
+
+    ghost generator = { 31 };
+}
 
 impl MontgomeryModulus for BabyBearModulus {
     ghost ORDER = { 2013265921 };
@@ -35,6 +42,10 @@ impl MontgomeryModulus for BabyBearModulus {
     const INVERSE: u32 = 2281701377;
 
     const SQUARE: u32 = 1172168163;
+
+    ghost same_order = { refl };
+
+    ghost same_generator = { refl };
 }
 
 /// The residues modulo 2^31 - 2^27 + 1, in Montgomery's form. Upstream's `BabyBear`.

@@ -8,19 +8,18 @@ use crate::baby_bear::{BabyBear, BabyBearModulus};
 use crate::binomial_constants::BinomialConstants;
 use crate::form::{Form, Plain, ShortForm};
 use crate::fp::Fp;
-use crate::montgomery::Montgomery;
 use crate::small::{F2, F17, F17b, F31, M2, M15, M17, M17b, M31, Z15};
-use crate::trinomial_constants::TrinomialConstants;
+use crate::polynomial_constants::PolynomialConstants;
 use p3_ext::extension::{
-    BinomialExtensionField, ByteCountFits, Complex, ComplexExtendable, CubicTrinomial,
-    CubicTrinomialExtensionField, NestedByteCountFits, QuinticTrinomial,
+    BinomialExtensionField, ByteCountFits, Complex, ComplexExtendable, Cubic,
+    CubicTrinomialExtensionField, NestedByteCountFits, Quintic,
     QuinticTrinomialExtensionField,
 };
 
 /// The extension of `F17` by `X^2 = 3`.
 pub type F17x2 = BinomialExtensionField<F17, 2>;
 
-impl BinomialConstants<2> for Plain<M17> {
+impl BinomialConstants<2> for M17 {
     ghost W = { 3 };
 
     ghost DTH_ROOT = { 16 };
@@ -53,7 +52,7 @@ impl BinomialConstants<2> for Plain<M17> {
 /// The extension of `F17` by `X^4 = 3`.
 pub type F17x4 = BinomialExtensionField<F17, 4>;
 
-impl BinomialConstants<4> for Plain<M17> {
+impl BinomialConstants<4> for M17 {
     ghost W = { 3 };
 
     ghost DTH_ROOT = { 13 };
@@ -86,7 +85,7 @@ impl BinomialConstants<4> for Plain<M17> {
 /// The extension of `F17` by `X^8 = 3`.
 pub type F17x8 = BinomialExtensionField<F17, 8>;
 
-impl BinomialConstants<8> for Plain<M17> {
+impl BinomialConstants<8> for M17 {
     ghost W = { 3 };
 
     ghost DTH_ROOT = { 9 };
@@ -119,7 +118,7 @@ impl BinomialConstants<8> for Plain<M17> {
 /// The extension of `F17b` by `X^2 = 4`. 4 is the square of 2, so values such as `2 + X` have no inverse.
 pub type F17bx2 = BinomialExtensionField<F17b, 2>;
 
-impl BinomialConstants<2> for Plain<M17b> {
+impl BinomialConstants<2> for M17b {
     ghost W = { 4 };
 
     ghost DTH_ROOT = { 16 };
@@ -152,7 +151,7 @@ impl BinomialConstants<2> for Plain<M17b> {
 /// The extension of `Z15` by `X^2 = 2`. The order of the base is composite.
 pub type Z15x2 = BinomialExtensionField<Z15, 2>;
 
-impl BinomialConstants<2> for Plain<M15> {
+impl BinomialConstants<2> for M15 {
     ghost W = { 2 };
 
     ghost DTH_ROOT = { 14 };
@@ -185,7 +184,7 @@ impl BinomialConstants<2> for Plain<M15> {
 /// The extension of `F31` by `X^3 = 3`.
 pub type F31x3 = BinomialExtensionField<F31, 3>;
 
-impl BinomialConstants<3> for Plain<M31> {
+impl BinomialConstants<3> for M31 {
     ghost W = { 3 };
 
     ghost DTH_ROOT = { 25 };
@@ -218,7 +217,7 @@ impl BinomialConstants<3> for Plain<M31> {
 /// The extension of `F31` by `X^5 = 3`.
 pub type F31x5 = BinomialExtensionField<F31, 5>;
 
-impl BinomialConstants<5> for Plain<M31> {
+impl BinomialConstants<5> for M31 {
     ghost W = { 3 };
 
     ghost DTH_ROOT = { 16 };
@@ -251,7 +250,7 @@ impl BinomialConstants<5> for Plain<M31> {
 /// The extension of `F31` by `X^6 = 3`.
 pub type F31x6 = BinomialExtensionField<F31, 6>;
 
-impl BinomialConstants<6> for Plain<M31> {
+impl BinomialConstants<6> for M31 {
     ghost W = { 3 };
 
     ghost DTH_ROOT = { 26 };
@@ -284,7 +283,7 @@ impl BinomialConstants<6> for Plain<M31> {
 /// The extension of `BabyBear` by `X^4 = 31`.
 pub type BabyBearx4 = BinomialExtensionField<BabyBear, 4>;
 
-impl BinomialConstants<4> for Montgomery<BabyBearModulus> {
+impl BinomialConstants<4> for BabyBearModulus {
     ghost W = { 31 };
 
     ghost DTH_ROOT = { 1728404513 };
@@ -318,7 +317,7 @@ impl BinomialConstants<4> for Montgomery<BabyBearModulus> {
 /// The extension of `F31` by `X^3 = X + 1`.
 pub type F31t3 = CubicTrinomialExtensionField<F31>;
 
-impl TrinomialConstants<3, CubicTrinomial> for Plain<M31> {
+impl PolynomialConstants<3, Cubic> for M31 {
     ghost image = { 27 ∷ 6 ∷ 6 ∷ [] };
 
     ghost powers = { (1 ∷ 0 ∷ 0 ∷ []) ∷ (27 ∷ 6 ∷ 6 ∷ []) ∷ (26 ∷ 29 ∷ 24 ∷ []) ∷ [] };
@@ -338,14 +337,12 @@ impl TrinomialConstants<3, CubicTrinomial> for Plain<M31> {
     }
 
     ghost table = { record { width = refl; rows = refl; root = refl; order = refl; apart = refl } };
-
-    ghost powers_of_image = { refl };
 }
 
 /// The extension of `F17` by `X^5 = 1 - X^2`.
 pub type F17t5 = QuinticTrinomialExtensionField<F17>;
 
-impl TrinomialConstants<5, QuinticTrinomial> for Plain<M17> {
+impl PolynomialConstants<5, Quintic> for M17 {
     ghost image = { 1 ∷ 3 ∷ 0 ∷ 13 ∷ 14 ∷ [] };
 
     ghost powers = { (1 ∷ 0 ∷ 0 ∷ 0 ∷ 0 ∷ []) ∷ (1 ∷ 3 ∷ 0 ∷ 13 ∷ 14 ∷ []) ∷ (8 ∷ 5 ∷ 9 ∷ 2 ∷ 14 ∷ []) ∷ (7 ∷ 11 ∷ 14 ∷ 7 ∷ 4 ∷ []) ∷ (10 ∷ 13 ∷ 7 ∷ 11 ∷ 14 ∷ []) ∷ [] };
@@ -371,14 +368,12 @@ impl TrinomialConstants<5, QuinticTrinomial> for Plain<M17> {
     }
 
     ghost table = { record { width = refl; rows = refl; root = refl; order = refl; apart = refl } };
-
-    ghost powers_of_image = { refl };
 }
 
 /// The extension of `F2` by `X^5 = 1 - X^2`.
 pub type F2t5 = QuinticTrinomialExtensionField<F2>;
 
-impl TrinomialConstants<5, QuinticTrinomial> for Plain<M2> {
+impl PolynomialConstants<5, Quintic> for M2 {
     ghost image = { 0 ∷ 0 ∷ 1 ∷ 0 ∷ 0 ∷ [] };
 
     ghost powers = { (1 ∷ 0 ∷ 0 ∷ 0 ∷ 0 ∷ []) ∷ (0 ∷ 0 ∷ 1 ∷ 0 ∷ 0 ∷ []) ∷ (0 ∷ 0 ∷ 0 ∷ 0 ∷ 1 ∷ []) ∷ (0 ∷ 1 ∷ 0 ∷ 1 ∷ 0 ∷ []) ∷ (1 ∷ 0 ∷ 1 ∷ 1 ∷ 0 ∷ []) ∷ [] };
@@ -404,8 +399,6 @@ impl TrinomialConstants<5, QuinticTrinomial> for Plain<M2> {
     }
 
     ghost table = { record { width = refl; rows = refl; root = refl; order = refl; apart = refl } };
-
-    ghost powers_of_image = { refl };
 }
 
 /// The extension of `F31` by `X^2 = -1`.

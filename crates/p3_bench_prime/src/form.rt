@@ -172,6 +172,31 @@ pub trait Modulus {
     const GENERATOR: u32;
 }
 
+/// An order and the residue that is named as a generator, as numbers: what the constants of a field's
+/// extensions are stated over.
+pub trait Order {
+    ghost order: { ℕ };
+
+    ghost generator: { ℕ };
+}
+
+impl<M: Modulus> Order for M {
+    ghost order = { M.ORDER };
+
+    ghost generator = { M.GENERATOR };
+}
+
+/// A form of the residues modulo an order that a marker names. `Fp` takes its two-adic generators, its
+/// extensions and its monomials from the constants of that marker, whatever the form of its words.
+pub trait OverModulus<T: Word>: Form<T> {
+    /// The marker of the order.
+    type Modulus: Order;
+
+    ghost same_order: { Self.Modulus.order ≡ Self.ORDER };
+
+    ghost same_generator: { Self.Modulus.generator ≡ Self.GENERATOR };
+}
+
 /// The form in which each residue of the order of M is its own word of 32 bits.
 pub struct Plain<M>(PhantomData<M>);
 
@@ -278,6 +303,16 @@ impl<M: Modulus> Form<u32> for Plain<M> {
             remainder_of_sum(sum, M::ORDER)
         }
     }
+}
+
+impl<M: Modulus> OverModulus<u32> for Plain<M> {
+    ghost use Rattle.std.specs.Prelude.{refl};
+
+    type Modulus = M;
+
+    ghost same_order = { refl };
+
+    ghost same_generator = { refl };
 }
 
 impl<M: Modulus> ShortForm for Plain<M> {

@@ -3,7 +3,7 @@ ghost use Rattle.std.specs.Prelude.{◌≡◌, ◌≤◌, ◌<◌, ◌+◌, ◌*
 ghost use Rattle.p3_theory.specs.ResidueRings.SumsOfProducts.{sum_of_products};
 ghost use Rattle.p3_bench_prime.specs.Elements.{word_number};
 
-use crate::form::Form;
+use crate::form::{Form, Order, OverModulus};
 use crate::fp::Fp;
 use crate::monomials::MonomialConstants;
 use crate::two_adic::{TopPowerConstants, TwoAdicConstants};
@@ -138,7 +138,23 @@ impl Form<u64> for GoldilocksForm {
     }
 }
 
-impl TwoAdicConstants<u64> for GoldilocksForm {
+impl Order for GoldilocksForm {
+    ghost use Rattle.p3_bench_residues.specs.declared.goldilocks_words.TheConstants.{P};
+
+    ghost order = { P };
+
+    ghost generator = { 7 };
+}
+
+impl OverModulus<u64> for GoldilocksForm {
+    type Modulus = GoldilocksForm;
+
+    ghost same_order = { refl };
+
+    ghost same_generator = { refl };
+}
+
+impl TwoAdicConstants for GoldilocksForm {
     ghost TWO_ADICITY = { 32 };
 
     ghost TOP_GENERATOR = { 1753635133440165772 };
@@ -150,11 +166,11 @@ impl TwoAdicConstants<u64> for GoldilocksForm {
     ghost generates = { refl };
 }
 
-impl TopPowerConstants<u64> for GoldilocksForm {
+impl TopPowerConstants for GoldilocksForm {
     ghost top_power = { refl };
 }
 
-impl MonomialConstants<u64, 7> for GoldilocksForm {
+impl MonomialConstants<7> for GoldilocksForm {
     ghost ROOT_EXPONENT = { 10540996611094048183 };
 
     #[inline]

@@ -4,18 +4,17 @@ ghost use Rattle.p3_theory.specs.Rings.Powers.{power};
 ghost use Rattle.p3_theory.specs.Roots.Monomials.{AreInverseExponents};
 
 use crate::baby_bear::BabyBearModulus;
-use crate::form::{Form, Plain, Word};
+use crate::form::{Order, OverModulus, Word};
 use crate::fp::Fp;
 use crate::koala_bear::KoalaBearModulus;
-use crate::montgomery::Montgomery;
 use crate::small::{M17, M31};
 use p3_ring::ring::PrimeCharacteristicRing;
 use p3_spaces::exponentiation::{exp_1420470955, exp_1725656503};
 use p3_spaces::monomials::{InjectiveMonomial, PermutationMonomial};
 
-/// The power that undoes power N, for the marker of a form. It stands for what upstream writes in
+/// The power that undoes power N, for the marker of an order. It stands for what upstream writes in
 /// each impl of `PermutationMonomial`.
-pub trait MonomialConstants<T: Word, const N: u64>: Form<T> {
+pub trait MonomialConstants<const N: u64>: Order {
     ghost ROOT_EXPONENT: { ℕ };
 
     /// The power that undoes power N.
@@ -23,24 +22,31 @@ pub trait MonomialConstants<T: Word, const N: u64>: Form<T> {
         ensures { result ≡ power R.ops val ROOT_EXPONENT };
 
     /// The product of both exponents is one more than a multiple of the order less one.
-    ghost inverse_exponents: { AreInverseExponents Self.ORDER N ROOT_EXPONENT };
+    ghost inverse_exponents: { AreInverseExponents Self.order N ROOT_EXPONENT };
 }
 
-impl<W: MonomialConstants<T, N>, T: Word, const N: u64> InjectiveMonomial<N> for Fp<W, T> {
+impl<W: OverModulus<T>, T: Word, const N: u64> InjectiveMonomial<N> for Fp<W, T>
+where
+    W::Modulus: MonomialConstants<N>,
+{
+    ghost use Rattle.std.proofs.Common.{subst};
     ghost use Rattle.p3_theory.specs.Roots.Monomials.{residue_injective_power};
     ghost use Rattle.p3_bench_prime.specs.Elements.{is};
 
-    ghost injective = { λ domain. residue_injective_power (is W.Form) domain N W.ROOT_EXPONENT W.inverse_exponents };
+    ghost injective = { λ domain. residue_injective_power (is W.Form) domain N W.Modulus.ROOT_EXPONENT (subst (λ n. AreInverseExponents n N W.Modulus.ROOT_EXPONENT) W.same_order W.Modulus.inverse_exponents) };
 }
 
-impl<W: MonomialConstants<T, N>, T: Word, const N: u64> PermutationMonomial<N> for Fp<W, T> {
+impl<W: OverModulus<T>, T: Word, const N: u64> PermutationMonomial<N> for Fp<W, T>
+where
+    W::Modulus: MonomialConstants<N>,
+{
     #[inline]
     fn injective_exp_root_n(&self) -> Self {
-        W::root_power(*self)
+        <W::Modulus>::root_power(*self)
     }
 }
 
-impl MonomialConstants<u32, 3> for Plain<M17> {
+impl MonomialConstants<3> for M17 {
     ghost ROOT_EXPONENT = { 11 };
 
     #[inline]
@@ -51,7 +57,7 @@ impl MonomialConstants<u32, 3> for Plain<M17> {
     ghost inverse_exponents = { (2, refl) };
 }
 
-impl MonomialConstants<u32, 7> for Plain<M31> {
+impl MonomialConstants<7> for M31 {
     ghost ROOT_EXPONENT = { 13 };
 
     #[inline]
@@ -62,7 +68,7 @@ impl MonomialConstants<u32, 7> for Plain<M31> {
     ghost inverse_exponents = { (3, refl) };
 }
 
-impl MonomialConstants<u32, 7> for Montgomery<BabyBearModulus> {
+impl MonomialConstants<7> for BabyBearModulus {
     ghost ROOT_EXPONENT = { 1725656503 };
 
     #[inline]
@@ -73,7 +79,7 @@ impl MonomialConstants<u32, 7> for Montgomery<BabyBearModulus> {
     ghost inverse_exponents = { (6, refl) };
 }
 
-impl MonomialConstants<u32, 3> for Plain<KoalaBearModulus> {
+impl MonomialConstants<3> for KoalaBearModulus {
     ghost ROOT_EXPONENT = { 1420470955 };
 
     #[inline]

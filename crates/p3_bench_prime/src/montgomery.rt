@@ -1,7 +1,7 @@
 //! Residues in Montgomery's form: the word holds the residue times 2^32.
 ghost use Rattle.std.specs.Prelude.{◌≡◌, ◌<◌, ◌*◌, ◌%◌, ◌^◌, ℕ, refl, ⊤};
 
-use crate::form::{Form, ShortForm, add_short};
+use crate::form::{Form, Order, OverModulus, ShortForm, add_short};
 use crate::fp::Fp;
 use crate::short_sums::{ShortWord, sum_last_products, sum_products};
 use p3_bench_residues::montgomery::{
@@ -14,7 +14,7 @@ use std::marker::PhantomData;
 
 /// A marker of an odd order, with the numbers that Montgomery's form takes from it. It stands for what
 /// upstream writes in each impl of `MontyParameters`.
-pub trait MontgomeryModulus {
+pub trait MontgomeryModulus: Order {
     ghost ORDER: { ℕ };
 
     ghost GENERATOR: { ℕ };
@@ -47,6 +47,10 @@ pub trait MontgomeryModulus {
 
     /// The residue of 2^64.
     const SQUARE: u32;
+
+    ghost same_order: { Self.order ≡ ORDER };
+
+    ghost same_generator: { Self.generator ≡ GENERATOR };
 }
 
 /// The residue that is the product of both words once it is multiplied by 2^32.
@@ -195,6 +199,14 @@ impl<M: MontgomeryModulus> Form<u32> for Montgomery<M> {
             reduced_sum::<M>(sum)
         }
     }
+}
+
+impl<M: MontgomeryModulus> OverModulus<u32> for Montgomery<M> {
+    type Modulus = M;
+
+    ghost same_order = { M.same_order };
+
+    ghost same_generator = { M.same_generator };
 }
 
 impl<M: MontgomeryModulus> ShortForm for Montgomery<M> {

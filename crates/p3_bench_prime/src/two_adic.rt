@@ -3,18 +3,17 @@ ghost use Rattle.std.specs.Prelude.{◌≡◌, ℕ, true, refl};
 ghost use Rattle.p3_theory.specs.ResidueRings.ResidueGenerators.{is_two_adic_generator, top_generator};
 
 use crate::baby_bear::BabyBearModulus;
-use crate::form::{Form, Plain, Word};
+use crate::form::{Order, OverModulus, Word};
 use crate::fp::Fp;
 use crate::koala_bear::KoalaBearModulus;
-use crate::montgomery::Montgomery;
 use crate::small::{M2, M15, M17, M17b, M31};
 use p3_base::field::TwoAdicField;
 pub use p3_bench_residues::two_adic_powers::TwoAdicPowers;
 use p3_ring::ring::PrimeCharacteristicRing;
 
-/// The two-adicity and the top generator, as numbers, for the marker of a form. It stands for what
+/// The two-adicity and the top generator, as numbers, for the marker of an order. It stands for what
 /// upstream writes in each impl of `TwoAdicField`.
-pub trait TwoAdicConstants<T: Word>: Form<T> {
+pub trait TwoAdicConstants: Order {
     ghost TWO_ADICITY: { ℕ };
 
     ghost TOP_GENERATOR: { ℕ };
@@ -27,44 +26,53 @@ pub trait TwoAdicConstants<T: Word>: Form<T> {
 
     /// The top generator, squared once less than the two-adicity says, is minus one, and two to
     /// the two-adicity divides the order less one.
-    ghost generates: { is_two_adic_generator Self.ORDER TWO_ADICITY TOP_GENERATOR ≡ true };
+    ghost generates: { is_two_adic_generator Self.order TWO_ADICITY TOP_GENERATOR ≡ true };
 }
 
 /// Constants whose top generator is a power of the field's `generator`.
-pub trait TopPowerConstants<T: Word>: TwoAdicConstants<T> {
+pub trait TopPowerConstants: TwoAdicConstants {
     /// It is the power `(order - 1) / 2^TWO_ADICITY`.
-    ghost top_power: { Self.TOP_GENERATOR ≡ top_generator Self.ORDER Self.TWO_ADICITY Self.GENERATOR };
+    ghost top_power: { Self.TOP_GENERATOR ≡ top_generator Self.order Self.TWO_ADICITY Self.generator };
 }
 
-impl<W: TwoAdicConstants<T>, T: Word> TwoAdicField for Fp<W, T> {
+impl<W: OverModulus<T>, T: Word> TwoAdicField for Fp<W, T>
+where
+    W::Modulus: TwoAdicConstants,
+{
+    ghost use Rattle.std.proofs.Common.{subst};
     ghost use Rattle.p3_theory.specs.Roots.TwoAdic.{repeated_squares};
     ghost use Rattle.p3_theory.specs.ResidueRings.ResidueGenerators.{residue_generators, divides_residue_order};
     ghost use Rattle.p3_bench_prime.specs.Elements.{of, ops, is};
 
-    ghost two_adic = { repeated_squares (ops W.Form) W.TWO_ADICITY (of W.Form W.TOP_GENERATOR) };
+    ghost two_adic = { repeated_squares (ops W.Form) W.Modulus.TWO_ADICITY (of W.Form W.Modulus.TOP_GENERATOR) };
 
-    const TWO_ADICITY: usize = W::TWO_ADICITY;
+    const TWO_ADICITY: usize = <W::Modulus>::TWO_ADICITY;
 
-    ghost TWO_ADICITY = { W.TWO_ADICITY };
+    ghost TWO_ADICITY = { W.Modulus.TWO_ADICITY };
 
     #[inline]
     fn two_adic_generator(bits: usize) -> Self {
-        Self::residue_of(W::TOP_GENERATOR).exp_power_of_2(W::TWO_ADICITY - bits)
+        Self::residue_of(<W::Modulus>::TOP_GENERATOR)
+            .exp_power_of_2(<W::Modulus>::TWO_ADICITY - bits)
     }
 
-    ghost generators = { residue_generators (is W.Form) W.TWO_ADICITY W.TOP_GENERATOR W.generates };
+    ghost generators = { residue_generators (is W.Form) W.Modulus.TWO_ADICITY W.Modulus.TOP_GENERATOR (subst (λ n. is_two_adic_generator n W.Modulus.TWO_ADICITY W.Modulus.TOP_GENERATOR ≡ true) W.same_order W.Modulus.generates) };
 
-    ghost divides_order = { divides_residue_order W.ORDER W.TWO_ADICITY W.TOP_GENERATOR W.generates };
+    ghost divides_order = { divides_residue_order W.ORDER W.Modulus.TWO_ADICITY W.Modulus.TOP_GENERATOR (subst (λ n. is_two_adic_generator n W.Modulus.TWO_ADICITY W.Modulus.TOP_GENERATOR ≡ true) W.same_order W.Modulus.generates) };
 }
 
-impl<W: TopPowerConstants<T>, T: Word> TwoAdicPowers for Fp<W, T> {
+impl<W: OverModulus<T>, T: Word> TwoAdicPowers for Fp<W, T>
+where
+    W::Modulus: TopPowerConstants,
+{
+    ghost use Rattle.std.proofs.Common.{subst, ap₂, ◌∙◌};
     ghost use Rattle.p3_theory.specs.ResidueRings.ResidueGenerators.{generator_powers};
     ghost use Rattle.p3_bench_prime.specs.Elements.{is};
 
-    ghost powers = { generator_powers (is W.Form) W.TWO_ADICITY W.GENERATOR W.TOP_GENERATOR W.generates W.is_form.fits W.top_power };
+    ghost powers = { generator_powers (is W.Form) W.Modulus.TWO_ADICITY W.GENERATOR W.Modulus.TOP_GENERATOR (subst (λ n. is_two_adic_generator n W.Modulus.TWO_ADICITY W.Modulus.TOP_GENERATOR ≡ true) W.same_order W.Modulus.generates) W.is_form.fits (W.Modulus.top_power ∙ ap₂ (λ n r. top_generator n W.Modulus.TWO_ADICITY r) W.same_order W.same_generator) };
 }
 
-impl TwoAdicConstants<u32> for Plain<M2> {
+impl TwoAdicConstants for M2 {
     ghost TWO_ADICITY = { 0 };
 
     ghost TOP_GENERATOR = { 1 };
@@ -76,11 +84,11 @@ impl TwoAdicConstants<u32> for Plain<M2> {
     ghost generates = { refl };
 }
 
-impl TopPowerConstants<u32> for Plain<M2> {
+impl TopPowerConstants for M2 {
     ghost top_power = { refl };
 }
 
-impl TwoAdicConstants<u32> for Plain<M17> {
+impl TwoAdicConstants for M17 {
     ghost TWO_ADICITY = { 4 };
 
     ghost TOP_GENERATOR = { 3 };
@@ -92,11 +100,11 @@ impl TwoAdicConstants<u32> for Plain<M17> {
     ghost generates = { refl };
 }
 
-impl TopPowerConstants<u32> for Plain<M17> {
+impl TopPowerConstants for M17 {
     ghost top_power = { refl };
 }
 
-impl TwoAdicConstants<u32> for Plain<M17b> {
+impl TwoAdicConstants for M17b {
     ghost TWO_ADICITY = { 4 };
 
     ghost TOP_GENERATOR = { 3 };
@@ -108,11 +116,11 @@ impl TwoAdicConstants<u32> for Plain<M17b> {
     ghost generates = { refl };
 }
 
-impl TopPowerConstants<u32> for Plain<M17b> {
+impl TopPowerConstants for M17b {
     ghost top_power = { refl };
 }
 
-impl TwoAdicConstants<u32> for Plain<M31> {
+impl TwoAdicConstants for M31 {
     ghost TWO_ADICITY = { 1 };
 
     ghost TOP_GENERATOR = { 30 };
@@ -124,13 +132,13 @@ impl TwoAdicConstants<u32> for Plain<M31> {
     ghost generates = { refl };
 }
 
-impl TopPowerConstants<u32> for Plain<M31> {
+impl TopPowerConstants for M31 {
     ghost top_power = { refl };
 }
 
 /// The top generator is minus one: the residues modulo 15 are no field, and the power 7 of their
 /// `generator` is another root.
-impl TwoAdicConstants<u32> for Plain<M15> {
+impl TwoAdicConstants for M15 {
     ghost TWO_ADICITY = { 1 };
 
     ghost TOP_GENERATOR = { 14 };
@@ -142,7 +150,7 @@ impl TwoAdicConstants<u32> for Plain<M15> {
     ghost generates = { refl };
 }
 
-impl TwoAdicConstants<u32> for Montgomery<BabyBearModulus> {
+impl TwoAdicConstants for BabyBearModulus {
     ghost TWO_ADICITY = { 27 };
 
     ghost TOP_GENERATOR = { 440564289 };
@@ -154,11 +162,11 @@ impl TwoAdicConstants<u32> for Montgomery<BabyBearModulus> {
     ghost generates = { refl };
 }
 
-impl TopPowerConstants<u32> for Montgomery<BabyBearModulus> {
+impl TopPowerConstants for BabyBearModulus {
     ghost top_power = { refl };
 }
 
-impl TwoAdicConstants<u32> for Plain<KoalaBearModulus> {
+impl TwoAdicConstants for KoalaBearModulus {
     ghost TWO_ADICITY = { 24 };
 
     ghost TOP_GENERATOR = { 1791270792 };
@@ -170,6 +178,6 @@ impl TwoAdicConstants<u32> for Plain<KoalaBearModulus> {
     ghost generates = { refl };
 }
 
-impl TopPowerConstants<u32> for Plain<KoalaBearModulus> {
+impl TopPowerConstants for KoalaBearModulus {
     ghost top_power = { refl };
 }

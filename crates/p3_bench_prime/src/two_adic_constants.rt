@@ -1,22 +1,22 @@
 //! Two-adic generators of extensions of `Fp`: from a table of coefficients to all laws.
 ghost use Rattle.std.specs.Prelude.{◌≡◌, ◌<◌, ◌≤◌, ℕ, List, Some};
+ghost use Rattle.p3_theory.specs.Polynomials.IntegerPolynomials.{over};
 ghost use Rattle.p3_theory.specs.Polynomials.Polynomial.{binomial};
 ghost use Rattle.p3_theory.specs.ResidueRings.Residues.{residues};
-ghost use Rattle.p3_theory.specs.Products.Trinomials.{cubic_trinomial, quintic_trinomial};
 ghost use Rattle.p3_theory.specs.Roots.TwoAdic.{DividesOrder};
 ghost use Rattle.p3_theory.specs.Roots.TwoAdicCoefficients.{entry, GeneratorEquations};
 ghost use Rattle.p3_ext.specs.Orders.{extension_size};
 
 use crate::binomial_constants::BinomialConstants;
+use crate::form::OverModulus;
 use crate::fp::Fp;
-use crate::trinomial_constants::{TrinomialConstants, TrinomialShape};
+use crate::polynomial_constants::PolynomialConstants;
 use p3_ext::extension::{
-    CubicTrinomial, HasTwoAdicBinomialExtension, HasTwoAdicCubicExtension,
-    HasTwoAdicQuinticExtension, QuinticTrinomial,
+    HasTwoAdicBinomialExtension, IntegerPolynomial, Modulo, TwoAdicExtendable,
 };
 
 /// Two-adic generators of the extension of `Fp` by `X^D = W`, as a table of numbers, for the marker
-/// of a form. It stands for what upstream writes in each impl of `HasTwoAdicBinomialExtension`.
+/// of an order. It stands for what upstream writes in each impl of `HasTwoAdicBinomialExtension`.
 pub trait TwoAdicBinomialConstants<const D: usize>: BinomialConstants<D> {
     /// The coefficients of the generators, a row for each number of bits.
     ghost generator_table: { List (List ℕ) };
@@ -33,41 +33,48 @@ pub trait TwoAdicBinomialConstants<const D: usize>: BinomialConstants<D> {
         ensures { result ≡ entry generator_table bits i };
 
     /// The equations that the table owes, computed on numbers.
-    ghost generators: { GeneratorEquations (residues Self.ORDER) D (binomial (residues Self.ORDER) D Self.W) EXT_TWO_ADICITY (entry generator_table) };
+    ghost generators: { GeneratorEquations (residues Self.order) D (binomial (residues Self.order) D Self.W) EXT_TWO_ADICITY (entry generator_table) };
 
     /// Two to the two-adicity divides the order of the extension less one, where that is given.
-    ghost divides_order: { DividesOrder EXT_TWO_ADICITY (extension_size (Some Self.ORDER) D) };
+    ghost divides_order: { DividesOrder EXT_TWO_ADICITY (extension_size (Some Self.order) D) };
 }
 
-impl<W: TwoAdicBinomialConstants<D>, const D: usize> HasTwoAdicBinomialExtension<D> for Fp<W> {
-    ghost use Rattle.p3_theory.specs.ResidueRings.Residues.{of_keeps};
+impl<W: OverModulus<u32>, const D: usize> HasTwoAdicBinomialExtension<D> for Fp<W>
+where
+    W::Modulus: TwoAdicBinomialConstants<D>,
+{
+    ghost use Rattle.std.proofs.Common.{subst};
     ghost use Rattle.p3_theory.specs.FrobeniusMaps.TableEntries.{binomial-along};
+    ghost use Rattle.p3_theory.specs.ResidueRings.Residues.{of_keeps};
     ghost use Rattle.p3_theory.specs.Roots.TwoAdicCoefficients.{coefficients-along, equations_generate};
     ghost use Rattle.p3_bench_prime.specs.Elements.{of, is};
 
-    ghost ext_two_adic = { λ bits i. of W.Form (entry W.generator_table bits i) };
+    ghost ext_two_adic = { λ bits i. of W.Form (entry W.Modulus.generator_table bits i) };
 
-    const EXT_TWO_ADICITY: usize = W::EXT_TWO_ADICITY;
+    const EXT_TWO_ADICITY: usize = <W::Modulus>::EXT_TWO_ADICITY;
 
-    ghost EXT_TWO_ADICITY = { W.EXT_TWO_ADICITY };
+    ghost EXT_TWO_ADICITY = { W.Modulus.EXT_TWO_ADICITY };
 
     #[inline]
     fn ext_two_adic_generator(bits: usize, i: usize) -> Self {
-        Self::new(W::ext_two_adic_generator(bits, i))
+        Self::new(<W::Modulus>::ext_two_adic_generator(bits, i))
     }
 
-    ghost ext_generators = { coefficients-along (of_keeps (is W.Form)) D (binomial (residues W.ORDER) D W.W) _ (binomial-along (of_keeps (is W.Form)) D W.W) W.EXT_TWO_ADICITY (entry W.generator_table) (equations_generate (residues W.ORDER) D (binomial (residues W.ORDER) D W.W) W.EXT_TWO_ADICITY (entry W.generator_table) W.generators) };
+    ghost ext_generators = { let numbers = entry W.Modulus.generator_table in
+        coefficients-along (of_keeps (is W.Form)) D (binomial (residues W.ORDER) D W.Modulus.W) _ (binomial-along (of_keeps (is W.Form)) D W.Modulus.W) W.Modulus.EXT_TWO_ADICITY numbers
+        (equations_generate (residues W.ORDER) D (binomial (residues W.ORDER) D W.Modulus.W) W.Modulus.EXT_TWO_ADICITY numbers
+        (subst (λ n. GeneratorEquations (residues n) D (binomial (residues n) D W.Modulus.W) W.Modulus.EXT_TWO_ADICITY numbers) W.same_order W.Modulus.generators)) };
 
-    ghost ext_divides_order = { W.divides_order };
+    ghost ext_divides_order = { subst (λ n. DividesOrder W.Modulus.EXT_TWO_ADICITY (extension_size (Some n) D)) W.same_order W.Modulus.divides_order };
 }
 
-/// Two-adic generators of the extension of `Fp` by the trinomial of a shape, as a table of numbers, for
-/// the marker of a form. It stands for what upstream writes in each impl of `HasTwoAdicCubicExtension`
-/// and `HasTwoAdicQuinticExtension`.
-pub trait TwoAdicTrinomialConstants<const D: usize, S: TrinomialShape<D>>: TrinomialConstants<
-    D,
-    S,
-> {
+/// Two-adic generators of the extension of `Fp` modulo the polynomial S, as a table of numbers, for the
+/// marker of an order. It stands for what upstream writes in each impl of `HasTwoAdicCubicExtension` and
+/// `HasTwoAdicQuinticExtension`.
+pub trait TwoAdicPolynomialConstants<
+    const D: usize,
+    S: IntegerPolynomial<D>,
+>: PolynomialConstants<D, S> {
     /// The coefficients of the generators, a row for each number of bits.
     ghost generator_table: { List (List ℕ) };
 
@@ -83,52 +90,40 @@ pub trait TwoAdicTrinomialConstants<const D: usize, S: TrinomialShape<D>>: Trino
         ensures { result ≡ entry generator_table bits i };
 
     /// The equations that the table owes, computed on numbers.
-    ghost generators: { GeneratorEquations (residues Self.ORDER) D (S.polynomial Self.ORDER) EXT_TWO_ADICITY (entry generator_table) };
+    ghost generators: { GeneratorEquations (residues Self.order) D (over (residues Self.order) S.coefficients) EXT_TWO_ADICITY (entry generator_table) };
 
     /// Two to the two-adicity divides the order of the extension less one, where that is given.
-    ghost divides_order: { DividesOrder EXT_TWO_ADICITY (extension_size (Some Self.ORDER) D) };
+    ghost divides_order: { DividesOrder EXT_TWO_ADICITY (extension_size (Some Self.order) D) };
 }
 
-impl<W: TwoAdicTrinomialConstants<3, CubicTrinomial>> HasTwoAdicCubicExtension for Fp<W> {
+impl<W: OverModulus<u32>, const D: usize, S: IntegerPolynomial<D>> TwoAdicExtendable<
+    D,
+    Modulo<S, D>,
+> for Fp<W>
+where
+    W::Modulus: TwoAdicPolynomialConstants<D, S>,
+{
+    ghost use Rattle.std.proofs.Common.{subst};
+    ghost use Rattle.p3_theory.specs.Polynomials.IntegerPolynomials.{over-along};
     ghost use Rattle.p3_theory.specs.ResidueRings.Residues.{of_keeps};
-    ghost use Rattle.p3_theory.specs.FrobeniusMaps.TableEntries.{cubic-along};
     ghost use Rattle.p3_theory.specs.Roots.TwoAdicCoefficients.{coefficients-along, equations_generate};
     ghost use Rattle.p3_bench_prime.specs.Elements.{of, is};
 
-    ghost ext_two_adic = { λ bits i. of W.Form (entry W.generator_table bits i) };
+    ghost two_adic_coefficients = { λ bits i. of W.Form (entry W.Modulus.generator_table bits i) };
 
-    const EXT_TWO_ADICITY: usize = W::EXT_TWO_ADICITY;
+    const EXT_TWO_ADICITY: usize = <W::Modulus>::EXT_TWO_ADICITY;
 
-    ghost EXT_TWO_ADICITY = { W.EXT_TWO_ADICITY };
-
-    #[inline]
-    fn ext_two_adic_generator(bits: usize, i: usize) -> Self {
-        Self::new(W::ext_two_adic_generator(bits, i))
-    }
-
-    ghost ext_generators = { coefficients-along (of_keeps (is W.Form)) 3 (cubic_trinomial (residues W.ORDER)) _ (cubic-along (of_keeps (is W.Form))) W.EXT_TWO_ADICITY (entry W.generator_table) (equations_generate (residues W.ORDER) 3 (cubic_trinomial (residues W.ORDER)) W.EXT_TWO_ADICITY (entry W.generator_table) W.generators) };
-
-    ghost ext_divides_order = { W.divides_order };
-}
-
-impl<W: TwoAdicTrinomialConstants<5, QuinticTrinomial>> HasTwoAdicQuinticExtension for Fp<W> {
-    ghost use Rattle.p3_theory.specs.ResidueRings.Residues.{of_keeps};
-    ghost use Rattle.p3_theory.specs.FrobeniusMaps.TableEntries.{quintic-along};
-    ghost use Rattle.p3_theory.specs.Roots.TwoAdicCoefficients.{coefficients-along, equations_generate};
-    ghost use Rattle.p3_bench_prime.specs.Elements.{of, is};
-
-    ghost ext_two_adic = { λ bits i. of W.Form (entry W.generator_table bits i) };
-
-    const EXT_TWO_ADICITY: usize = W::EXT_TWO_ADICITY;
-
-    ghost EXT_TWO_ADICITY = { W.EXT_TWO_ADICITY };
+    ghost EXT_TWO_ADICITY = { W.Modulus.EXT_TWO_ADICITY };
 
     #[inline]
     fn ext_two_adic_generator(bits: usize, i: usize) -> Self {
-        Self::new(W::ext_two_adic_generator(bits, i))
+        Self::new(<W::Modulus>::ext_two_adic_generator(bits, i))
     }
 
-    ghost ext_generators = { coefficients-along (of_keeps (is W.Form)) 5 (quintic_trinomial (residues W.ORDER)) _ (quintic-along (of_keeps (is W.Form))) W.EXT_TWO_ADICITY (entry W.generator_table) (equations_generate (residues W.ORDER) 5 (quintic_trinomial (residues W.ORDER)) W.EXT_TWO_ADICITY (entry W.generator_table) W.generators) };
+    ghost two_adic_generators = { let numbers = entry W.Modulus.generator_table in
+        coefficients-along (of_keeps (is W.Form)) D (over (residues W.ORDER) S.coefficients) _ (over-along (of_keeps (is W.Form)) S.coefficients) W.Modulus.EXT_TWO_ADICITY numbers
+        (equations_generate (residues W.ORDER) D (over (residues W.ORDER) S.coefficients) W.Modulus.EXT_TWO_ADICITY numbers
+        (subst (λ n. GeneratorEquations (residues n) D (over (residues n) S.coefficients) W.Modulus.EXT_TWO_ADICITY numbers) W.same_order W.Modulus.generators)) };
 
-    ghost ext_divides_order = { W.divides_order };
+    ghost two_adic_divides_order = { subst (λ n. DividesOrder W.Modulus.EXT_TWO_ADICITY (extension_size (Some n) D)) W.same_order W.Modulus.divides_order };
 }

@@ -2,12 +2,11 @@
 ghost use Rattle.std.specs.Prelude.{[], ◌∷◌, refl};
 ghost use Rattle.std.proofs.Common.{arith};
 
-use crate::form::Plain;
 use crate::small::{M2, M17, M31};
-use crate::two_adic_constants::{TwoAdicBinomialConstants, TwoAdicTrinomialConstants};
-use p3_ext::extension::{CubicTrinomial, QuinticTrinomial};
+use crate::two_adic_constants::{TwoAdicBinomialConstants, TwoAdicPolynomialConstants};
+use p3_ext::extension::{Cubic, Quintic};
 
-impl TwoAdicBinomialConstants<2> for Plain<M17> {
+impl TwoAdicBinomialConstants<2> for M17 {
     ghost generator_table = { (1 ∷ 0 ∷ []) ∷ (16 ∷ 0 ∷ []) ∷ (13 ∷ 0 ∷ []) ∷ (9 ∷ 0 ∷ []) ∷ (3 ∷ 0 ∷ []) ∷ (0 ∷ 1 ∷ []) ∷ [] };
 
     ghost EXT_TWO_ADICITY = { 5 };
@@ -24,7 +23,7 @@ impl TwoAdicBinomialConstants<2> for Plain<M17> {
     ghost divides_order = { (9, refl) };
 }
 
-impl TwoAdicBinomialConstants<4> for Plain<M17> {
+impl TwoAdicBinomialConstants<4> for M17 {
     ghost generator_table = { (1 ∷ 0 ∷ 0 ∷ 0 ∷ []) ∷ (16 ∷ 0 ∷ 0 ∷ 0 ∷ []) ∷ (13 ∷ 0 ∷ 0 ∷ 0 ∷ []) ∷ (9 ∷ 0 ∷ 0 ∷ 0 ∷ []) ∷ (3 ∷ 0 ∷ 0 ∷ 0 ∷ []) ∷ (0 ∷ 0 ∷ 1 ∷ 0 ∷ []) ∷ (0 ∷ 1 ∷ 0 ∷ 0 ∷ []) ∷ [] };
 
     ghost EXT_TWO_ADICITY = { 6 };
@@ -49,7 +48,7 @@ impl TwoAdicBinomialConstants<4> for Plain<M17> {
     ghost divides_order = { (1305, refl) };
 }
 
-impl TwoAdicBinomialConstants<8> for Plain<M17> {
+impl TwoAdicBinomialConstants<8> for M17 {
     ghost generator_table = { (1 ∷ 0 ∷ 0 ∷ 0 ∷ 0 ∷ 0 ∷ 0 ∷ 0 ∷ []) ∷ (16 ∷ 0 ∷ 0 ∷ 0 ∷ 0 ∷ 0 ∷ 0 ∷ 0 ∷ []) ∷ (13 ∷ 0 ∷ 0 ∷ 0 ∷ 0 ∷ 0 ∷ 0 ∷ 0 ∷ []) ∷ (9 ∷ 0 ∷ 0 ∷ 0 ∷ 0 ∷ 0 ∷ 0 ∷ 0 ∷ []) ∷ (3 ∷ 0 ∷ 0 ∷ 0 ∷ 0 ∷ 0 ∷ 0 ∷ 0 ∷ []) ∷ (0 ∷ 0 ∷ 0 ∷ 0 ∷ 1 ∷ 0 ∷ 0 ∷ 0 ∷ []) ∷ (0 ∷ 0 ∷ 1 ∷ 0 ∷ 0 ∷ 0 ∷ 0 ∷ 0 ∷ []) ∷ (0 ∷ 1 ∷ 0 ∷ 0 ∷ 0 ∷ 0 ∷ 0 ∷ 0 ∷ []) ∷ [] };
 
     ghost EXT_TWO_ADICITY = { 7 };
@@ -75,7 +74,7 @@ impl TwoAdicBinomialConstants<8> for Plain<M17> {
     ghost divides_order = { (54498105, refl) };
 }
 
-impl TwoAdicTrinomialConstants<3, CubicTrinomial> for Plain<M31> {
+impl TwoAdicPolynomialConstants<3, Cubic> for M31 {
     ghost generator_table = { (1 ∷ 0 ∷ 0 ∷ []) ∷ (30 ∷ 0 ∷ 0 ∷ []) ∷ [] };
 
     ghost EXT_TWO_ADICITY = { 1 };
@@ -92,7 +91,7 @@ impl TwoAdicTrinomialConstants<3, CubicTrinomial> for Plain<M31> {
     ghost divides_order = { (14895, refl) };
 }
 
-impl TwoAdicTrinomialConstants<5, QuinticTrinomial> for Plain<M17> {
+impl TwoAdicPolynomialConstants<5, Quintic> for M17 {
     ghost generator_table = { (1 ∷ 0 ∷ 0 ∷ 0 ∷ 0 ∷ []) ∷ (16 ∷ 0 ∷ 0 ∷ 0 ∷ 0 ∷ []) ∷ (13 ∷ 0 ∷ 0 ∷ 0 ∷ 0 ∷ []) ∷ (9 ∷ 0 ∷ 0 ∷ 0 ∷ 0 ∷ []) ∷ (3 ∷ 0 ∷ 0 ∷ 0 ∷ 0 ∷ []) ∷ [] };
 
     ghost EXT_TWO_ADICITY = { 4 };
@@ -115,7 +114,7 @@ impl TwoAdicTrinomialConstants<5, QuinticTrinomial> for Plain<M17> {
     ghost divides_order = { (88741, refl) };
 }
 
-impl TwoAdicTrinomialConstants<5, QuinticTrinomial> for Plain<M2> {
+impl TwoAdicPolynomialConstants<5, Quintic> for M2 {
     ghost generator_table = { (1 ∷ 0 ∷ 0 ∷ 0 ∷ 0 ∷ []) ∷ [] };
 
     ghost EXT_TWO_ADICITY = { 0 };

@@ -2,10 +2,10 @@
 use Rattle.std.specs.Prelude.{◌≡◌, ◌%◌, ℕ, List, Some, refl, decimal, map, get_or}
 use Rattle.std.proofs.Common.{ap, ap₂, sym, ◌∙◌}
 use Rattle.p3_theory.specs.Polynomials.Polynomial.{tabulate, binomial}
-use Rattle.p3_theory.specs.Products.Trinomials.{cubic_trinomial, quintic_trinomial}
 use Rattle.p3_theory.specs.Rings.Homomorphism.{map-tabulate}
-use Rattle.p3_theory.specs.FrobeniusMaps.TableEntries.{binomial-along, cubic-along, quintic-along}
+use Rattle.p3_theory.specs.FrobeniusMaps.TableEntries.{binomial-along}
 use Rattle.p3_theory.specs.ResidueRings.Residues.{are_residues, residues}
+use Rattle.p3_products.specs.UniformPolynomials.{UniformPolynomial}
 use Rattle.p3_bench_prime.specs.declared.form.Form as forms
 use Rattle.p3_bench_prime.specs.declared.form.Word as words
 use Rattle.p3_bench_prime.specs.declared.fp.Fp.{Fp}
@@ -39,12 +39,7 @@ module _ {W T : Type 0} (form : forms.Ghosts W T) (bounds : words.Ghosts T) (g :
       by_numbers D (binomial (ops form) D (of form w)) (binomial (residues form.ORDER) D (w % form.ORDER))
       (binomial-along (are_residues (is form {bounds = bounds})).keeps D (of form w) ∙ ap (binomial (residues form.ORDER) D) ((is form {bounds = bounds}).canon_of w))
 
-  -- by X^3 = X + 1
-  pub cubic_by_numbers : s ≡ PolynomialsModulo form.ORDER 3 (cubic_trinomial (residues form.ORDER)) (tabulate 3 (λ i. get_or g i 0 % form.ORDER))
-      → s ≡ PolynomialsModulo form.ORDER 3 (map residue (cubic_trinomial (ops form))) (map residue (tabulate 3 chosen))
-  cubic_by_numbers = by_numbers 3 (cubic_trinomial (ops form)) (cubic_trinomial (residues form.ORDER)) (cubic-along (are_residues (is form {bounds = bounds})).keeps)
-
-  -- by X^5 = 1 - X^2
-  pub quintic_by_numbers : s ≡ PolynomialsModulo form.ORDER 5 (quintic_trinomial (residues form.ORDER)) (tabulate 5 (λ i. get_or g i 0 % form.ORDER))
-      → s ≡ PolynomialsModulo form.ORDER 5 (map residue (quintic_trinomial (ops form))) (map residue (tabulate 5 chosen))
-  quintic_by_numbers = by_numbers 5 (quintic_trinomial (ops form)) (quintic_trinomial (residues form.ORDER)) (quintic-along (are_residues (is form {bounds = bounds})).keeps)
+  -- by a polynomial that is one over every ring
+  pub uniform_by_numbers : (D : ℕ) (p : UniformPolynomial D) → s ≡ PolynomialsModulo form.ORDER D (p.over (residues form.ORDER)) (tabulate D (λ i. get_or g i 0 % form.ORDER))
+      → s ≡ PolynomialsModulo form.ORDER D (map residue (p.over (ops form))) (map residue (tabulate D chosen))
+  uniform_by_numbers D p = by_numbers D (p.over (ops form)) (p.over (residues form.ORDER)) (p.along (are_residues (is form {bounds = bounds})).keeps)

@@ -66,6 +66,9 @@ field_f17t5 = PolynomialsModulo 17 5 (16 ∷ 0 ∷ 1 ∷ 0 ∷ 0 ∷ 1 ∷ []) (
 abbrev pub field_f2t5 : FieldSpec
 field_f2t5 = PolynomialsModulo 2 5 (1 ∷ 0 ∷ 1 ∷ 0 ∷ 0 ∷ 1 ∷ []) (0 ∷ 1 ∷ 0 ∷ 0 ∷ 0 ∷ [])
 
+abbrev pub field_f2t7 : FieldSpec
+field_f2t7 = PolynomialsModulo 2 7 (1 ∷ 1 ∷ 0 ∷ 0 ∷ 0 ∷ 0 ∷ 0 ∷ 1 ∷ []) (0 ∷ 1 ∷ 0 ∷ 0 ∷ 0 ∷ 0 ∷ 0 ∷ [])
+
 -- the names of residues, and their fields
 abbrev pub residue_names : List (List ℕ × FieldSpec)
 residue_names =

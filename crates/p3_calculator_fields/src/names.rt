@@ -6,7 +6,7 @@ ghost use Rattle.p3_theory.specs.ResidueRings.Residues.{residues};
 ghost use Rattle.p3_calculator_fields.specs.Bases.{residues_are_base};
 ghost use Rattle.p3_calculator_fields.specs.Fields.{FieldSpec, PolynomialsModulo};
 ghost use Rattle.p3_calculator_fields.specs.Representation.{IsBase};
-ghost use Rattle.p3_calculator_fields.specs.Names.{field_f17x2, field_f17x4, field_f17x8, field_f17bx2, field_z15x2, field_f31x3, field_f31x5, field_f31x6, field_f31c, field_bbx4, field_f31t3, field_f17t5, field_f2t5};
+ghost use Rattle.p3_calculator_fields.specs.Names.{field_f17x2, field_f17x4, field_f17x8, field_f17bx2, field_z15x2, field_f31x3, field_f31x5, field_f31x6, field_f31c, field_bbx4, field_f31t3, field_f17t5, field_f2t5, field_f2t7};
 
 use crate::field::{Base, Named};
 use p3_bench_prime::baby_bear::BabyBearModulus;
@@ -15,8 +15,9 @@ use p3_bench_prime::form::{Plain, Word};
 use p3_bench_prime::fp::Fp;
 use p3_bench_prime::montgomery::Montgomery;
 use p3_bench_prime::small::{F31, M2, M15, M17, M17b, M31};
-use p3_bench_prime::trinomial_constants::{TrinomialConstants, TrinomialShape};
-use p3_ext::extension::{Binomial, ComplexExtendable, CubicTrinomial, QuinticTrinomial};
+use p3_bench_prime::trinomial_constants::TrinomialConstants;
+use p3_products::septic_extension::Septic;
+use p3_ext::extension::{Binomial, ComplexExtendable, Cubic, Quintic, Uniform, UniformShape};
 
 /// A marker whose extension of degree D by `X^D = W` has a name in the calculator. A function that is
 /// generic over the marker passes the traits of the field once, and a call at a name the marker's alone.
@@ -32,12 +33,12 @@ pub trait NamedBinomial<const D: usize>: BinomialConstants<D> {
 }
 
 /// The same for the extension of degree D by the trinomial of a shape.
-pub trait NamedTrinomial<const D: usize, S: TrinomialShape<D>>: TrinomialConstants<D, S> {
+pub trait NamedTrinomial<const D: usize, S: UniformShape<D>>: TrinomialConstants<D, S> {
     /// The field by numbers.
     ghost spec: { FieldSpec };
 
     /// The numbers are those of the order, of the polynomial and of the generator candidate.
-    ghost is_spec: { spec ≡ PolynomialsModulo Self.ORDER D (S.polynomial Self.ORDER) (tabulate D (λ i. get_or Self.ext_generator i 0 % Self.ORDER)) };
+    ghost is_spec: { spec ≡ PolynomialsModulo Self.ORDER D (S.polynomial.over (residues Self.ORDER)) (tabulate D (λ i. get_or Self.ext_generator i 0 % Self.ORDER)) };
 
     /// The order of the extension is below 2^128, so that it is given.
     ghost order_fits: { Self.ORDER ^ D < 2 ^ 128 };
@@ -55,24 +56,13 @@ impl<W: NamedBinomial<D>, const D: usize> Named<D, Binomial<Fp<W>>> for Fp<W> {
     ghost is_base = { residues_are_base };
 }
 
-impl<W: NamedTrinomial<3, CubicTrinomial>> Named<3, CubicTrinomial> for Fp<W> {
-    ghost use Rattle.p3_calculator_fields.specs.Bases.{cubic_by_numbers};
+impl<W: NamedTrinomial<D, S>, const D: usize, S: UniformShape<D>> Named<D, Uniform<S, D>>
+    for Fp<W> {
+    ghost use Rattle.p3_calculator_fields.specs.Bases.{uniform_by_numbers};
 
     ghost spec = { W.spec };
 
-    ghost is_spec = { cubic_by_numbers W.Form ⟦<u32 as Word>⟧ W.ext_generator W.spec W.is_spec };
-
-    ghost order_fits = { W.order_fits };
-
-    ghost is_base = { residues_are_base };
-}
-
-impl<W: NamedTrinomial<5, QuinticTrinomial>> Named<5, QuinticTrinomial> for Fp<W> {
-    ghost use Rattle.p3_calculator_fields.specs.Bases.{quintic_by_numbers};
-
-    ghost spec = { W.spec };
-
-    ghost is_spec = { quintic_by_numbers W.Form ⟦<u32 as Word>⟧ W.ext_generator W.spec W.is_spec };
+    ghost is_spec = { uniform_by_numbers W.Form ⟦<u32 as Word>⟧ W.ext_generator W.spec D S.polynomial W.is_spec };
 
     ghost order_fits = { W.order_fits };
 
@@ -187,7 +177,7 @@ impl NamedBinomial<4> for Montgomery<BabyBearModulus> {
     ghost order_fits = { lit< tt };
 }
 
-impl NamedTrinomial<3, CubicTrinomial> for Plain<M31> {
+impl NamedTrinomial<3, Cubic> for Plain<M31> {
     ghost spec = { field_f31t3 };
 
     ghost is_spec = { refl };
@@ -195,7 +185,7 @@ impl NamedTrinomial<3, CubicTrinomial> for Plain<M31> {
     ghost order_fits = { lit< tt };
 }
 
-impl NamedTrinomial<5, QuinticTrinomial> for Plain<M17> {
+impl NamedTrinomial<5, Quintic> for Plain<M17> {
     ghost spec = { field_f17t5 };
 
     ghost is_spec = { refl };
@@ -203,8 +193,16 @@ impl NamedTrinomial<5, QuinticTrinomial> for Plain<M17> {
     ghost order_fits = { lit< tt };
 }
 
-impl NamedTrinomial<5, QuinticTrinomial> for Plain<M2> {
+impl NamedTrinomial<5, Quintic> for Plain<M2> {
     ghost spec = { field_f2t5 };
+
+    ghost is_spec = { refl };
+
+    ghost order_fits = { lit< tt };
+}
+
+impl NamedTrinomial<7, Septic> for Plain<M2> {
+    ghost spec = { field_f2t7 };
 
     ghost is_spec = { refl };
 

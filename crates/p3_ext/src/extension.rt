@@ -3,18 +3,16 @@ ghost use Rattle.p3_theory.specs.Rings.Ring.{Ops, Invertible, IsInverse, subtrac
 ghost use Rattle.p3_theory.specs.Polynomials.Polynomial.{IsMonic, at, quotient_mul, quotient_add, quotient_ops, embed, binomial};
 ghost use Rattle.p3_theory.specs.Inverses.ListInverses.{HasNoInverse};
 ghost use Rattle.p3_theory.specs.Rings.Powers.{power};
-ghost use Rattle.p3_theory.specs.Products.Trinomials.{cubic_trinomial, quintic_trinomial};
 ghost use Rattle.p3_theory.specs.FrobeniusMaps.FrobeniusTable.{frobenius_list, orbit_list, IsFrobeniusTable};
 ghost use Rattle.p3_theory.specs.FrobeniusMaps.Frobenius.{iterate};
 ghost use Rattle.p3_products.specs.Entries.{entrywise_difference};
-ghost use Rattle.p3_ext.specs.Shapes.{IsBinomial, IsCubicTrinomial, IsQuinticTrinomial};
+ghost use Rattle.p3_ext.specs.Shapes.{IsBinomial};
 
 pub mod algebra;
 pub mod basis;
 pub mod binomial_extension;
 pub mod complex_binomial;
 pub mod complex_extension;
-pub mod cubic_extension;
 mod defaults;
 pub mod display;
 mod entries;
@@ -23,7 +21,7 @@ mod field_bounds;
 pub mod frobenius;
 mod has_frobenius;
 mod order;
-pub mod quintic_extension;
+pub mod polynomial_extension;
 mod streams;
 mod two_adic;
 
@@ -37,16 +35,17 @@ pub use p3_products::binomial_extension::{
     binomial_mul, binomial_square, octic_mul, quartic_mul, quintic_mul,
 };
 pub use p3_products::binomial_inverses::InverseByFormula;
-pub use p3_products::cubic_extension::{cubic_square, trinomial_cubic_mul};
-pub use p3_products::quintic_extension::{quintic_square, trinomial_quintic_mul};
+pub use p3_products::cubic_extension::{Cubic, cubic_square, trinomial_cubic_mul};
+pub use p3_products::integer_polynomial::IntegerPolynomial;
+pub use p3_products::quintic_extension::{Quintic, quintic_square, trinomial_quintic_mul};
 pub use p3_products::vectors::{vector_add, vector_sub};
 use p3_ring::ring::{Algebra, PrimeCharacteristicRing};
 use std::alloc::AllocError;
 use std::marker::PhantomData;
+pub use polynomial_extension::{ExtendableModulo, Modulo};
 pub use streams::{ByteCountFits, NestedByteCountFits};
 pub use two_adic::{
-    HasTwoAdicBinomialExtension, HasTwoAdicComplexBinomialExtension, HasTwoAdicCubicExtension,
-    HasTwoAdicQuinticExtension, TwoAdicExtendable,
+    HasTwoAdicBinomialExtension, HasTwoAdicComplexBinomialExtension, TwoAdicExtendable,
 };
 
 mod sealed {
@@ -86,24 +85,10 @@ impl<F: Copy> ExtensionShape for Binomial<F> {
 }
 
 /// The shape `X^3 = X + 1`.
-#[derive(Clone, Copy, Debug, PartialEq, Eq, PartialOrd, Ord, Hash)]
-pub struct CubicTrinomial;
-
-impl sealed::Sealed for CubicTrinomial {}
-
-impl ExtensionShape for CubicTrinomial {
-    ghost is_modulus = { λ A o D f. IsCubicTrinomial o D f };
-}
+pub type CubicTrinomial = Modulo<Cubic, 3>;
 
 /// The shape `X^5 = 1 - X^2`.
-#[derive(Clone, Copy, Debug, PartialEq, Eq, PartialOrd, Ord, Hash)]
-pub struct QuinticTrinomial;
-
-impl sealed::Sealed for QuinticTrinomial {}
-
-impl ExtensionShape for QuinticTrinomial {
-    ghost is_modulus = { λ A o D f. IsQuinticTrinomial o D f };
-}
+pub type QuinticTrinomial = Modulo<Quintic, 5>;
 
 /// An extension of F modulo `X^D - W`. Upstream's `BinomialExtensionField`.
 pub type BinomialExtensionField<F, const D: usize, A = F> = ExtField<F, D, Binomial<F>, A>;
@@ -277,60 +262,54 @@ pub trait BinomiallyExtendable<const D: usize>: Field + ExtensionAlgebra<Self, D
     ghost apart: { (k : ℕ) → 1 ≤ k → k < D → Invertible Self.ops (subtract Self.ops (power Self.ops dth_root k) Self.ops.one) };
 }
 
-/// A field with a Frobenius map for its extension of degree 3 by `X^3 = X + 1`. Upstream's
-/// `CubicTrinomialExtendable`.
-pub trait CubicTrinomialExtendable: Field + ExtensionAlgebra<Self, 3, CubicTrinomial> {
-    /// The image of X.
-    ghost image: { List Self };
-
-    /// The coefficients of the generator candidate.
-    ghost ext_generator: { ℕ → Self };
-
+/// A field with a Frobenius map for its extension of degree 3 by `X^3 = X + 1`: whoever gives the table
+/// of that polynomial. Upstream's `CubicTrinomialExtendable`.
+pub trait CubicTrinomialExtendable: ExtendableModulo<3, Cubic> {
     /// The entry in row i and column j of the map's matrix: the coefficient at `X^i` of power j of the
     /// image of X. Upstream's `FROBENIUS_MATRIX`.
-    fn frobenius_matrix(i: usize, j: usize) -> Self
+    #[inline]
+    final fn frobenius_matrix(i: usize, j: usize) -> Self
         requires row { i < 3 }
         requires column { j < 3 }
-        ensures { result ≡ at Self.ops (power (quotient_ops Self.ops 3 Self.modulus) image j) i };
-
-    /// The coefficient at `X^i` of a generator candidate; no law says that it generates.
-    fn ext_generator(i: usize) -> Self
-        requires { i < 3 }
-        ensures { result ≡ ext_generator i };
-
-    ghost by_trinomial: { Self.modulus ≡ cubic_trinomial Self.ops };
-
-    /// The map keeps sums and products, fixes the base, is the identity after three times, and leaves
-    /// only base values unchanged.
-    ghost table_laws: { IsFrobeniusTable Self.ops 3 Self.modulus image };
+        ensures { result ≡ at Self.ops (power (quotient_ops Self.ops 3 Self.modulus) Self.ExtendableModulo.image j) i }
+    {
+        Self::power_of_image(j, i)
+    }
 }
 
-/// A field with a Frobenius map for its extension of degree 5 by `X^5 = 1 - X^2`. Upstream's
-/// `QuinticTrinomialExtendable`.
-pub trait QuinticTrinomialExtendable: Field + ExtensionAlgebra<Self, 5, QuinticTrinomial> {
-    /// The image of X.
-    ghost image: { List Self };
+impl<F: ExtendableModulo<3, Cubic>> CubicTrinomialExtendable for F {}
 
-    /// The coefficients of the generator candidate.
-    ghost ext_generator: { ℕ → Self };
+/// A field with two-adic generators of its extension of degree 3 by `X^3 = X + 1`. Upstream's
+/// `HasTwoAdicCubicExtension`.
+pub trait HasTwoAdicCubicExtension: CubicTrinomialExtendable
+    + TwoAdicExtendable<3, CubicTrinomial> {}
 
+impl<F: CubicTrinomialExtendable + TwoAdicExtendable<3, CubicTrinomial>> HasTwoAdicCubicExtension
+    for F {}
+
+/// A field with a Frobenius map for its extension of degree 5 by `X^5 = 1 - X^2`: whoever gives the table
+/// of that polynomial. Upstream's `QuinticTrinomialExtendable`.
+pub trait QuinticTrinomialExtendable: ExtendableModulo<5, Quintic> {
     /// The coefficient at `X^k` of power i + 1 of the image of X. Upstream's `FROBENIUS_COEFFS`.
-    fn frobenius_coeffs(i: usize, k: usize) -> Self
+    #[inline]
+    final fn frobenius_coeffs(i: usize, k: usize) -> Self
         requires power { i < 4 }
         requires place { k < 5 }
-        ensures { result ≡ at Self.ops (power (quotient_ops Self.ops 5 Self.modulus) image (i + 1)) k };
-
-    /// The coefficient at `X^i` of a generator candidate; no law says that it generates.
-    fn ext_generator(i: usize) -> Self
-        requires { i < 5 }
-        ensures { result ≡ ext_generator i };
-
-    ghost by_trinomial: { Self.modulus ≡ quintic_trinomial Self.ops };
-
-    /// The map keeps sums and products, fixes the base, is the identity after five times, and leaves
-    /// only base values unchanged.
-    ghost table_laws: { IsFrobeniusTable Self.ops 5 Self.modulus image };
+        ensures { result ≡ at Self.ops (power (quotient_ops Self.ops 5 Self.modulus) Self.ExtendableModulo.image (i + 1)) k }
+    {
+        Self::power_of_image(i + 1, k)
+    }
 }
+
+impl<F: ExtendableModulo<5, Quintic>> QuinticTrinomialExtendable for F {}
+
+/// A field with two-adic generators of its extension of degree 5 by `X^5 = 1 - X^2`. Upstream's
+/// `HasTwoAdicQuinticExtension`.
+pub trait HasTwoAdicQuinticExtension: QuinticTrinomialExtendable
+    + TwoAdicExtendable<5, QuinticTrinomial> {}
+
+impl<F: QuinticTrinomialExtendable + TwoAdicExtendable<5, QuinticTrinomial>> HasTwoAdicQuinticExtension
+    for F {}
 
 /// A field whose extension has a Frobenius map: X becomes its image. It stands for what the
 /// shapes share; this project's own.

@@ -23,10 +23,7 @@ use p3_bench_prime::fp::Fp;
 use p3_calculator_fields::field::CalculatorField;
 use p3_calculator_fields::names::{NamedBinomial, NamedComplex, NamedTrinomial};
 use p3_calculator_fields::registers::Registers;
-use p3_ext::extension::{
-    BinomialExtensionField, CubicTrinomial, CubicTrinomialExtensionField, QuinticTrinomial,
-    QuinticTrinomialExtensionField,
-};
+use p3_ext::extension::{BinomialExtensionField, ExtField, Uniform, UniformShape};
 use std::alloc::{AllocError, Allocator};
 
 /// The value whose coefficients are the words of a line, as many as a value has.
@@ -300,25 +297,16 @@ pub fn act_at_binomial<W: NamedBinomial<D>, const D: usize, A: Allocator + Copy>
     act(alloc, operation, regs, args)
 }
 
-/// The same at an extension by `X^3 = X + 1`.
-pub fn act_at_cubic<W: NamedTrinomial<3, CubicTrinomial>, A: Allocator + Copy>(
+/// The same at an extension by a shape with one polynomial over every ring.
+pub fn act_at_uniform<
+    W: NamedTrinomial<D, S>,
+    const D: usize,
+    S: UniformShape<D>,
+    A: Allocator + Copy,
+>(
     alloc: A,
     operation: Operation,
-    regs: &mut Registers<CubicTrinomialExtensionField<Fp<W>>>,
-    args: &[u8],
-) -> Result<Vec<u8, A>, Fault>
-    ensures computes { let old = state_at W.spec (all_coefficients canon) regs.old in let new = state_at W.spec (all_coefficients canon) regs.new in
-        Computes operation W.spec old.registers (words args.now) (outcome result new) }
-    ensures kept { OnErr result (state_at W.spec (all_coefficients canon) regs.new ≡ state_at W.spec (all_coefficients canon) regs.old) }
-{
-    act(alloc, operation, regs, args)
-}
-
-/// The same at an extension by `X^5 = 1 - X^2`.
-pub fn act_at_quintic<W: NamedTrinomial<5, QuinticTrinomial>, A: Allocator + Copy>(
-    alloc: A,
-    operation: Operation,
-    regs: &mut Registers<QuinticTrinomialExtensionField<Fp<W>>>,
+    regs: &mut Registers<ExtField<Fp<W>, D, Uniform<S, D>, Fp<W>>>,
     args: &[u8],
 ) -> Result<Vec<u8, A>, Fault>
     ensures computes { let old = state_at W.spec (all_coefficients canon) regs.old in let new = state_at W.spec (all_coefficients canon) regs.new in

@@ -8,7 +8,7 @@ ghost use Rattle.p3_field_bench.specs.Lines.{words};
 ghost use Rattle.p3_field_bench.specs.Outcomes.{outcome, silent};
 
 use crate::act::{
-    act_at_binomial, act_at_complex, act_at_cubic, act_at_fp, act_at_quintic, without_text,
+    act_at_binomial, act_at_complex, act_at_fp, act_at_uniform, without_text,
 };
 use crate::commands::{Command, Operation, parse_command};
 use crate::faults::Fault;
@@ -165,7 +165,7 @@ fn act_at_middle<A: Allocator + Copy>(
 {
     match bank {
         MiddleBank::F31x3(regs) => act_at_binomial(alloc, operation, regs, args),
-        MiddleBank::F31t3(regs) => act_at_cubic(alloc, operation, regs, args),
+        MiddleBank::F31t3(regs) => act_at_uniform(alloc, operation, regs, args),
         MiddleBank::F17x4(regs) => act_at_binomial(alloc, operation, regs, args),
         MiddleBank::BabyBearx4(regs) => act_at_binomial(alloc, operation, regs, args),
     }
@@ -183,8 +183,8 @@ fn act_at_high<A: Allocator + Copy>(
 {
     match bank {
         HighBank::F31x5(regs) => act_at_binomial(alloc, operation, regs, args),
-        HighBank::F17t5(regs) => act_at_quintic(alloc, operation, regs, args),
-        HighBank::F2t5(regs) => act_at_quintic(alloc, operation, regs, args),
+        HighBank::F17t5(regs) => act_at_uniform(alloc, operation, regs, args),
+        HighBank::F2t5(regs) => act_at_uniform(alloc, operation, regs, args),
         HighBank::F31x6(regs) => act_at_binomial(alloc, operation, regs, args),
         HighBank::F17x8(regs) => act_at_binomial(alloc, operation, regs, args),
     }

@@ -6,7 +6,6 @@ use Rattle.p3_theory.specs.Polynomials.Polynomial.{tabulate, quotient_mul, binom
 use Rattle.p3_theory.specs.Lists.Places.{to-tabulate}
 use Rattle.p3_theory.specs.Inverses.CubicNorm.{cubic_norm, cubic_rest}
 use Rattle.p3_theory.specs.Inverses.EvenOdd.{norm_by_halves}
-use Rattle.p3_theory.specs.Products.Trinomials.{cubic_trinomial, quintic_trinomial}
 use Rattle.p3_theory.specs.RingSolver.Solver.{V, free}
 use Rattle.p3_theory.specs.RingSolver.Reify.{yes}
 use Rattle.p3_theory.specs.RingSolver.StraightLine.{reads_list, answer_read, formula, variables}
@@ -199,31 +198,6 @@ module _ {A : Type 0} (o : Ops A) (l : RingLaws o) where
       (quotient_mul free 8 (binomial free 8 (V 8)) (variables 0 8) (variables 0 8)) yes
 
 module _ {A : Type 0} (o : Ops A) (l : RingLaws o) where
-  -- the product modulo X^5 + X^2 - 1 from the coefficients of the whole product
-  pub quintic_trinomial_formula : {a0 a1 a2 a3 a4 b0 b1 b2 b3 b4 c0 c1 c2 c3 c4 c5 c6 c7 c8 m s2 s3 r0 r1 r2 r3 r4 : A}
-      → c0 ≡ o.mul a0 b0
-      → c1 ≡ dot o (a0 ∷ a1 ∷ []) (b1 ∷ b0 ∷ [])
-      → c2 ≡ dot o (a0 ∷ a1 ∷ a2 ∷ []) (b2 ∷ b1 ∷ b0 ∷ [])
-      → c3 ≡ dot o (a0 ∷ a1 ∷ a2 ∷ a3 ∷ []) (b3 ∷ b2 ∷ b1 ∷ b0 ∷ [])
-      → c4 ≡ dot o (a0 ∷ a1 ∷ a2 ∷ a3 ∷ a4 ∷ []) (b4 ∷ b3 ∷ b2 ∷ b1 ∷ b0 ∷ [])
-      → c5 ≡ dot o (a1 ∷ a2 ∷ a3 ∷ a4 ∷ []) (b4 ∷ b3 ∷ b2 ∷ b1 ∷ [])
-      → c6 ≡ dot o (a2 ∷ a3 ∷ a4 ∷ []) (b4 ∷ b3 ∷ b2 ∷ [])
-      → c7 ≡ dot o (a3 ∷ a4 ∷ []) (b4 ∷ b3 ∷ [])
-      → c8 ≡ o.mul a4 b4
-      → m ≡ subtract o c5 c8
-      → r0 ≡ o.add c0 m
-      → r1 ≡ o.add c1 c6
-      → s2 ≡ subtract o c2 m
-      → r2 ≡ o.add s2 c7
-      → s3 ≡ subtract o c3 c6
-      → r3 ≡ o.add s3 c8
-      → r4 ≡ subtract o c4 c7
-      → r0 ∷ r1 ∷ r2 ∷ r3 ∷ r4 ∷ [] ≡ quotient_mul o 5 (quintic_trinomial o) (a0 ∷ a1 ∷ a2 ∷ a3 ∷ a4 ∷ []) (b0 ∷ b1 ∷ b2 ∷ b3 ∷ b4 ∷ [])
-  quintic_trinomial_formula {a0} {a1} {a2} {a3} {a4} {b0} {b1} {b2} {b3} {b4} {c0} {c1} {c2} {c3} {c4} {c5} {c6} {c7} {c8} {m} {s2} {s3} {r0} {r1} {r2} {r3} {r4} g0 g1 g2 g3 g4 g5 g6 g7 g8 h h0 h1 t2 h2 t3 h3 h4 =
-      formula o (a0 ∷ a1 ∷ a2 ∷ a3 ∷ a4 ∷ b0 ∷ b1 ∷ b2 ∷ b3 ∷ b4 ∷ []) (r0 ∷ r1 ∷ r2 ∷ r3 ∷ r4 ∷ []) l
-      (λ P xa0 xa1 xa2 xa3 xa4 xb0 xb1 xb2 xb3 xb4. search (reads_list, answer_read o P g0, answer_read o P g1, answer_read o P g2, answer_read o P g3, answer_read o P g4, answer_read o P g5, answer_read o P g6, answer_read o P g7, answer_read o P g8, answer_read o P h, answer_read o P h0, answer_read o P h1, answer_read o P t2, answer_read o P h2, answer_read o P t3, answer_read o P h3, answer_read o P h4) depth 99 fits 99999)
-      (quotient_mul free 5 (quintic_trinomial free) (variables 0 5) (variables 5 5)) yes
-
   -- the norm modulo X^3 - w, from the squares and what the cubes and the cross product give
   pub cubic_norm_formula : {w a0 a1 a2 q0 q1 k p u v n : A}
       → q0 ≡ o.mul a0 a0
@@ -307,31 +281,3 @@ module _ {A : Type 0} (o : Ops A) (l : RingLaws o) where
       formula o (a0 ∷ a1 ∷ a2 ∷ w ∷ []) (c0 ∷ c1 ∷ c2 ∷ []) l
       (λ P xa0 xa1 xa2 xw. search (reads_list, answer_read o P e0, answer_read o P e1, answer_read o P e2, answer_read o P e3, answer_read o P e4, answer_read o P e5, answer_read o P e6, answer_read o P e7, answer_read o P e8, answer_read o P e9, answer_read o P e10, answer_read o P e11, answer_read o P e12) depth 99 fits 99999)
       (quotient_mul free 3 (binomial free 3 (V 3)) (variables 0 3) (variables 0 3)) yes
-
-  -- the product modulo X^3 - X - 1
-  pub cubic_trinomial_formula : {a0 a1 a2 b0 b1 b2 s u c0 c1 c2 : A}
-      → s ≡ o.add b0 b2
-      → u ≡ o.add b1 b2
-      → c0 ≡ dot o (a0 ∷ a1 ∷ a2 ∷ []) (b0 ∷ b2 ∷ b1 ∷ [])
-      → c1 ≡ dot o (a0 ∷ a1 ∷ a2 ∷ []) (b1 ∷ s ∷ u ∷ [])
-      → c2 ≡ dot o (a0 ∷ a1 ∷ a2 ∷ []) (b2 ∷ b1 ∷ s ∷ [])
-      → c0 ∷ c1 ∷ c2 ∷ [] ≡ quotient_mul o 3 (cubic_trinomial o) (a0 ∷ a1 ∷ a2 ∷ []) (b0 ∷ b1 ∷ b2 ∷ [])
-  cubic_trinomial_formula {a0} {a1} {a2} {b0} {b1} {b2} {s} {u} {c0} {c1} {c2} e0 e1 e2 e3 e4 =
-      formula o (a0 ∷ a1 ∷ a2 ∷ b0 ∷ b1 ∷ b2 ∷ []) (c0 ∷ c1 ∷ c2 ∷ []) l
-      (λ P xa0 xa1 xa2 xb0 xb1 xb2. search (reads_list, answer_read o P e0, answer_read o P e1, answer_read o P e2, answer_read o P e3, answer_read o P e4) depth 99 fits 99999)
-      (quotient_mul free 3 (cubic_trinomial free) (variables 0 3) (variables 3 3)) yes
-
-  -- the square modulo X^3 - X - 1
-  pub cubic_trinomial_square_formula : {a0 a1 a2 d0 d1 s u c0 c1 c2 : A}
-      → d0 ≡ o.add a0 a0
-      → d1 ≡ o.add a1 a1
-      → s ≡ o.add d0 a2
-      → u ≡ o.add d1 a2
-      → c0 ≡ dot o (a0 ∷ d1 ∷ []) (a0 ∷ a2 ∷ [])
-      → c1 ≡ dot o (d0 ∷ a2 ∷ []) (a1 ∷ u ∷ [])
-      → c2 ≡ dot o (a1 ∷ a2 ∷ []) (a1 ∷ s ∷ [])
-      → c0 ∷ c1 ∷ c2 ∷ [] ≡ quotient_mul o 3 (cubic_trinomial o) (a0 ∷ a1 ∷ a2 ∷ []) (a0 ∷ a1 ∷ a2 ∷ [])
-  cubic_trinomial_square_formula {a0} {a1} {a2} {d0} {d1} {s} {u} {c0} {c1} {c2} e0 e1 e2 e3 e4 e5 e6 =
-      formula o (a0 ∷ a1 ∷ a2 ∷ []) (c0 ∷ c1 ∷ c2 ∷ []) l
-      (λ P xa0 xa1 xa2. search (reads_list, answer_read o P e0, answer_read o P e1, answer_read o P e2, answer_read o P e3, answer_read o P e4, answer_read o P e5, answer_read o P e6) depth 99 fits 99999)
-      (quotient_mul free 3 (cubic_trinomial free) (variables 0 3) (variables 0 3)) yes

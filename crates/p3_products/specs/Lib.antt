@@ -1,3 +1,4 @@
 pub mod Entries
 pub mod FixedFormulas
 pub mod TrinomialRemainders
+pub mod Trinomials

@@ -228,7 +228,7 @@ fn scale_four<F: Copy, A: Copy + Mul<F, Output = A>>(x: (A, A, A, A), w: F) -> (
 
 /// Three values, each doubled.
 #[inline]
-fn double_three<A: PrimeCharacteristicRing>(x: (A, A, A)) -> (A, A, A)
+pub(crate) fn double_three<A: PrimeCharacteristicRing>(x: (A, A, A)) -> (A, A, A)
     ensures first { result.0 ≡ A.ops.add x.0 x.0 }
     ensures second { result.1 ≡ A.ops.add x.1 x.1 }
     ensures third { result.2 ≡ A.ops.add x.2 x.2 }

@@ -1,9 +1,11 @@
 ghost use Rattle.std.specs.Prelude.{◌≡◌, length};
-ghost use Rattle.p3_theory.specs.Polynomials.Polynomial.{quotient_mul};
-ghost use Rattle.p3_theory.specs.Products.Trinomials.{cubic_trinomial};
+ghost use Rattle.p3_theory.specs.Polynomials.Polynomial.{at, quotient_mul};
+ghost use Rattle.p3_theory.specs.Polynomials.IntegerPolynomials.{over};
+ghost use Rattle.p3_products.specs.Trinomials.{cubic_trinomial};
 
 use crate::binomial_products::array_dot_product;
 use crate::entries::{three_from, write_entries};
+use crate::integer_polynomial::IntegerPolynomial;
 use p3_ring::ring::PrimeCharacteristicRing;
 
 /// The product of two lists of three coefficients modulo `X^3 - X - 1`. Upstream's
@@ -13,7 +15,7 @@ pub fn trinomial_cubic_mul<R: PrimeCharacteristicRing>(a: &[R], b: &[R], res: &m
     requires left { length a.now ≡ 3 }
     requires right { length b.now ≡ 3 }
     requires room { length res.old ≡ 3 }
-    ensures { res.new ≡ quotient_mul R.ops 3 (cubic_trinomial R.ops) a.now b.now }
+    ensures { res.new ≡ quotient_mul R.ops 3 (over R.ops cubic_trinomial) a.now b.now }
 {
     let (a0, a1, a2) = three_from(a, 0);
     let (b0, b1, b2) = three_from(b, 0);
@@ -30,7 +32,7 @@ pub fn trinomial_cubic_mul<R: PrimeCharacteristicRing>(a: &[R], b: &[R], res: &m
 pub fn cubic_square<R: PrimeCharacteristicRing>(a: &[R], res: &mut [R])
     requires input { length a.now ≡ 3 }
     requires room { length res.old ≡ 3 }
-    ensures { res.new ≡ quotient_mul R.ops 3 (cubic_trinomial R.ops) a.now a.now }
+    ensures { res.new ≡ quotient_mul R.ops 3 (over R.ops cubic_trinomial) a.now a.now }
 {
     let (a0, a1, a2) = three_from(a, 0);
     let a0_2 = a0.double();
@@ -41,4 +43,51 @@ pub fn cubic_square<R: PrimeCharacteristicRing>(a: &[R], res: &mut [R])
     let c1 = array_dot_product([a0_2, a2], [a1, two_a1_plus_a2]);
     let c2 = array_dot_product([a1, a2], [a1, two_a0_plus_a2]);
     write_entries([c0, c1, c2], res);
+}
+
+/// The constant coefficient of the product of two lists of three coefficients.
+#[inline]
+pub fn cubic_constant<R: PrimeCharacteristicRing>(a: &[R], b: &[R]) -> R
+    requires left { length a.now ≡ 3 }
+    requires right { length b.now ≡ 3 }
+    ensures { result ≡ at R.ops (quotient_mul R.ops 3 (over R.ops cubic_trinomial) a.now b.now) 0 }
+{
+    let (a0, a1, a2) = three_from(a, 0);
+    let (b0, b1, b2) = three_from(b, 0);
+    array_dot_product([a0, a1, a2], [b0, b2, b1])
+}
+
+/// The polynomial `X^3 - X - 1`.
+#[derive(Clone, Copy, Debug, PartialEq, Eq, PartialOrd, Ord, Hash)]
+pub struct Cubic;
+
+impl IntegerPolynomial<3> for Cubic {
+    ghost use Rattle.std.specs.Prelude.{codes, refl};
+    ghost use Rattle.std.proofs.Common.{lit≤};
+
+    ghost coefficients = { cubic_trinomial };
+
+    ghost algebra_id = { codes "p3-power-basis-v1:X^3-X-1" };
+
+    #[inline]
+    fn algebra_id() -> &'static str {
+        "p3-power-basis-v1:X^3-X-1"
+    }
+
+    #[inline]
+    fn product<R: PrimeCharacteristicRing>(a: &[R], b: &[R], res: &mut [R]) {
+        trinomial_cubic_mul(a, b, res);
+    }
+
+    #[inline]
+    fn square<R: PrimeCharacteristicRing>(a: &[R], res: &mut [R]) {
+        cubic_square(a, res);
+    }
+
+    #[inline]
+    fn constant_of_product<R: PrimeCharacteristicRing>(a: &[R], b: &[R]) -> R {
+        cubic_constant(a, b)
+    }
+
+    ghost monic = { record { at_least_two = lit≤ tt; degree = refl; leading = refl } };
 }

@@ -6,6 +6,7 @@ pub mod binomial_inverses;
 pub mod binomial_products;
 pub mod cubic_extension;
 mod entries;
+pub mod integer_polynomial;
 pub mod power_table;
 pub mod quintic_extension;
 pub mod vectors;

@@ -1,10 +1,12 @@
 ghost use Rattle.std.specs.Prelude.{◌≡◌, length};
-ghost use Rattle.p3_theory.specs.Polynomials.Polynomial.{quotient_mul};
-ghost use Rattle.p3_theory.specs.Products.Trinomials.{quintic_trinomial};
+ghost use Rattle.p3_theory.specs.Polynomials.Polynomial.{at, quotient_mul};
+ghost use Rattle.p3_theory.specs.Polynomials.IntegerPolynomials.{over};
+ghost use Rattle.p3_products.specs.Trinomials.{quintic_trinomial};
 ghost use Rattle.p3_products.specs.TrinomialRemainders.{quintic_reduced};
 
 use crate::binomial_products::{array_dot_product, double_four};
 use crate::entries::{four_from, write_entries};
+use crate::integer_polynomial::IntegerPolynomial;
 use p3_ring::ring::PrimeCharacteristicRing;
 
 /// Writes the remainder modulo `X^5 + X^2 - 1` of the polynomial with these nine coefficients.
@@ -42,7 +44,7 @@ pub fn trinomial_quintic_mul<R: PrimeCharacteristicRing>(a: &[R], b: &[R], res: 
     requires left { length a.now ≡ 5 }
     requires right { length b.now ≡ 5 }
     requires room { length res.old ≡ 5 }
-    ensures { res.new ≡ quotient_mul R.ops 5 (quintic_trinomial R.ops) a.now b.now }
+    ensures { res.new ≡ quotient_mul R.ops 5 (over R.ops quintic_trinomial) a.now b.now }
 {
     let (a0, a1, a2, a3) = four_from(a, 0);
     let a4 = a[4];
@@ -65,7 +67,7 @@ pub fn trinomial_quintic_mul<R: PrimeCharacteristicRing>(a: &[R], b: &[R], res: 
 pub fn quintic_square<R: PrimeCharacteristicRing>(a: &[R], res: &mut [R])
     requires input { length a.now ≡ 5 }
     requires room { length res.old ≡ 5 }
-    ensures { res.new ≡ quotient_mul R.ops 5 (quintic_trinomial R.ops) a.now a.now }
+    ensures { res.new ≡ quotient_mul R.ops 5 (over R.ops quintic_trinomial) a.now a.now }
 {
     let (a0, a1, a2, a3) = four_from(a, 0);
     let a4 = a[4];
@@ -80,4 +82,57 @@ pub fn quintic_square<R: PrimeCharacteristicRing>(a: &[R], res: &mut [R])
     let c7 = a3_2 * a4;
     let c8 = a4.square();
     write_reduced(c0, c1, c2, c3, c4, c5, c6, c7, c8, res);
+}
+
+/// The constant coefficient of the product of two lists of five coefficients.
+#[inline]
+pub fn quintic_constant<R: PrimeCharacteristicRing>(a: &[R], b: &[R]) -> R
+    requires left { length a.now ≡ 5 }
+    requires right { length b.now ≡ 5 }
+    ensures { result ≡ at R.ops (quotient_mul R.ops 5 (over R.ops quintic_trinomial) a.now b.now) 0 }
+{
+    let (a0, a1, a2, a3) = four_from(a, 0);
+    let a4 = a[4];
+    let (b0, b1, b2, b3) = four_from(b, 0);
+    let b4 = b[4];
+    let c0 = a0 * b0;
+    let c5 = array_dot_product([a1, a2, a3, a4], [b4, b3, b2, b1]);
+    let c8 = a4 * b4;
+    let sum = c0 + c5;
+    sum - c8
+}
+
+/// The polynomial `X^5 + X^2 - 1`.
+#[derive(Clone, Copy, Debug, PartialEq, Eq, PartialOrd, Ord, Hash)]
+pub struct Quintic;
+
+impl IntegerPolynomial<5> for Quintic {
+    ghost use Rattle.std.specs.Prelude.{codes, refl};
+    ghost use Rattle.std.proofs.Common.{lit≤};
+
+    ghost coefficients = { quintic_trinomial };
+
+    ghost algebra_id = { codes "p3-power-basis-v1:X^5+X^2-1" };
+
+    #[inline]
+    fn algebra_id() -> &'static str {
+        "p3-power-basis-v1:X^5+X^2-1"
+    }
+
+    #[inline]
+    fn product<R: PrimeCharacteristicRing>(a: &[R], b: &[R], res: &mut [R]) {
+        trinomial_quintic_mul(a, b, res);
+    }
+
+    #[inline]
+    fn square<R: PrimeCharacteristicRing>(a: &[R], res: &mut [R]) {
+        quintic_square(a, res);
+    }
+
+    #[inline]
+    fn constant_of_product<R: PrimeCharacteristicRing>(a: &[R], b: &[R]) -> R {
+        quintic_constant(a, b)
+    }
+
+    ghost monic = { record { at_least_two = lit≤ tt; degree = refl; leading = refl } };
 }

@@ -13,3 +13,4 @@ pub mod TextSteps
 pub mod HornerFold
 pub mod BaseProduct
 pub mod ScalarSums
+pub mod IntegerPolynomials

@@ -1,14 +1,11 @@
-//! Sums, differences and multiples of coefficient lists, entry by entry, under the operators alone,
-//! and sums of products.
+//! Sums, differences and multiples of coefficient lists, entry by entry, under the operators alone.
 ghost use Rattle.std.specs.Prelude.{◌≡◌, ℕ, length};
 ghost use Rattle.p3_theory.specs.Rings.Ring.{Ops, subtract};
 ghost use Rattle.p3_theory.specs.Rings.Operators.{Gives};
-ghost use Rattle.p3_theory.specs.Rings.DotProduct.{dot};
 ghost use Rattle.p3_theory.specs.Polynomials.Polynomial.{quotient_add};
 ghost use Rattle.p3_theory.specs.Polynomials.BaseProduct.{scaled};
 ghost use Rattle.p3_products.specs.Entries.{entrywise_difference};
 
-use p3_ring::ring::PrimeCharacteristicRing;
 use std::ops::{Add, Mul, Sub};
 
 /// Writes the sums entry by entry.
@@ -50,16 +47,4 @@ pub(super) fn scale_each<A: Copy + Mul<Output = A>>(a: &[A], factor: A, res: &mu
         let product = a[i] * factor;
         res[i] = product;
     }
-}
-
-/// The sum of the products of two lists of N coefficients, index by index: `dot_product`, with the
-/// lists by value.
-#[inline]
-pub(super) fn dot_of_arrays<A: PrimeCharacteristicRing, const N: usize>(
-    left: [A; N],
-    right: [A; N],
-) -> A
-    ensures { result ≡ dot A.ops left right }
-{
-    A::dot_product(&left, &right)
 }

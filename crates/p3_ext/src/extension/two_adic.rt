@@ -9,10 +9,7 @@ ghost use Rattle.p3_ext.specs.Orders.{extension_size};
 use super::complex_binomial::HasComplexBinomialExtension;
 use super::complex_extension::Complex;
 use super::ext_field::ExtField;
-use super::{
-    Binomial, BinomiallyExtendable, CubicTrinomial, CubicTrinomialExtendable, ExtensionShape,
-    FrobeniusExtendable, QuinticTrinomial, QuinticTrinomialExtendable,
-};
+use super::{Binomial, BinomiallyExtendable, ExtensionShape, FrobeniusExtendable};
 use p3_base::field::TwoAdicField;
 use p3_ring::ring::PrimeCharacteristicRing;
 
@@ -39,56 +36,6 @@ pub trait HasTwoAdicBinomialExtension<const D: usize>: BinomiallyExtendable<D> {
 
     /// Two to the two-adicity divides the order of the extension less one, where that is given.
     ghost ext_divides_order: { DividesOrder EXT_TWO_ADICITY (extension_size Self.size D) };
-}
-
-/// A field with two-adic generators of its extension of degree 3 by `X^3 = X + 1`. Upstream's
-/// `HasTwoAdicCubicExtension`.
-pub trait HasTwoAdicCubicExtension: CubicTrinomialExtendable {
-    /// The coefficients of the generators, by bits and place.
-    ghost ext_two_adic: { ℕ → ℕ → Self };
-
-    /// The greatest number of bits that a two-adic generator of the extension is given for.
-    const EXT_TWO_ADICITY: usize;
-
-    ghost EXT_TWO_ADICITY: { ℕ };
-
-    /// The coefficient at `X^i` of a root of unity of order `2^bits` in the extension.
-    fn ext_two_adic_generator(bits: usize, i: usize) -> Self
-        requires bits { bits ≤ EXT_TWO_ADICITY }
-        requires place { i < 3 }
-        ensures { result ≡ ext_two_adic bits i };
-
-    /// The generator for no bits is one, each one's square is the one before it, and the one for
-    /// one bit is minus one.
-    ghost ext_generators: { AreExtensionGenerators Self.ops 3 Self.modulus EXT_TWO_ADICITY ext_two_adic };
-
-    /// Two to the two-adicity divides the order of the extension less one, where that is given.
-    ghost ext_divides_order: { DividesOrder EXT_TWO_ADICITY (extension_size Self.size 3) };
-}
-
-/// A field with two-adic generators of its extension of degree 5 by `X^5 = 1 - X^2`. Upstream's
-/// `HasTwoAdicQuinticExtension`.
-pub trait HasTwoAdicQuinticExtension: QuinticTrinomialExtendable {
-    /// The coefficients of the generators, by bits and place.
-    ghost ext_two_adic: { ℕ → ℕ → Self };
-
-    /// The greatest number of bits that a two-adic generator of the extension is given for.
-    const EXT_TWO_ADICITY: usize;
-
-    ghost EXT_TWO_ADICITY: { ℕ };
-
-    /// The coefficient at `X^i` of a root of unity of order `2^bits` in the extension.
-    fn ext_two_adic_generator(bits: usize, i: usize) -> Self
-        requires bits { bits ≤ EXT_TWO_ADICITY }
-        requires place { i < 5 }
-        ensures { result ≡ ext_two_adic bits i };
-
-    /// The generator for no bits is one, each one's square is the one before it, and the one for
-    /// one bit is minus one.
-    ghost ext_generators: { AreExtensionGenerators Self.ops 5 Self.modulus EXT_TWO_ADICITY ext_two_adic };
-
-    /// Two to the two-adicity divides the order of the extension less one, where that is given.
-    ghost ext_divides_order: { DividesOrder EXT_TWO_ADICITY (extension_size Self.size 5) };
 }
 
 /// A field whose extension by `X^2 = -1` has two-adic generators of its extension of degree D.
@@ -149,7 +96,7 @@ pub trait TwoAdicExtendable<const D: usize, S: ExtensionShape>: FrobeniusExtenda
     ghost EXT_TWO_ADICITY: { ℕ };
 
     /// The coefficient at `X^i` of a root of unity of order `2^bits` in the extension.
-    fn two_adic_coefficient(bits: usize, i: usize) -> Self
+    fn ext_two_adic_generator(bits: usize, i: usize) -> Self
         requires bits { bits ≤ EXT_TWO_ADICITY }
         requires place { i < D }
         ensures { result ≡ two_adic_coefficients bits i };
@@ -170,47 +117,13 @@ impl<F: HasTwoAdicBinomialExtension<D>, const D: usize> TwoAdicExtendable<D, Bin
     ghost EXT_TWO_ADICITY = { F.HasTwoAdicBinomialExtension.EXT_TWO_ADICITY };
 
     #[inline]
-    fn two_adic_coefficient(bits: usize, i: usize) -> F {
+    fn ext_two_adic_generator(bits: usize, i: usize) -> F {
         <F as HasTwoAdicBinomialExtension<D>>::ext_two_adic_generator(bits, i)
     }
 
     ghost two_adic_generators = { F.HasTwoAdicBinomialExtension.ext_generators };
 
     ghost two_adic_divides_order = { F.HasTwoAdicBinomialExtension.ext_divides_order };
-}
-
-impl<F: HasTwoAdicCubicExtension> TwoAdicExtendable<3, CubicTrinomial> for F {
-    ghost two_adic_coefficients = { F.HasTwoAdicCubicExtension.ext_two_adic };
-
-    const EXT_TWO_ADICITY: usize = <F as HasTwoAdicCubicExtension>::EXT_TWO_ADICITY;
-
-    ghost EXT_TWO_ADICITY = { F.HasTwoAdicCubicExtension.EXT_TWO_ADICITY };
-
-    #[inline]
-    fn two_adic_coefficient(bits: usize, i: usize) -> F {
-        <F as HasTwoAdicCubicExtension>::ext_two_adic_generator(bits, i)
-    }
-
-    ghost two_adic_generators = { F.HasTwoAdicCubicExtension.ext_generators };
-
-    ghost two_adic_divides_order = { F.HasTwoAdicCubicExtension.ext_divides_order };
-}
-
-impl<F: HasTwoAdicQuinticExtension> TwoAdicExtendable<5, QuinticTrinomial> for F {
-    ghost two_adic_coefficients = { F.HasTwoAdicQuinticExtension.ext_two_adic };
-
-    const EXT_TWO_ADICITY: usize = <F as HasTwoAdicQuinticExtension>::EXT_TWO_ADICITY;
-
-    ghost EXT_TWO_ADICITY = { F.HasTwoAdicQuinticExtension.EXT_TWO_ADICITY };
-
-    #[inline]
-    fn two_adic_coefficient(bits: usize, i: usize) -> F {
-        <F as HasTwoAdicQuinticExtension>::ext_two_adic_generator(bits, i)
-    }
-
-    ghost two_adic_generators = { F.HasTwoAdicQuinticExtension.ext_generators };
-
-    ghost two_adic_divides_order = { F.HasTwoAdicQuinticExtension.ext_divides_order };
 }
 
 impl<F: TwoAdicExtendable<D, S>, const D: usize, S: ExtensionShape> TwoAdicField
@@ -227,7 +140,7 @@ impl<F: TwoAdicExtendable<D, S>, const D: usize, S: ExtensionShape> TwoAdicField
     fn two_adic_generator(bits: usize) -> Self {
         let mut value = [F::zero(); D];
         for i in 0..D {
-            value[i] = F::two_adic_coefficient(bits, i);
+            value[i] = <F as TwoAdicExtendable<D, S>>::ext_two_adic_generator(bits, i);
         }
         ExtField::<F, D, S, F>::new(value)
     }

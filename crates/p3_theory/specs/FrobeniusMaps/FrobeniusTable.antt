@@ -51,12 +51,3 @@ module _ {A : Type 0} (o : Ops A) where
     pub order : iterate (row_sum D (row table)) D (unknown D f) ≡ unknown D f
     pub apart : tabulate (pred D) (λ k. tabulate D (λ i. dot D (row dual k) (row table i)))
         ≡ tabulate (pred D) (λ k. tabulate D (λ i. o.add (at o (row dual k) i) (at o (monomial o (suc k)) i)))
-
-module _ {A : Type 0} (o : Ops A) where
-  -- the powers of phi as columns
-  abbrev pub matrix_of : ℕ → List A → List A → List (List A)
-  matrix_of D f phi = tabulate D (λ k. tabulate D (λ j. at o (power (quotient_ops o D f) phi j) k))
-
-  -- the powers of phi from the first on, as rows
-  abbrev pub coeffs_of : ℕ → List A → List A → List (List A)
-  coeffs_of D f phi = tabulate (pred D) (λ i. power (quotient_ops o D f) phi (suc i))

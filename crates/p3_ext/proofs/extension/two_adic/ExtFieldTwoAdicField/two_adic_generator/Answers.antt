@@ -18,7 +18,7 @@ pub loop-i-preserved : goal.loop-i-preserved
 loop-i-preserved g c =
     let v = c.loop-i.value in
     let i = c.loop-i.i in
-    let r = c.two_adic_coefficient.result in (
+    let r = c.ext_two_adic_generator.result in (
       length-set v i r ∙ c.loop-i.invariant.0,
-      holds-more (g.F.TwoAdicExtendable.two_adic_coefficients c.args.bits) g.F.PrimeCharacteristicRing.ops.zero v i r (omega (arith, c.loop-i-test.true, c.loop-i.invariant.0)) c.loop-i.invariant.1 c.two_adic_coefficient.ensures,
+      holds-more (g.F.TwoAdicExtendable.two_adic_coefficients c.args.bits) g.F.PrimeCharacteristicRing.ops.zero v i r (omega (arith, c.loop-i-test.true, c.loop-i.invariant.0)) c.loop-i.invariant.1 c.ext_two_adic_generator.ensures,
     )
