@@ -5,7 +5,7 @@ ghost use Rattle.p3_ext.specs.Orders.{extension_size};
 
 use crate::calls::{assert_extension, assert_streams, constants};
 use crate::extension_tables::Table;
-use crate::markers::{BinomialCalls, TrinomialCalls, TwoAdicBinomialCalls};
+use crate::markers::{BinomialCalls, PolynomialCalls, TwoAdicBinomialCalls};
 use crate::square_root_tables::Root;
 use crate::values::Canonical;
 use crate::{extension_root_tables as roots, extension_tables as tables, trinomial_tables};
@@ -17,7 +17,7 @@ use p3_bench_prime::form::Plain;
 use p3_bench_prime::montgomery::Montgomery;
 use p3_bench_prime::small::{F31, M2, M15, M17, M17b, M31};
 use p3_field::extension::{
-    BinomialExtensionField, ComplexExtendable, CubicTrinomial, QuinticTrinomial,
+    BinomialExtensionField, ComplexExtendable, Cubic, Quintic,
 };
 use std::process::Abort;
 use std::test::Fail;
@@ -131,14 +131,14 @@ fn bbx4(rt: HostRuntime) -> Result<(), Fail> {
 
 #[test]
 fn f31t3(rt: HostRuntime) -> Result<(), Fail> {
-    <Plain<M31> as TrinomialCalls<3, CubicTrinomial>>::assert_two_adic(
+    <Plain<M31> as PolynomialCalls<3, Cubic>>::assert_two_adic(
         &rt,
         1,
         &[(1, [30, 0, 0])],
         &[],
     );
     assert_streams::<F31t3>(&rt, trinomial_tables::F31T3.streams)?;
-    <Plain<M31> as TrinomialCalls<3, CubicTrinomial>>::assert_extension(
+    <Plain<M31> as PolynomialCalls<3, Cubic>>::assert_extension(
         &rt,
         &trinomial_tables::F31T3,
         &[],
@@ -147,14 +147,14 @@ fn f31t3(rt: HostRuntime) -> Result<(), Fail> {
 
 #[test]
 fn f17t5(rt: HostRuntime) -> Result<(), Fail> {
-    <Plain<M17> as TrinomialCalls<5, QuinticTrinomial>>::assert_two_adic(
+    <Plain<M17> as PolynomialCalls<5, Quintic>>::assert_two_adic(
         &rt,
         4,
         &[(4, [3, 0, 0, 0, 0])],
         &[],
     );
     assert_streams::<F17t5>(&rt, trinomial_tables::F17T5.streams)?;
-    <Plain<M17> as TrinomialCalls<5, QuinticTrinomial>>::assert_extension(
+    <Plain<M17> as PolynomialCalls<5, Quintic>>::assert_extension(
         &rt,
         &trinomial_tables::F17T5,
         &[],
@@ -163,18 +163,18 @@ fn f17t5(rt: HostRuntime) -> Result<(), Fail> {
 
 #[test]
 fn f2t5(rt: HostRuntime) -> Result<(), Fail> {
-    <Plain<M2> as TrinomialCalls<5, QuinticTrinomial>>::assert_two_adic(
+    <Plain<M2> as PolynomialCalls<5, Quintic>>::assert_two_adic(
         &rt,
         0,
         &[(0, [1, 0, 0, 0, 0])],
         &[],
     );
-    <Plain<M2> as TrinomialCalls<5, QuinticTrinomial>>::assert_inverses_or_zero(
+    <Plain<M2> as PolynomialCalls<5, Quintic>>::assert_inverses_or_zero(
         &rt,
         &[([0, 1, 0, 0, 0], [0, 1, 0, 0, 1])],
     );
     assert_streams::<F2t5>(&rt, trinomial_tables::F2T5.streams)?;
-    <Plain<M2> as TrinomialCalls<5, QuinticTrinomial>>::assert_extension(
+    <Plain<M2> as PolynomialCalls<5, Quintic>>::assert_extension(
         &rt,
         &trinomial_tables::F2T5,
         roots::F2T5,

@@ -8,13 +8,10 @@ use crate::calls;
 use crate::extension_tables::Table;
 use crate::square_root_tables::Root;
 use p3_bench_prime::binomial_constants::BinomialConstants;
-use p3_bench_prime::form::Form;
+use p3_bench_prime::form::{Form, OverModulus};
 use p3_bench_prime::fp::Fp;
-use p3_bench_prime::two_adic_constants::{TwoAdicBinomialConstants, TwoAdicTrinomialConstants};
-use p3_field::extension::{
-    BinomialExtensionField, CubicTrinomial, CubicTrinomialExtensionField, QuinticTrinomial,
-    QuinticTrinomialExtensionField,
-};
+use p3_bench_prime::two_adic_constants::{TwoAdicBinomialConstants, TwoAdicPolynomialConstants};
+use p3_field::extension::{BinomialExtensionField, ExtField, IntegerPolynomial, Modulo};
 use std::process::Abort;
 use std::test::Fail;
 
@@ -35,7 +32,10 @@ pub trait BinomialCalls<const D: usize>: Form<u32> {
         requires { IsSome (extension_size (Some Self.ORDER) D) };
 }
 
-impl<W: BinomialConstants<D>, const D: usize> BinomialCalls<D> for W {
+impl<W: OverModulus<u32>, const D: usize> BinomialCalls<D> for W
+where
+    W::Modulus: BinomialConstants<D>,
+{
     fn constants() -> [u64; 4] {
         calls::constants::<Fp<W>, D>()
     }
@@ -65,7 +65,10 @@ pub trait TwoAdicBinomialCalls<const D: usize>: Form<u32> {
         requires { IsSome (extension_size (Some Self.ORDER) D) };
 }
 
-impl<W: TwoAdicBinomialConstants<D>, const D: usize> TwoAdicBinomialCalls<D> for W {
+impl<W: OverModulus<u32>, const D: usize> TwoAdicBinomialCalls<D> for W
+where
+    W::Modulus: TwoAdicBinomialConstants<D>,
+{
     fn assert_two_adic(
         rt: &impl Abort,
         two_adicity: usize,
@@ -81,8 +84,8 @@ impl<W: TwoAdicBinomialConstants<D>, const D: usize> TwoAdicBinomialCalls<D> for
     }
 }
 
-/// The calls at the extension of degree D by a trinomial S that has two-adic generators.
-pub trait TrinomialCalls<const D: usize, S>: Form<u32> {
+/// The calls at the extension of degree D modulo the polynomial S that has two-adic generators.
+pub trait PolynomialCalls<const D: usize, S>: Form<u32> {
     /// Asserts inverses, or zeros where there is none.
     fn assert_inverses_or_zero(rt: &impl Abort, rows: &[([u64; D], [u64; D])]);
 
@@ -104,18 +107,21 @@ pub trait TrinomialCalls<const D: usize, S>: Form<u32> {
         requires { IsSome (extension_size (Some Self.ORDER) D) };
 }
 
-impl<W: TwoAdicTrinomialConstants<3, CubicTrinomial>> TrinomialCalls<3, CubicTrinomial> for W {
-    fn assert_inverses_or_zero(rt: &impl Abort, rows: &[([u64; 3], [u64; 3])]) {
-        calls::assert_inverses_or_zero::<CubicTrinomialExtensionField<Fp<W>>>(rt, rows)
+impl<W: OverModulus<u32>, S: IntegerPolynomial<D>, const D: usize> PolynomialCalls<D, S> for W
+where
+    W::Modulus: TwoAdicPolynomialConstants<D, S>,
+{
+    fn assert_inverses_or_zero(rt: &impl Abort, rows: &[([u64; D], [u64; D])]) {
+        calls::assert_inverses_or_zero::<ExtField<Fp<W>, D, Modulo<S, D>, Fp<W>>>(rt, rows)
     }
 
     fn assert_two_adic(
         rt: &impl Abort,
         two_adicity: usize,
-        generators: &[(usize, [u64; 3])],
-        roots: &[Root<[u64; 3]>],
+        generators: &[(usize, [u64; D])],
+        roots: &[Root<[u64; D]>],
     ) {
-        calls::assert_two_adic::<CubicTrinomialExtensionField<Fp<W>>>(
+        calls::assert_two_adic::<ExtField<Fp<W>, D, Modulo<S, D>, Fp<W>>>(
             rt,
             two_adicity,
             generators,
@@ -125,37 +131,9 @@ impl<W: TwoAdicTrinomialConstants<3, CubicTrinomial>> TrinomialCalls<3, CubicTri
 
     fn assert_extension(
         rt: &(impl Abort + AllocGlobal),
-        table: &Table<[u64; 3]>,
-        roots: &[Root<[u64; 3]>],
+        table: &Table<[u64; D]>,
+        roots: &[Root<[u64; D]>],
     ) -> Result<(), Fail> {
-        calls::assert_extension::<CubicTrinomialExtensionField<Fp<W>>>(rt, table, roots)
-    }
-}
-
-impl<W: TwoAdicTrinomialConstants<5, QuinticTrinomial>> TrinomialCalls<5, QuinticTrinomial> for W {
-    fn assert_inverses_or_zero(rt: &impl Abort, rows: &[([u64; 5], [u64; 5])]) {
-        calls::assert_inverses_or_zero::<QuinticTrinomialExtensionField<Fp<W>>>(rt, rows)
-    }
-
-    fn assert_two_adic(
-        rt: &impl Abort,
-        two_adicity: usize,
-        generators: &[(usize, [u64; 5])],
-        roots: &[Root<[u64; 5]>],
-    ) {
-        calls::assert_two_adic::<QuinticTrinomialExtensionField<Fp<W>>>(
-            rt,
-            two_adicity,
-            generators,
-            roots,
-        )
-    }
-
-    fn assert_extension(
-        rt: &(impl Abort + AllocGlobal),
-        table: &Table<[u64; 5]>,
-        roots: &[Root<[u64; 5]>],
-    ) -> Result<(), Fail> {
-        calls::assert_extension::<QuinticTrinomialExtensionField<Fp<W>>>(rt, table, roots)
+        calls::assert_extension::<ExtField<Fp<W>, D, Modulo<S, D>, Fp<W>>>(rt, table, roots)
     }
 }

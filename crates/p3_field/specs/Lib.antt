@@ -18,10 +18,10 @@ pub use Rattle.p3_theory.specs.Lists.TabulatedPlaces
 pub use Rattle.p3_theory.specs.Polynomials.BaseProduct
 pub use Rattle.p3_theory.specs.Polynomials.Coefficients
 pub use Rattle.p3_theory.specs.Polynomials.HornerFold
+pub use Rattle.p3_theory.specs.Polynomials.IntegerPolynomials
 pub use Rattle.p3_theory.specs.Polynomials.Polynomial
 pub use Rattle.p3_theory.specs.Polynomials.Text
 pub use Rattle.p3_theory.specs.Products.ComplexExtensions
-pub use Rattle.p3_theory.specs.Products.Trinomials
 pub use Rattle.p3_theory.specs.ResidueRings.BitLength
 pub use Rattle.p3_theory.specs.ResidueRings.ResidueGenerators
 pub use Rattle.p3_theory.specs.ResidueRings.Residues
@@ -68,6 +68,7 @@ pub use Rattle.p3_batch_inverse.specs.Inverses
 pub use Rattle.p3_limbs.specs.Digits
 pub use Rattle.p3_columns.specs.Columns
 pub use Rattle.p3_products.specs.Entries
+pub use Rattle.p3_products.specs.Trinomials
 pub use Rattle.p3_ext.specs.Bases
 pub use Rattle.p3_ext.specs.BinomialShape
 pub use Rattle.p3_ext.specs.ComplexValues
@@ -81,9 +82,8 @@ pub use Rattle.p3_ext.specs.ValueBytes
 pub use Rattle.p3_ext.specs.ValueOrder
 pub use Rattle.p3_ext.specs.Values
 pub use Rattle.p3_ext.specs.declared.extension.Binomial.{Binomial}
-pub use Rattle.p3_ext.specs.declared.extension.CubicTrinomial.{CubicTrinomial}
-pub use Rattle.p3_ext.specs.declared.extension.QuinticTrinomial.{QuinticTrinomial}
 pub use Rattle.p3_ext.specs.declared.extension.ext_field.ExtField.{ExtField}
+pub use Rattle.p3_ext.specs.declared.extension.polynomial_extension.Modulo.{Modulo}
 pub use Rattle.p3_runs.specs.FieldRuns
 pub use Rattle.p3_runs.specs.Runs
 pub use Rattle.p3_packed.specs.PackedValues

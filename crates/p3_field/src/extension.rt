@@ -1,14 +1,16 @@
-//! Extensions by X^D = W and by trinomials, and packings of their values.
+//! Extensions by X^D = W and modulo polynomials with integer coefficients, and packings of their values.
 pub use p3_ext::extension::{
     Binomial, BinomialExtensionField, BinomiallyExtendable, ByteCountFits, Complex,
-    ComplexExtendable, CubicTrinomial, CubicTrinomialExtendable, CubicTrinomialExtensionField,
-    ExtField, ExtensionAlgebra, ExtensionOverAlgebra, ExtensionProduct, ExtensionShape,
-    FrobeniusExtendable, HasComplexBinomialExtension, HasFrobenius, HasTwoAdicBinomialExtension,
+    ComplexExtendable, Cubic, CubicTrinomial, CubicTrinomialExtendable,
+    CubicTrinomialExtensionField, ExtField, ExtendableModulo, ExtensionAlgebra,
+    ExtensionOverAlgebra, ExtensionProduct, ExtensionShape, FrobeniusExtendable,
+    HasComplexBinomialExtension, HasFrobenius, HasTwoAdicBinomialExtension,
     HasTwoAdicComplexBinomialExtension, HasTwoAdicCubicExtension, HasTwoAdicQuinticExtension,
-    InverseByFormula, NestedByteCountFits, PackedProduct, QuinticTrinomial,
-    QuinticTrinomialExtendable, QuinticTrinomialExtensionField, TwoAdicExtendable, binomial_mul,
-    binomial_square, cubic_square, octic_mul, quartic_mul, quintic_mul, quintic_square,
-    trinomial_cubic_mul, trinomial_quintic_mul, vector_add, vector_sub,
+    IntegerPolynomial, InverseByFormula, Modulo, NestedByteCountFits, PackedProduct, Quintic,
+    QuinticTrinomial, QuinticTrinomialExtendable, QuinticTrinomialExtensionField,
+    TwoAdicExtendable, binomial_mul, binomial_square, cubic_square, octic_mul, quartic_mul,
+    quintic_mul, quintic_square, trinomial_cubic_mul, trinomial_quintic_mul, vector_add,
+    vector_sub,
 };
 pub use p3_packed::holds_scalar::HoldsScalar;
 pub use p3_packed::packed_ext_field::{

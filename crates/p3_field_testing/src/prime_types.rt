@@ -6,7 +6,7 @@ use crate::cosets::assert_cosets;
 use crate::prime_tables as tables;
 use crate::prime_values::{assert_calls, assert_halves, assert_streams};
 use p3_bench_prime::baby_bear::BabyBearModulus;
-use p3_bench_prime::form::{Plain, Word};
+use p3_bench_prime::form::{OverModulus, Plain, Word};
 use p3_bench_prime::fp::Fp;
 use p3_bench_prime::goldilocks::GoldilocksForm;
 use p3_bench_prime::koala_bear::KoalaBearModulus;
@@ -17,22 +17,27 @@ use std::process::Abort;
 use std::test::Fail;
 
 /// Asserts lines of calls and of cosets.
-fn assert_prime<W: TwoAdicConstants<T>, T: Word>(
+fn assert_prime<W: OverModulus<T>, T: Word>(
     rt: &(impl Abort + AllocGlobal),
     calls: &str,
     cosets: &str,
-) -> Result<(), Fail> {
+) -> Result<(), Fail>
+where
+    W::Modulus: TwoAdicConstants,
+{
     assert_cosets::<Fp<W, T>>(rt, cosets);
     assert_calls::<Fp<W, T>>(rt, calls)
 }
 
 /// Asserts lines of calls, of cosets and of halves.
-fn assert_odd<W: TwoAdicConstants<T>, T: Word>(
+fn assert_odd<W: OverModulus<T>, T: Word>(
     rt: &(impl Abort + AllocGlobal),
     calls: &str,
     cosets: &str,
     halves: &str,
 ) -> Result<(), Fail>
+where
+    W::Modulus: TwoAdicConstants,
     requires { W.ORDER % 2 ≡ 1 }
 {
     assert_halves::<Fp<W, T>>(rt, halves);

@@ -10,21 +10,24 @@ use p3_bench_packed::lanes::{LaneCount, Lanes};
 use p3_bench_packed::packed::Packed;
 use p3_bench_prime::baby_bear::BabyBearModulus;
 use p3_bench_prime::binomial_constants::BinomialConstants;
-use p3_bench_prime::form::{Form, Plain};
+use p3_bench_prime::form::{Form, OverModulus, Plain};
 use p3_bench_prime::fp::Fp;
 use p3_bench_prime::montgomery::Montgomery;
+use p3_bench_prime::polynomial_constants::PolynomialConstants;
 use p3_bench_prime::small::{M17, M31};
-use p3_bench_prime::trinomial_constants::TrinomialConstants;
-use p3_ext::extension::{Binomial, CubicTrinomial, QuinticTrinomial};
+use p3_ext::extension::{Binomial, Cubic, IntegerPolynomial, Modulo, Quintic};
 use std::alloc::{AllocError, Global};
 use std::process::Abort;
 use std::test::Fail;
 
 /// A row's call over packings of 1, 4 or 8 values of the extension by `X^2 = W`.
-fn over_quadratic<W: BinomialConstants<2>>(
+fn over_quadratic<W: OverModulus<u32>>(
     alloc: Global,
     row: Row<'_>,
-) -> Result<Option<bool>, AllocError> {
+) -> Result<Option<bool>, AllocError>
+where
+    W::Modulus: BinomialConstants<2>,
+{
     match row.lanes {
         "1" => <Fp<W> as ExtensionCalls<Binomial<Fp<W>>, 2, 1>>::extension_agrees(alloc, None, row),
         "4" => <Fp<W> as ExtensionCalls<Binomial<Fp<W>>, 2, 4>>::extension_agrees(alloc, None, row),
@@ -34,10 +37,13 @@ fn over_quadratic<W: BinomialConstants<2>>(
 }
 
 /// The same of the extension by `X^4 = W`.
-fn over_quartic<W: BinomialConstants<4>>(
+fn over_quartic<W: OverModulus<u32>>(
     alloc: Global,
     row: Row<'_>,
-) -> Result<Option<bool>, AllocError> {
+) -> Result<Option<bool>, AllocError>
+where
+    W::Modulus: BinomialConstants<4>,
+{
     match row.lanes {
         "1" => <Fp<W> as ExtensionCalls<Binomial<Fp<W>>, 4, 1>>::extension_agrees(alloc, None, row),
         "4" => <Fp<W> as ExtensionCalls<Binomial<Fp<W>>, 4, 4>>::extension_agrees(alloc, None, row),
@@ -54,49 +60,37 @@ type CallRooms<W, S, const D: usize, const N: usize> = ExtensionRooms<
     D,
 >;
 
-/// A row's call over packings of N values of the extension by `X^3 = X + 1`. That packings and what calls
+/// A row's call over packings of N values of the extension modulo a polynomial. That packings and what calls
 /// make values of are named tells that they have room; nothing is read of them.
-fn cubic_agrees<W: TrinomialConstants<3, CubicTrinomial> + LaneCount<N>, const N: usize>(
+fn polynomial_agrees<
+    W: OverModulus<u32> + LaneCount<N>,
+    S: IntegerPolynomial<D>,
+    const D: usize,
+    const N: usize,
+>(
     alloc: Global,
     _packing: Option<Packed<Fp<W>, N>>,
-    rooms: Option<CallRooms<W, CubicTrinomial, 3, N>>,
+    rooms: Option<CallRooms<W, Modulo<S, D>, D, N>>,
     row: Row<'_>,
-) -> Result<Option<bool>, AllocError> {
-    <Fp<W> as ExtensionCalls<CubicTrinomial, 3, N>>::extension_agrees(alloc, rooms, row)
+) -> Result<Option<bool>, AllocError>
+where
+    W::Modulus: PolynomialConstants<D, S>,
+{
+    <Fp<W> as ExtensionCalls<Modulo<S, D>, D, N>>::extension_agrees(alloc, rooms, row)
 }
 
-/// The same of the extension by `X^5 = 1 - X^2`.
-fn quintic_agrees<W: TrinomialConstants<5, QuinticTrinomial> + LaneCount<N>, const N: usize>(
-    alloc: Global,
-    _packing: Option<Packed<Fp<W>, N>>,
-    rooms: Option<CallRooms<W, QuinticTrinomial, 5, N>>,
-    row: Row<'_>,
-) -> Result<Option<bool>, AllocError> {
-    <Fp<W> as ExtensionCalls<QuinticTrinomial, 5, N>>::extension_agrees(alloc, rooms, row)
-}
-
-/// A row's call over packings of 1, 4 or 8 values of the extension by `X^3 = X + 1`.
-fn over_cubic<W: TrinomialConstants<3, CubicTrinomial>>(
+/// The same at 1, 4 or 8 lanes.
+fn over_polynomial<W: OverModulus<u32>, S: IntegerPolynomial<D>, const D: usize>(
     alloc: Global,
     row: Row<'_>,
-) -> Result<Option<bool>, AllocError> {
+) -> Result<Option<bool>, AllocError>
+where
+    W::Modulus: PolynomialConstants<D, S>,
+{
     match row.lanes {
-        "1" => cubic_agrees::<W, 1>(alloc, None, None, row),
-        "4" => cubic_agrees::<W, 4>(alloc, None, None, row),
-        "8" => cubic_agrees::<W, 8>(alloc, None, None, row),
-        _ => Ok(None),
-    }
-}
-
-/// The same of the extension by `X^5 = 1 - X^2`.
-fn over_quintic<W: TrinomialConstants<5, QuinticTrinomial>>(
-    alloc: Global,
-    row: Row<'_>,
-) -> Result<Option<bool>, AllocError> {
-    match row.lanes {
-        "1" => quintic_agrees::<W, 1>(alloc, None, None, row),
-        "4" => quintic_agrees::<W, 4>(alloc, None, None, row),
-        "8" => quintic_agrees::<W, 8>(alloc, None, None, row),
+        "1" => polynomial_agrees::<W, S, D, 1>(alloc, None, None, row),
+        "4" => polynomial_agrees::<W, S, D, 4>(alloc, None, None, row),
+        "8" => polynomial_agrees::<W, S, D, 8>(alloc, None, None, row),
         _ => Ok(None),
     }
 }
@@ -131,8 +125,8 @@ fn agrees(alloc: Global, line: &str) -> Result<Option<bool>, AllocError> {
         "f17" => over_base::<Plain<M17>>(alloc, row),
         "f17x2" => over_quadratic::<Plain<M17>>(alloc, row),
         "f17x4" => over_quartic::<Plain<M17>>(alloc, row),
-        "f17t5" => over_quintic::<Plain<M17>>(alloc, row),
-        "f31t3" => over_cubic::<Plain<M31>>(alloc, row),
+        "f17t5" => over_polynomial::<Plain<M17>, Quintic, 5>(alloc, row),
+        "f31t3" => over_polynomial::<Plain<M31>, Cubic, 3>(alloc, row),
         "bbx4" => over_quartic::<Montgomery<BabyBearModulus>>(alloc, row),
         _ => Ok(None),
     }

@@ -7,13 +7,14 @@ use p3_bench_packed::lanes::{LaneCount, Lanes};
 use p3_bench_packed::packed::Packed;
 use p3_bench_prime::baby_bear::BabyBearModulus;
 use p3_bench_prime::binomial_constants::BinomialConstants;
-use p3_bench_prime::form::Plain;
+use p3_bench_prime::form::{OverModulus, Plain};
 use p3_bench_prime::fp::Fp;
 use p3_bench_prime::montgomery::Montgomery;
+use p3_bench_prime::polynomial_constants::PolynomialConstants;
 use p3_bench_prime::small::{M17, M31};
-use p3_bench_prime::trinomial_constants::TrinomialConstants;
 use p3_ext::extension::{
-    Binomial, CubicTrinomial, ExtField, ExtensionOverAlgebra, ExtensionShape, FrobeniusExtendable,
+    Binomial, Cubic, ExtField, ExtensionOverAlgebra, ExtensionShape, FrobeniusExtendable,
+    IntegerPolynomial, Modulo,
 };
 use p3_packed::packed_ext_field::{PackedExtField, Packing};
 use p3_packed_testing::rows::Row;
@@ -98,40 +99,57 @@ type RunVectors<W, S, const D: usize, const N: usize> = Vectors<
 
 /// A row's run over vectors of packings of N values of the extension by `X^2 = W`. That packings and
 /// vectors are named tells that they have room; nothing is read of them.
-fn quadratic_run_agrees<W: BinomialConstants<2> + LaneCount<N>, const N: usize>(
+fn quadratic_run_agrees<W: OverModulus<u32> + LaneCount<N>, const N: usize>(
     alloc: Global,
     _packing: Option<Packed<Fp<W>, N>>,
     vectors: Option<RunVectors<W, Binomial<Fp<W>>, 2, N>>,
     row: Row<'_>,
-) -> Result<Option<bool>, AllocError> {
+) -> Result<Option<bool>, AllocError>
+where
+    W::Modulus: BinomialConstants<2>,
+{
     <Fp<W> as ExtensionRuns<Binomial<Fp<W>>, 2, N>>::extension_runs_agree(alloc, vectors, row)
 }
 
 /// The same of the extension by `X^4 = W`.
-fn quartic_run_agrees<W: BinomialConstants<4> + LaneCount<N>, const N: usize>(
+fn quartic_run_agrees<W: OverModulus<u32> + LaneCount<N>, const N: usize>(
     alloc: Global,
     _packing: Option<Packed<Fp<W>, N>>,
     vectors: Option<RunVectors<W, Binomial<Fp<W>>, 4, N>>,
     row: Row<'_>,
-) -> Result<Option<bool>, AllocError> {
+) -> Result<Option<bool>, AllocError>
+where
+    W::Modulus: BinomialConstants<4>,
+{
     <Fp<W> as ExtensionRuns<Binomial<Fp<W>>, 4, N>>::extension_runs_agree(alloc, vectors, row)
 }
 
-/// The same of the extension by `X^3 = X + 1`.
-fn cubic_run_agrees<W: TrinomialConstants<3, CubicTrinomial> + LaneCount<N>, const N: usize>(
+/// The same of the extension modulo a polynomial.
+fn polynomial_run_agrees<
+    W: OverModulus<u32> + LaneCount<N>,
+    S: IntegerPolynomial<D>,
+    const D: usize,
+    const N: usize,
+>(
     alloc: Global,
     _packing: Option<Packed<Fp<W>, N>>,
-    vectors: Option<RunVectors<W, CubicTrinomial, 3, N>>,
+    vectors: Option<RunVectors<W, Modulo<S, D>, D, N>>,
     row: Row<'_>,
-) -> Result<Option<bool>, AllocError> {
-    <Fp<W> as ExtensionRuns<CubicTrinomial, 3, N>>::extension_runs_agree(alloc, vectors, row)
+) -> Result<Option<bool>, AllocError>
+where
+    W::Modulus: PolynomialConstants<D, S>,
+{
+    <Fp<W> as ExtensionRuns<Modulo<S, D>, D, N>>::extension_runs_agree(alloc, vectors, row)
 }
 
 /// The runs at 4 and 8 lanes.
-fn runs_over_quadratic<W: BinomialConstants<2>>(
+fn runs_over_quadratic<W: OverModulus<u32>>(
     alloc: Global,
     row: Row<'_>,
-) -> Result<Option<bool>, AllocError> {
+) -> Result<Option<bool>, AllocError>
+where
+    W::Modulus: BinomialConstants<2>,
+{
     match row.lanes {
         "4" => quadratic_run_agrees::<W, 4>(alloc, None, None, row),
         "8" => quadratic_run_agrees::<W, 8>(alloc, None, None, row),
@@ -140,10 +158,13 @@ fn runs_over_quadratic<W: BinomialConstants<2>>(
 }
 
 /// The same at degree 4.
-fn runs_over_quartic<W: BinomialConstants<4>>(
+fn runs_over_quartic<W: OverModulus<u32>>(
     alloc: Global,
     row: Row<'_>,
-) -> Result<Option<bool>, AllocError> {
+) -> Result<Option<bool>, AllocError>
+where
+    W::Modulus: BinomialConstants<4>,
+{
     match row.lanes {
         "4" => quartic_run_agrees::<W, 4>(alloc, None, None, row),
         "8" => quartic_run_agrees::<W, 8>(alloc, None, None, row),
@@ -151,14 +172,17 @@ fn runs_over_quartic<W: BinomialConstants<4>>(
     }
 }
 
-/// The same at degree 3.
-fn runs_over_cubic<W: TrinomialConstants<3, CubicTrinomial>>(
+/// The same modulo a polynomial.
+fn runs_over_polynomial<W: OverModulus<u32>, S: IntegerPolynomial<D>, const D: usize>(
     alloc: Global,
     row: Row<'_>,
-) -> Result<Option<bool>, AllocError> {
+) -> Result<Option<bool>, AllocError>
+where
+    W::Modulus: PolynomialConstants<D, S>,
+{
     match row.lanes {
-        "4" => cubic_run_agrees::<W, 4>(alloc, None, None, row),
-        "8" => cubic_run_agrees::<W, 8>(alloc, None, None, row),
+        "4" => polynomial_run_agrees::<W, S, D, 4>(alloc, None, None, row),
+        "8" => polynomial_run_agrees::<W, S, D, 8>(alloc, None, None, row),
         _ => Ok(None),
     }
 }
@@ -171,7 +195,7 @@ fn run_agrees(alloc: Global, line: &str) -> Result<Option<bool>, AllocError> {
     };
     match row.field {
         "f17x2" => runs_over_quadratic::<Plain<M17>>(alloc, row),
-        "f31t3" => runs_over_cubic::<Plain<M31>>(alloc, row),
+        "f31t3" => runs_over_polynomial::<Plain<M31>, Cubic, 3>(alloc, row),
         "bbx4" => runs_over_quartic::<Montgomery<BabyBearModulus>>(alloc, row),
         _ => Ok(None),
     }
