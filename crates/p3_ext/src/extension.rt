@@ -288,18 +288,8 @@ impl<F: CubicTrinomialExtendable + TwoAdicExtendable<3, CubicTrinomial>> HasTwoA
     for F {}
 
 /// A field with a Frobenius map for its extension of degree 5 by `X^5 = 1 - X^2`: whoever gives the table
-/// of that polynomial. Upstream's `QuinticTrinomialExtendable`.
-pub trait QuinticTrinomialExtendable: ExtendableModulo<5, Quintic> {
-    /// The coefficient at `X^k` of power i + 1 of the image of X. Upstream's `FROBENIUS_COEFFS`.
-    #[inline]
-    final fn frobenius_coeffs(i: usize, k: usize) -> Self
-        requires power { i < 4 }
-        requires place { k < 5 }
-        ensures { result ≡ at Self.ops (power (quotient_ops Self.ops 5 Self.modulus) Self.ExtendableModulo.image (i + 1)) k }
-    {
-        Self::power_of_image(i + 1, k)
-    }
-}
+/// of that polynomial; `frobenius_coeffs` reads it. Upstream's `QuinticTrinomialExtendable`.
+pub trait QuinticTrinomialExtendable: ExtendableModulo<5, Quintic> {}
 
 impl<F: ExtendableModulo<5, Quintic>> QuinticTrinomialExtendable for F {}
 

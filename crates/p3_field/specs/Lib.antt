@@ -12,9 +12,11 @@ pub use Rattle.p3_theory.specs.Lanes.Lanes
 pub use Rattle.p3_theory.specs.Lanes.RowRing
 pub use Rattle.p3_theory.specs.Lanes.Rows
 pub use Rattle.p3_theory.specs.Lanes.VectorLanes
+pub use Rattle.p3_theory.specs.Lists.ListItems
 pub use Rattle.p3_theory.specs.Lists.ListOrder
 pub use Rattle.p3_theory.specs.Lists.PairedLists
 pub use Rattle.p3_theory.specs.Lists.TabulatedPlaces
+pub use Rattle.p3_theory.specs.Lists.WrittenItems
 pub use Rattle.p3_theory.specs.Polynomials.BaseProduct
 pub use Rattle.p3_theory.specs.Polynomials.Coefficients
 pub use Rattle.p3_theory.specs.Polynomials.HornerFold
@@ -26,6 +28,9 @@ pub use Rattle.p3_theory.specs.ResidueRings.BitLength
 pub use Rattle.p3_theory.specs.ResidueRings.ResidueGenerators
 pub use Rattle.p3_theory.specs.ResidueRings.Residues
 pub use Rattle.p3_theory.specs.ResidueRings.RootsOfUnity
+pub use Rattle.p3_theory.specs.RingSolver.Reify
+pub use Rattle.p3_theory.specs.RingSolver.Solver
+pub use Rattle.p3_theory.specs.RingSolver.StraightLine
 pub use Rattle.p3_theory.specs.Rings.Accumulation
 pub use Rattle.p3_theory.specs.Rings.BooleanForms
 pub use Rattle.p3_theory.specs.Rings.ColumnwiseProducts

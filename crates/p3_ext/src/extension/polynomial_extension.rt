@@ -1,5 +1,5 @@
 //! Extensions modulo a polynomial with integer coefficients: one impl of each trait, for all of them.
-ghost use Rattle.std.specs.Prelude.{◌≡◌, ◌<◌, ℕ, List};
+ghost use Rattle.std.specs.Prelude.{◌≡◌, ◌<◌, ◌+◌, ℕ, List};
 ghost use Rattle.p3_theory.specs.FrobeniusMaps.FrobeniusTable.{IsFrobeniusTable};
 ghost use Rattle.p3_theory.specs.Polynomials.IntegerPolynomials.{over};
 ghost use Rattle.p3_theory.specs.Polynomials.Polynomial.{at, quotient_mul, quotient_ops};
@@ -92,6 +92,16 @@ pub trait ExtendableModulo<const D: usize, S: IntegerPolynomial<D>>: Field
     fn ext_generator(i: usize) -> Self
         requires { i < D }
         ensures { result ≡ ext_generator i };
+
+    /// The coefficient at `X^k` of power i + 1 of the image of X. Upstream's `FROBENIUS_COEFFS`.
+    #[inline]
+    final fn frobenius_coeffs(i: usize, k: usize) -> Self
+        requires power { i + 1 < D }
+        requires place { k < D }
+        ensures { result ≡ at Self.ops (power (quotient_ops Self.ops D Self.modulus) image (i + 1)) k }
+    {
+        Self::power_of_image(i + 1, k)
+    }
 
     /// The map keeps sums and products, fixes the base, is the identity after D times, and leaves only
     /// base values unchanged.
