@@ -1,4 +1,4 @@
 mod FirstSums
 mod FixedDegrees
-mod Formulas
 mod ProductRows
+mod Readings
