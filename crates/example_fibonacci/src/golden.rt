@@ -1,7 +1,7 @@
 //! The polynomial `X^2 - X - 1`.
-ghost use Rattle.std.specs.Prelude.{◌∷◌, [], codes, pos, refl};
+ghost use Rattle.std.specs.Prelude.{codes, refl};
 ghost use Rattle.std.proofs.Common.{lit≤};
-ghost use Rattle.p3_field.specs.IntegerPolynomials.{minus_one};
+ghost use Rattle.example_fibonacci.specs.Golden.{golden};
 
 use p3_field::PrimeCharacteristicRing;
 use p3_field::extension::IntegerPolynomial;
@@ -11,7 +11,7 @@ use p3_field::extension::IntegerPolynomial;
 pub struct Golden;
 
 impl IntegerPolynomial<2> for Golden {
-    ghost coefficients = { minus_one ∷ minus_one ∷ pos 1 ∷ [] };
+    ghost coefficients = { golden };
 
     ghost algebra_id = { codes "example:X^2-X-1" };
 

@@ -5,6 +5,5 @@
 
 pub mod golden;
 pub mod residues;
-
 #[cfg(test)]
 mod worked_values;

@@ -138,11 +138,8 @@ where
     ghost apart = { root_apart (is W.Form) D W.Modulus.DTH_ROOT W.Modulus.inverses (subst (λ n. is_root_of_unity n D W.Modulus.DTH_ROOT W.Modulus.inverses ≡ true) W.same_order W.Modulus.root_of_unity) };
 }
 
-impl<W: OverModulus<u32>, P: Algebra<Fp<W>>, const D: usize> PackedProduct<
-    P,
-    D,
-    Binomial<Fp<W>>,
-> for Fp<W>
+impl<W: OverModulus<u32>, P: Algebra<Fp<W>>, const D: usize> PackedProduct<P, D, Binomial<Fp<W>>>
+    for Fp<W>
 where
     W::Modulus: BinomialConstants<D>,
 {

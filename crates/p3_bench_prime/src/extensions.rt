@@ -8,12 +8,11 @@ use crate::baby_bear::{BabyBear, BabyBearModulus};
 use crate::binomial_constants::BinomialConstants;
 use crate::form::{Form, Plain, ShortForm};
 use crate::fp::Fp;
-use crate::small::{F2, F17, F17b, F31, M2, M15, M17, M17b, M31, Z15};
 use crate::polynomial_constants::PolynomialConstants;
+use crate::small::{F2, F17, F17b, F31, M2, M15, M17, M17b, M31, Z15};
 use p3_ext::extension::{
     BinomialExtensionField, ByteCountFits, Complex, ComplexExtendable, Cubic,
-    CubicTrinomialExtensionField, NestedByteCountFits, Quintic,
-    QuinticTrinomialExtensionField,
+    CubicTrinomialExtensionField, NestedByteCountFits, Quintic, QuinticTrinomialExtensionField,
 };
 
 /// The extension of `F17` by `X^2 = 3`.

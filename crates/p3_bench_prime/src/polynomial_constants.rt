@@ -41,11 +41,8 @@ pub trait PolynomialConstants<const D: usize, S: IntegerPolynomial<D>>: Order {
     ghost table: { TableProof (residues Self.order) D (over (residues Self.order) S.coefficients) image powers dual };
 }
 
-impl<W: Form<u32>, const D: usize, S: IntegerPolynomial<D>> ExtensionProduct<
-    Fp<W>,
-    D,
-    Modulo<S, D>,
-> for Fp<W> {
+impl<W: Form<u32>, const D: usize, S: IntegerPolynomial<D>> ExtensionProduct<Fp<W>, D, Modulo<S, D>>
+    for Fp<W> {
     ghost use Rattle.p3_theory.specs.Polynomials.Polynomial.{quotient_mul};
     ghost use Rattle.p3_bench_prime.specs.Elements.{ops};
 
@@ -57,11 +54,8 @@ impl<W: Form<u32>, const D: usize, S: IntegerPolynomial<D>> ExtensionProduct<
     }
 }
 
-impl<W: Form<u32>, const D: usize, S: IntegerPolynomial<D>> ExtensionAlgebra<
-    Fp<W>,
-    D,
-    Modulo<S, D>,
-> for Fp<W> {
+impl<W: Form<u32>, const D: usize, S: IntegerPolynomial<D>> ExtensionAlgebra<Fp<W>, D, Modulo<S, D>>
+    for Fp<W> {
     ghost use Rattle.std.specs.Prelude.{refl};
     ghost use Rattle.p3_theory.specs.Polynomials.IntegerPolynomials.{over_is_monic};
     ghost use Rattle.p3_bench_prime.specs.Elements.{ops};

@@ -52,8 +52,9 @@ where
 
     #[inline]
     fn two_adic_generator(bits: usize) -> Self {
-        Self::residue_of(<W::Modulus>::TOP_GENERATOR)
-            .exp_power_of_2(<W::Modulus>::TWO_ADICITY - bits)
+        Self::residue_of(<W::Modulus>::TOP_GENERATOR).exp_power_of_2(
+            <W::Modulus>::TWO_ADICITY - bits,
+        )
     }
 
     ghost generators = { residue_generators (is W.Form) W.Modulus.TWO_ADICITY W.Modulus.TOP_GENERATOR (subst (λ n. is_two_adic_generator n W.Modulus.TWO_ADICITY W.Modulus.TOP_GENERATOR ≡ true) W.same_order W.Modulus.generates) };

@@ -71,10 +71,10 @@ where
 /// Two-adic generators of the extension of `Fp` modulo the polynomial S, as a table of numbers, for the
 /// marker of an order. It stands for what upstream writes in each impl of `HasTwoAdicCubicExtension` and
 /// `HasTwoAdicQuinticExtension`.
-pub trait TwoAdicPolynomialConstants<
-    const D: usize,
-    S: IntegerPolynomial<D>,
->: PolynomialConstants<D, S> {
+pub trait TwoAdicPolynomialConstants<const D: usize, S: IntegerPolynomial<D>>: PolynomialConstants<
+    D,
+    S,
+> {
     /// The coefficients of the generators, a row for each number of bits.
     ghost generator_table: { List (List ℕ) };
 

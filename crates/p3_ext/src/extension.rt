@@ -40,9 +40,9 @@ pub use p3_products::integer_polynomial::IntegerPolynomial;
 pub use p3_products::quintic_extension::{Quintic, quintic_square, trinomial_quintic_mul};
 pub use p3_products::vectors::{vector_add, vector_sub};
 use p3_ring::ring::{Algebra, PrimeCharacteristicRing};
+pub use polynomial_extension::{ExtendableModulo, Modulo};
 use std::alloc::AllocError;
 use std::marker::PhantomData;
-pub use polynomial_extension::{ExtendableModulo, Modulo};
 pub use streams::{ByteCountFits, NestedByteCountFits};
 pub use two_adic::{
     HasTwoAdicBinomialExtension, HasTwoAdicComplexBinomialExtension, TwoAdicExtendable,
@@ -298,8 +298,9 @@ impl<F: ExtendableModulo<5, Quintic>> QuinticTrinomialExtendable for F {}
 pub trait HasTwoAdicQuinticExtension: QuinticTrinomialExtendable
     + TwoAdicExtendable<5, QuinticTrinomial> {}
 
-impl<F: QuinticTrinomialExtendable + TwoAdicExtendable<5, QuinticTrinomial>> HasTwoAdicQuinticExtension
-    for F {}
+impl<
+    F: QuinticTrinomialExtendable + TwoAdicExtendable<5, QuinticTrinomial>,
+> HasTwoAdicQuinticExtension for F {}
 
 /// A field whose extension has a Frobenius map: X becomes its image. It stands for what the
 /// shapes share; this project's own.

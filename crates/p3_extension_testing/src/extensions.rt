@@ -16,9 +16,7 @@ use p3_bench_prime::extensions::{
 use p3_bench_prime::form::Plain;
 use p3_bench_prime::montgomery::Montgomery;
 use p3_bench_prime::small::{F31, M2, M15, M17, M17b, M31};
-use p3_field::extension::{
-    BinomialExtensionField, ComplexExtendable, Cubic, Quintic,
-};
+use p3_field::extension::{BinomialExtensionField, ComplexExtendable, Cubic, Quintic};
 use std::process::Abort;
 use std::test::Fail;
 
@@ -131,18 +129,9 @@ fn bbx4(rt: HostRuntime) -> Result<(), Fail> {
 
 #[test]
 fn f31t3(rt: HostRuntime) -> Result<(), Fail> {
-    <Plain<M31> as PolynomialCalls<3, Cubic>>::assert_two_adic(
-        &rt,
-        1,
-        &[(1, [30, 0, 0])],
-        &[],
-    );
+    <Plain<M31> as PolynomialCalls<3, Cubic>>::assert_two_adic(&rt, 1, &[(1, [30, 0, 0])], &[]);
     assert_streams::<F31t3>(&rt, trinomial_tables::F31T3.streams)?;
-    <Plain<M31> as PolynomialCalls<3, Cubic>>::assert_extension(
-        &rt,
-        &trinomial_tables::F31T3,
-        &[],
-    )
+    <Plain<M31> as PolynomialCalls<3, Cubic>>::assert_extension(&rt, &trinomial_tables::F31T3, &[])
 }
 
 #[test]
