@@ -22,10 +22,12 @@ impl IntegerPolynomial<2> for Golden {
     /// By three products.
     #[inline]
     fn product<R: PrimeCharacteristicRing>(a: &[R], b: &[R], res: &mut [R]) {
-        let low = a[0] * b[0];
-        let high = a[1] * b[1];
-        let left = a[0] + a[1];
-        let right = b[0] + b[1];
+        let (a0, a1) = (a[0], a[1]);
+        let (b0, b1) = (b[0], b[1]);
+        let low = a0 * b0;
+        let high = a1 * b1;
+        let left = a0 + a1;
+        let right = b0 + b1;
         let whole = left * right;
         let c0 = low + high;
         let c1 = whole - low;
@@ -36,9 +38,10 @@ impl IntegerPolynomial<2> for Golden {
     /// By two squares and one product.
     #[inline]
     fn square<R: PrimeCharacteristicRing>(a: &[R], res: &mut [R]) {
-        let low = a[0].square();
-        let high = a[1].square();
-        let cross = a[0] * a[1];
+        let (a0, a1) = (a[0], a[1]);
+        let low = a0.square();
+        let high = a1.square();
+        let cross = a0 * a1;
         let twice = cross.double();
         let c0 = low + high;
         let c1 = twice + high;

@@ -52,9 +52,8 @@ where
 
     #[inline]
     fn two_adic_generator(bits: usize) -> Self {
-        Self::residue_of(<W::Modulus>::TOP_GENERATOR).exp_power_of_2(
-            <W::Modulus>::TWO_ADICITY - bits,
-        )
+        let top = Self::residue_of(<W::Modulus>::TOP_GENERATOR);
+        top.exp_power_of_2(<W::Modulus>::TWO_ADICITY - bits)
     }
 
     ghost generators = { residue_generators (is W.Form) W.Modulus.TWO_ADICITY W.Modulus.TOP_GENERATOR (subst (λ n. is_two_adic_generator n W.Modulus.TWO_ADICITY W.Modulus.TOP_GENERATOR ≡ true) W.same_order W.Modulus.generates) };
