@@ -4,7 +4,7 @@ ghost use Rattle.std.proofs.Common.{lit<, lit≤};
 
 use crate::golden::Golden;
 use p3_bench_prime::binomial_constants::BinomialConstants;
-use p3_bench_prime::form::{Modulus, Plain};
+use p3_bench_prime::form::{Modulus, Order, Plain};
 use p3_bench_prime::fp::Fp;
 use p3_bench_prime::polynomial_constants::PolynomialConstants;
 use p3_bench_prime::two_adic::{TopPowerConstants, TwoAdicConstants};
@@ -12,6 +12,12 @@ use p3_field::extension::{BinomialExtensionField, ExtField, Modulo};
 
 /// The marker of the order 97.
 pub struct M97;
+
+impl Order for M97 {
+    ghost order = { 97 };
+
+    ghost generator = { 5 };
+}
 
 impl Modulus for M97 {
     ghost ORDER = { 97 };
@@ -25,6 +31,10 @@ impl Modulus for M97 {
     const ORDER: u32 = 97;
 
     const GENERATOR: u32 = 5;
+
+    ghost same_order = { refl };
+
+    ghost same_generator = { refl };
 }
 
 /// The residues modulo 97.

@@ -155,8 +155,16 @@ pub trait ShortForm: Form<u32> {
     ghost short: { Self.ORDER < 2 ^ 31 };
 }
 
-/// A marker of an order.
-pub trait Modulus {
+/// A marker of an order, as numbers: the order, and the residue that is named as a generator. The constants
+/// of a field's extensions are stated over it, whatever the form of its words.
+pub trait Order {
+    ghost order: { ℕ };
+
+    ghost generator: { ℕ };
+}
+
+/// A marker of an order below 2^31.
+pub trait Modulus: Order {
     ghost ORDER: { ℕ };
 
     ghost GENERATOR: { ℕ };
@@ -170,20 +178,10 @@ pub trait Modulus {
 
     /// The residue that upstream names as a generator of the units. No clause says that it generates them.
     const GENERATOR: u32;
-}
 
-/// An order and the residue that is named as a generator, as numbers: what the constants of a field's
-/// extensions are stated over.
-pub trait Order {
-    ghost order: { ℕ };
+    ghost same_order: { Self.order ≡ ORDER };
 
-    ghost generator: { ℕ };
-}
-
-impl<M: Modulus> Order for M {
-    ghost order = { M.ORDER };
-
-    ghost generator = { M.GENERATOR };
+    ghost same_generator: { Self.generator ≡ GENERATOR };
 }
 
 /// A form of the residues modulo an order that a marker names. `Fp` takes its two-adic generators, its
@@ -306,13 +304,11 @@ impl<M: Modulus> Form<u32> for Plain<M> {
 }
 
 impl<M: Modulus> OverModulus<u32> for Plain<M> {
-    ghost use Rattle.std.specs.Prelude.{refl};
-
     type Modulus = M;
 
-    ghost same_order = { refl };
+    ghost same_order = { M.same_order };
 
-    ghost same_generator = { refl };
+    ghost same_generator = { M.same_generator };
 }
 
 impl<M: Modulus> ShortForm for Plain<M> {

@@ -1,6 +1,6 @@
 -- Values by their canonical coefficients: the coefficient lists represent them, and their text is that of the lists.
 use Rattle.std.specs.Prelude.{◌≡◌, ℕ, List, [], ◌∷◌, ◌++◌, length, map, refl, get_or, codes, decimal}
-use Rattle.std.proofs.Common.{ap, ap₂, arith, ◌∙◌, sym, append-nil, cond, inl, inr, drop, subst}
+use Rattle.std.proofs.Common.{ap, ap₂, arith, ◌∙◌, sym, append-nil, cond, inl, inr, drop}
 use Rattle.std.proofs.lemmas.Bool.{cases_eq, ne_eqb}
 use Rattle.std.proofs.lemmas.Fmt.{decimal_digit}
 use Rattle.p3_theory.specs.Rings.Ring.{Ops}
@@ -9,7 +9,7 @@ use Rattle.p3_theory.specs.Rings.Homomorphism.{length-map, quotient-map}
 use Rattle.p3_ext.specs.declared.extension.ext_field.ExtField.{ExtField}
 use Rattle.p3_ext.specs.Values.{value_of, same_value, ext_ops}
 use Rattle.p3_calculator_fields.specs.Display.{display}
-use Rattle.p3_calculator_fields.specs.Fields.{FieldSpec, ResiduesModulo, PolynomialsModulo, IsValue, AllBelow, generator_of}
+use Rattle.p3_calculator_fields.specs.Fields.{ResiduesModulo, PolynomialsModulo, IsValue, AllBelow}
 use Rattle.p3_calculator_fields.specs.Representation.{Represents}
 
 -- the one coefficient of a residue
@@ -78,15 +78,6 @@ module _ {A : Type 0} (n : ℕ) (O : Ops A) (canon : A → ℕ) (R : AreResidues
           mul = λ x y. kept.mul x.value y.value;
         };
       }
-
--- the same of a field by its numbers
-pub spec_represented : {F S A : Type 0} (n : ℕ) (O : Ops A) (canon : A → ℕ) → AreResidues n O canon → (D : ℕ) (f : List A) (g : List ℕ) (s : FieldSpec)
-    → s ≡ PolynomialsModulo n D (map canon f) g → Represents s (ext_ops {F = F} {D = D} {S = S} O f) (all_coefficients canon)
-spec_represented {F} {S} {A} n O canon R D f g s e =
-    subst (λ (t : FieldSpec). Represents t (ext_ops {F = F} {D = D} {S = S} O f) (all_coefficients canon)) (sym e) (extension_represented n O canon R {F = F} {S = S} D f g)
-
-pub spec_generator : {n D : ℕ} {f g : List ℕ} (s : FieldSpec) → s ≡ PolynomialsModulo n D f g → g ≡ generator_of s
-spec_generator s e = sym (ap generator_of e)
 
 -- the text of one coefficient is its decimal number
 pub display-one : (c : ℕ) → display (c ∷ []) ≡ decimal c

@@ -1,10 +1,10 @@
-pub mod Bank
 pub mod Bases
 pub mod Coefficients
 pub mod Display
 pub mod Fields
 pub mod Names
 pub mod Premise
+pub mod Registers
 pub mod Representation
 pub mod States
 pub mod Tables

@@ -17,6 +17,10 @@ impl<W: Form<u32>> Base for Fp<W> {
         W::ORDER
     }
 
+    fn zero_residue() -> Self {
+        Self::default()
+    }
+
     fn residue(canonical: u64) -> Self {
         Self::from_canonical_unchecked(canonical)
     }

@@ -1,4 +1,4 @@
-ghost use Rattle.std.specs.Prelude.{◌≡◌, ◌<◌, ◌^◌, ℕ, List, Option, map, slice_set, string_bytes, IfOk};
+ghost use Rattle.std.specs.Prelude.{◌≡◌, ◌<◌, ◌^◌, ℕ, List, Option, map, refl, slice_set, string_bytes, IfOk};
 ghost use Rattle.p3_theory.specs.Rings.Ring.{Ops, subtract};
 ghost use Rattle.p3_theory.specs.Rings.Powers.{power};
 ghost use Rattle.p3_theory.specs.Polynomials.Polynomial.{tabulate};
@@ -106,6 +106,10 @@ pub trait Base: Copy {
     fn base_order() -> u64
         ensures { result ≡ base_order };
 
+    /// Zero.
+    fn zero_residue() -> Self
+        ensures { canon result ≡ 0 };
+
     /// The residue with this canonical value.
     fn residue(canonical: u64) -> Self
         requires { canonical < base_order }
@@ -114,12 +118,6 @@ pub trait Base: Copy {
 
 /// A base whose extension of degree D by the shape S has a name in the calculator: what a name adds.
 pub trait Named<const D: usize, S: ExtensionShape>: Base + FrobeniusExtendable<D, S> {
-    /// The field by numbers.
-    ghost spec: { FieldSpec };
-
-    /// The numbers are those of the order, of the polynomial and of the generator candidate.
-    ghost is_spec: { spec ≡ PolynomialsModulo Self.base_order D (map Self.canon Self.modulus) (map Self.canon (tabulate D Self.generator_coefficients)) };
-
     /// The order of the extension is below 2^128, so that it is given.
     ghost order_fits: { Self.base_order ^ D < 2 ^ 128 };
 
@@ -130,9 +128,9 @@ pub trait Named<const D: usize, S: ExtensionShape>: Base + FrobeniusExtendable<D
 impl<F: Named<D, S>, const D: usize, S: ExtensionShape> CalculatorField for ExtField<F, D, S, F> {
     ghost use Rattle.p3_theory.specs.Polynomials.Coefficients.{length-tabulate};
     ghost use Rattle.p3_ext.specs.Values.{ext_ops, value_of};
-    ghost use Rattle.p3_calculator_fields.specs.Coefficients.{all_coefficients, spec_represented, spec_generator};
+    ghost use Rattle.p3_calculator_fields.specs.Coefficients.{all_coefficients, extension_represented};
 
-    ghost spec = { F.spec };
+    ghost spec = { PolynomialsModulo F.base_order D (map F.canon F.modulus) (map F.canon (tabulate D F.generator_coefficients)) };
 
     ghost coefficients = { all_coefficients F.canon };
 
@@ -198,7 +196,7 @@ impl<F: Named<D, S>, const D: usize, S: ExtensionShape> CalculatorField for ExtF
         self.to_string(alloc)
     }
 
-    ghost represents = { spec_represented F.base_order F.ops F.canon F.is_base.residues D F.modulus (map F.canon (tabulate D F.generator_coefficients)) F.spec F.is_spec };
+    ghost represents = { extension_represented F.base_order F.ops F.canon F.is_base.residues D F.modulus (map F.canon (tabulate D F.generator_coefficients)) };
 
-    ghost generator_is = { spec_generator F.spec F.is_spec };
+    ghost generator_is = { refl };
 }

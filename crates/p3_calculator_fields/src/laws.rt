@@ -1,10 +1,9 @@
 //! Laws of the fields that the calculator's premises speak of.
-ghost use Rattle.std.specs.Prelude.{◌≡◌, Some};
+ghost use Rattle.std.specs.Prelude.{◌≡◌, Some, codes};
 ghost use Rattle.p3_theory.specs.Rings.Powers.{power};
 ghost use Rattle.p3_theory.specs.Roots.SquareRoots.{FiniteFieldPremise};
 ghost use Rattle.p3_theory.specs.Rings.ZeroDivisors.{HasNoZeroDivisors};
-ghost use Rattle.p3_calculator_fields.specs.Names.{field_f2, field_f17, field_f31, field_f17x2, field_f31c};
-ghost use Rattle.p3_calculator_fields.specs.Premise.{MeetsPremise};
+ghost use Rattle.p3_calculator_fields.specs.Premise.{NameMeetsPremise};
 
 use p3_base::field::{Field, TwoAdicField};
 use p3_bench_prime::extensions::{F17x2, F31c};
@@ -67,7 +66,7 @@ pub fn premise_f31c()
 /// The numbers of `f2` as they stand meet the premise of a finite field, over coefficient lists. So a
 /// root that is missing there is a fault only where there is none.
 pub fn specification_f2_meets_the_premise()
-    ensures { MeetsPremise field_f2 }
+    ensures { NameMeetsPremise (codes "f2") }
 {
     premise_f2();
 }
@@ -75,7 +74,7 @@ pub fn specification_f2_meets_the_premise()
 /// The numbers of `f17` as they stand meet the premise of a finite field, over coefficient lists. So a
 /// root that is missing there is a fault only where there is none.
 pub fn specification_f17_meets_the_premise()
-    ensures { MeetsPremise field_f17 }
+    ensures { NameMeetsPremise (codes "f17") }
 {
     premise_f17();
 }
@@ -83,7 +82,7 @@ pub fn specification_f17_meets_the_premise()
 /// The numbers of `f31` as they stand meet the premise of a finite field, over coefficient lists. So a
 /// root that is missing there is a fault only where there is none.
 pub fn specification_f31_meets_the_premise()
-    ensures { MeetsPremise field_f31 }
+    ensures { NameMeetsPremise (codes "f31") }
 {
     premise_f31();
 }
@@ -91,7 +90,7 @@ pub fn specification_f31_meets_the_premise()
 /// The numbers of `f17x2` as they stand meet the premise of a finite field, over coefficient lists. So a
 /// root that is missing there is a fault only where there is none.
 pub fn specification_f17x2_meets_the_premise()
-    ensures { MeetsPremise field_f17x2 }
+    ensures { NameMeetsPremise (codes "f17x2") }
 {
     premise_f17x2();
 }
@@ -99,7 +98,7 @@ pub fn specification_f17x2_meets_the_premise()
 /// The numbers of `f31c` as they stand meet the premise of a finite field, over coefficient lists. So a
 /// root that is missing there is a fault only where there is none.
 pub fn specification_f31c_meets_the_premise()
-    ensures { MeetsPremise field_f31c }
+    ensures { NameMeetsPremise (codes "f31c") }
 {
     premise_f31c();
 }

@@ -2,10 +2,10 @@
 //! lists, and registers of them.
 #![tactic(auto)]
 
-pub mod bank;
 mod bases;
 pub mod field;
 pub mod laws;
+pub mod lists;
 pub mod names;
 mod primes;
 pub mod registers;

@@ -1,9 +1,12 @@
 //! Registers that are all zero, by the type of their values. No bound of a field is named here, so
 //! that a call at a name's own type passes the form of its words alone.
 ghost use Rattle.std.specs.Prelude.{◌≡◌, [], ◌∷◌, map, replicate};
-ghost use Rattle.p3_calculator_fields.specs.Bank.{canon};
+ghost use Rattle.p3_theory.specs.Polynomials.Polynomial.{embed};
+ghost use Rattle.p3_theory.specs.ResidueRings.Residues.{residues};
+ghost use Rattle.p3_calculator_fields.specs.Registers.{canon};
 ghost use Rattle.p3_calculator_fields.specs.Coefficients.{one_coefficient, all_coefficients};
 
+use crate::field::Base;
 use crate::registers::Registers;
 use p3_bench_prime::form::{Form, Word};
 use p3_bench_prime::fp::Fp;
@@ -17,13 +20,11 @@ pub fn zero_residues<W: Form<T>, T: Word>() -> Registers<Fp<W, T>>
     Registers { values: [zero; 16] }
 }
 
-/// Registers of polynomials over residues, of D coefficients each, that are all zero.
-pub fn zero_polynomials<W: Form<u32>, const D: usize, S: Copy>() -> Registers<
-    ExtField<Fp<W>, D, S, Fp<W>>,
->
-    ensures { map (all_coefficients canon) result.values ≡ replicate 16 (replicate D 0) }
+/// Registers of polynomials of D coefficients over a base that are all zero.
+pub fn zero_polynomials<F: Base, const D: usize, S: Copy>() -> Registers<ExtField<F, D, S, F>>
+    ensures { map (all_coefficients F.canon) result.values ≡ replicate 16 (embed (residues F.base_order) D 0) }
 {
-    let zero = Fp::default();
+    let zero = F::zero_residue();
     let value = ExtField::new([zero; D]);
     Registers {
         values: [value; 16],

@@ -10,12 +10,12 @@ use Rattle.p3_field_bench.specs.declared.machine.Stop.{Stop}
 use Rattle.p3_field_bench.specs.declared.machine.Stop.TheVariants.{AtFault, AtWrite}
 use Rattle.std.proofs.KnownBytes.{Appends-nil, Appends-trans}
 use Rattle.p3_field_bench.specs.Lines.{lines_of}
-use Rattle.p3_calculator_fields.specs.Bank.{state_of}
+use Rattle.p3_field_bench.specs.Bank.{state_of}
 use Rattle.p3_field_bench.specs.Effects.{Continues, Faults, May}
 use Rattle.p3_calculator_fields.specs.States.{State}
 use Rattle.p3_field_bench.specs.Text.{IsTextFrom, IsText, BeginsText, fault_line}
-use Rattle.p3_field_bench.proofs.Totality.{every_text, may_sound, bank_sound}
-use Rattle.p3_field_bench.specs.Standing.{Standing, Carried, Carries, HasNoEnd, ended}
+use Rattle.p3_field_bench.proofs.Totality.{every_text, may_sound}
+use Rattle.p3_field_bench.specs.Standing.{Standing, Sound, Carried, Carries, HasNoEnd, ended}
 use Rattle.p3_field_bench.proofs.LineLemmas.{lines_of-line, lines_of-lines, lines_of-rest, begun, HasNoEnd-append, HaveNoEnd-append, flat_map-append}
 
 -- the line that is pending
@@ -50,6 +50,7 @@ goes m after before text out st may number used =
           ∙ ap (λ l. flat_map ended (st.lines ++ line ∷ []) ++ l) (sym none);
       pending = subst HasNoEnd (sym none) tt;
       number = number ∙ omega (arith, st.number, length-append st.lines (line ∷ []));
+      sound = may_sound (state_of m.bank) line (Continues (state_of after.bank) out) st.sound may;
       goes_on = λ ls more status h.
           let here : IsTextFrom (m.number + 1) (state_of after.bank) ls more status = subst (λ (n : ℕ). IsTextFrom n (state_of after.bank) ls more status) number h in
           let all = st.goes_on (line ∷ ls) (out ++ more) status (Continues (state_of after.bank) out, may, (more, here, refl)) in
@@ -73,7 +74,7 @@ front_rest-more text out more n = sym (append_assoc (text ++ take n out) (drop n
 pub stopped : (m : Machine) (t : State) (before text out : List ℕ) (n : ℕ) → Standing m before text → May (state_of m.bank) (pending_of m) (Continues t out) → (more : List ℕ) → BeginsText (lines_of ((before ++ 10 ∷ []) ++ more)) (text ++ take n out)
 stopped m t before text out n st may more =
     let line = pending_of m in
-    let rest = every_text (m.number + 1) t (lines_of more) (may_sound (state_of m.bank) line (Continues t out) (bank_sound m.bank) may) in
+    let rest = every_text (m.number + 1) t (lines_of more) (may_sound (state_of m.bank) line (Continues t out) st.sound may) in
     let all = st.goes_on (line ∷ lines_of more) (out ++ rest.0) rest.1 (Continues t out, may, (rest.0, rest.2, refl)) in (
       drop n out ++ rest.0,
       rest.1,
@@ -110,6 +111,7 @@ letters m after before text bytes st ends state number pending = record {
   bytes_are = ap (λ b. b ++ bytes) st.bytes_are ∙ append_assoc (flat_map ended st.lines) (pending_of m) bytes ∙ ap (λ l. flat_map ended st.lines ++ l) (sym pending);
   pending = subst HasNoEnd (sym pending) (HasNoEnd-append (pending_of m) bytes st.pending ends);
   number = number ∙ st.number;
+  sound = subst (λ (s : State). Sound s.field) (sym state) st.sound;
   goes_on = λ ls more status h.
       let same : IsTextFrom m.number (state_of m.bank) ls more status = subst (λ (n : ℕ). IsTextFrom n (state_of m.bank) ls more status) number (subst (λ (s : State). IsTextFrom after.number s ls more status) state h) in
       subst (λ (t : List ℕ). IsText (st.lines ++ ls) (t ++ more) status) (sym (append-nil text)) (st.goes_on ls more status same);

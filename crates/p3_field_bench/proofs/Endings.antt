@@ -10,11 +10,11 @@ use Rattle.p3_field_bench.specs.declared.machine.Stop.{Stop}
 use Rattle.p3_field_bench.specs.declared.machine.Stop.TheVariants.{AtFault, AtWrite}
 use Rattle.p3_field_bench.specs.declared.faults.Fault.{Fault}
 use Rattle.p3_field_bench.specs.declared.faults.Fault.TheVariants.{ReadFault}
-use Rattle.p3_calculator_fields.specs.Bank.{state_of}
+use Rattle.p3_field_bench.specs.Bank.{state_of}
 use Rattle.p3_calculator_fields.specs.States.{State, no_field}
 use Rattle.p3_field_bench.specs.Lines.{lines_of}
 use Rattle.p3_field_bench.specs.Text.{IsTextFrom, IsText, rest_of, IsCutShort, RunEnds, fault_line, ends}
-use Rattle.p3_field_bench.specs.Standing.{Standing, Carries, Ended, EndedAt, StopsAtFailure, Finishes, HasNoEnd, HaveNoEnd, ended}
+use Rattle.p3_field_bench.specs.Standing.{Standing, Sound, Carries, Ended, EndedAt, StopsAtFailure, Finishes, HasNoEnd, HaveNoEnd, ended}
 use Rattle.p3_field_bench.proofs.Carrying.{pending_of, so_far, lines_now, front_rest}
 
 pub begin : (m : Machine) → m.number ≡ 1 → m.line.used ≡ 0 → state_of m.bank ≡ no_field → Standing m [] []
@@ -26,6 +26,7 @@ begin m number used state =
       bytes_are = sym none;
       pending = subst HasNoEnd (sym none) tt;
       number = number;
+      sound = subst (λ (s : State). Sound s.field) (sym state) tt;
       goes_on = λ ls more status h. subst (λ (n : ℕ). IsTextFrom n no_field ls more status) number (subst (λ (s : State). IsTextFrom m.number s ls more status) state h);
     }
 

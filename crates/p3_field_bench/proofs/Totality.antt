@@ -1,20 +1,8 @@
 -- Every input has a text: each line has an outcome, since it can be found whether a value has an inverse or a root.
-use Rattle.std.proofs.Common.{◌≡◌, ◌<◌, ℕ, ◌+◌, zero, suc, Bool, true, false, codes, MatchBool, List, [], ◌∷◌, ◌++◌, length, nat_lt, Option, Some, None, Result, Ok, Err, ◌⊎◌, ◌==◌, ◌&&◌, ◌∙◌, if◌then◌else◌, inl, inr, refl, ap, ap₂, ltb, arith, subst, sym}
+use Rattle.std.proofs.Common.{◌≡◌, ◌<◌, ℕ, ◌+◌, zero, suc, Bool, true, false, MatchBool, List, [], ◌∷◌, ◌++◌, length, nat_lt, Option, Some, None, Result, Ok, Err, ◌⊎◌, ◌==◌, ◌&&◌, ◌∙◌, if◌then◌else◌, inl, inr, refl, ap, ap₂, ltb, arith, subst, sym}
 use Rattle.std.specs.Str.{bytes_eq}
 use Rattle.std.proofs.lemmas.Bool.{cases_eq, eqb-true, ltb-true}
 use Rattle.p3_theory.specs.RingSolver.SolverSound.{and_true}
-use Rattle.p3_calculator_fields.specs.declared.bank.Bank.{Bank}
-use Rattle.p3_calculator_fields.specs.declared.bank.Group.{Group}
-use Rattle.p3_calculator_fields.specs.declared.bank.Group.TheVariants.{Empty, Residues, Quadratic, Middle, High}
-use Rattle.p3_calculator_fields.specs.declared.bank.ResidueBank.{ResidueBank}
-use Rattle.p3_calculator_fields.specs.declared.bank.ResidueBank.TheVariants.{F2, F17, F17b, F31, Z15, BabyBear, KoalaBear, Goldilocks}
-use Rattle.p3_calculator_fields.specs.declared.bank.QuadraticBank.{QuadraticBank}
-use Rattle.p3_calculator_fields.specs.declared.bank.QuadraticBank.TheVariants.{F17x2, F17bx2, Z15x2, F31c}
-use Rattle.p3_calculator_fields.specs.declared.bank.MiddleBank.{MiddleBank}
-use Rattle.p3_calculator_fields.specs.declared.bank.MiddleBank.TheVariants.{F31x3, F31t3, F17x4, BabyBearx4}
-use Rattle.p3_calculator_fields.specs.declared.bank.HighBank.{HighBank}
-use Rattle.p3_calculator_fields.specs.declared.bank.HighBank.TheVariants.{F31x5, F17t5, F2t5, F31x6, F17x8}
-use Rattle.p3_calculator_fields.specs.Bank.{state_of, group_state, residue_state, quadratic_state, middle_state, high_state}
 use Rattle.p3_field_bench.specs.declared.commands.Command.{Command}
 use Rattle.p3_field_bench.specs.declared.commands.Command.TheVariants.{Field, Compute}
 use Rattle.p3_field_bench.specs.declared.commands.Operation.{Operation}
@@ -28,6 +16,7 @@ use Rattle.p3_calculator_fields.specs.States.{State, at_field, register_at}
 use Rattle.p3_calculator_fields.specs.Fields.{FieldSpec, AllBelow, order, dimension, ops}
 use Rattle.p3_calculator_fields.specs.Names.{named_fields, field_named}
 use Rattle.p3_field_bench.specs.Lines.{words}
+use Rattle.p3_field_bench.specs.Standing.{ZeroIsSquare, Sound}
 use Rattle.p3_field_bench.specs.Text.{IsTextFrom, After, fault_line}
 use Rattle.p3_field_bench.specs.Words.{command_of, register, two_registers, three_registers, one_register, registers_and_number}
 use Rattle.p3_calculator_fields.specs.Tables.{lookup}
@@ -94,16 +83,7 @@ root_or_none s x = elim (decide_lists (dimension s) (order s) (λ y. (ops s).mul
   | inr none ↦ inr (λ f. none (f.0, f.1.0, f.1.1))
 ]
 
--- zero is a value, and its own square
-abbrev pub ZeroIsSquare : FieldSpec → Type 0
-ZeroIsSquare s = IsRoot s (ops s).zero (ops s).zero
-
--- the same of a chosen field
-abbrev pub Sound : Option FieldSpec → Type 0
-Sound None = Unit {0}
-Sound (Some s) = ZeroIsSquare s
-
--- and of the state after a line
+-- zero of the field that a line leaves is its own square
 abbrev pub SoundAfter : Outcome → Type 0
 SoundAfter (Continues st out) = Sound st.field
 SoundAfter (Faults fault) = Unit {0}
@@ -296,43 +276,3 @@ every_text n st (line ∷ lines) z =
     let o = some_outcome st line z in
     let r = after_outcome n o.0 (may_sound st line o.0 z o.1) (λ t more final. IsTextFrom (n + 1) t lines more final) (λ t k. every_text (n + 1) t lines k) in
     (r.0, r.1, (o.0, o.1, r.2))
-
--- the registers of a bank are of a field that has a name
-residue_sound : (bank : ResidueBank) → Sound (residue_state bank).field
-residue_sound (F2 regs) = named_sound (codes "f2")
-residue_sound (F17 regs) = named_sound (codes "f17")
-residue_sound (F17b regs) = named_sound (codes "f17b")
-residue_sound (F31 regs) = named_sound (codes "f31")
-residue_sound (Z15 regs) = named_sound (codes "z15")
-residue_sound (BabyBear regs) = named_sound (codes "bb")
-residue_sound (KoalaBear regs) = named_sound (codes "kb")
-residue_sound (Goldilocks regs) = named_sound (codes "gl")
-
-quadratic_sound : (bank : QuadraticBank) → Sound (quadratic_state bank).field
-quadratic_sound (F17x2 regs) = named_sound (codes "f17x2")
-quadratic_sound (F17bx2 regs) = named_sound (codes "f17bx2")
-quadratic_sound (Z15x2 regs) = named_sound (codes "z15x2")
-quadratic_sound (F31c regs) = named_sound (codes "f31c")
-
-middle_sound : (bank : MiddleBank) → Sound (middle_state bank).field
-middle_sound (F31x3 regs) = named_sound (codes "f31x3")
-middle_sound (F31t3 regs) = named_sound (codes "f31t3")
-middle_sound (F17x4 regs) = named_sound (codes "f17x4")
-middle_sound (BabyBearx4 regs) = named_sound (codes "bbx4")
-
-high_sound : (bank : HighBank) → Sound (high_state bank).field
-high_sound (F31x5 regs) = named_sound (codes "f31x5")
-high_sound (F17t5 regs) = named_sound (codes "f17t5")
-high_sound (F2t5 regs) = named_sound (codes "f2t5")
-high_sound (F31x6 regs) = named_sound (codes "f31x6")
-high_sound (F17x8 regs) = named_sound (codes "f17x8")
-
-group_sound : (group : Group) (bank : Bank) → Sound (group_state group bank).field
-group_sound Empty bank = tt
-group_sound Residues bank = residue_sound bank.residues
-group_sound Quadratic bank = quadratic_sound bank.quadratic
-group_sound Middle bank = middle_sound bank.middle
-group_sound High bank = high_sound bank.high
-
-pub bank_sound : (bank : Bank) → Sound (state_of bank).field
-bank_sound bank = group_sound bank.group bank

@@ -1,11 +1,13 @@
 -- Between two bytes of the input.
-use Rattle.std.specs.Prelude.{◌≡◌, ℕ, ◌+◌, ◌⊎◌, Bool, true, List, [], ◌∷◌, ◌++◌, length, take, Option, Result, Ok, Err}
+use Rattle.std.specs.Prelude.{◌≡◌, ℕ, ◌+◌, ◌⊎◌, Bool, true, List, [], ◌∷◌, ◌++◌, length, take, Option, Some, None, Result, Ok, Err}
 use Rattle.std.specs.List.{flat_map}
 use Rattle.std.specs.Io.KnownBytes.{Appends}
 use Rattle.p3_field_bench.specs.declared.machine.Machine.{Machine}
 use Rattle.p3_field_bench.specs.declared.machine.Stop.{Stop}
 use Rattle.p3_field_bench.specs.declared.machine.Stop.TheVariants.{AtFault, AtWrite}
-use Rattle.p3_calculator_fields.specs.Bank.{state_of}
+use Rattle.p3_field_bench.specs.Bank.{state_of}
+use Rattle.p3_calculator_fields.specs.Fields.{FieldSpec, ops}
+use Rattle.p3_field_bench.specs.Effects.{IsRoot}
 use Rattle.p3_field_bench.specs.Lines.{lines_of}
 use Rattle.p3_calculator_streams.specs.Streams.{AppendsFront}
 use Rattle.p3_field_bench.specs.Text.{IsTextFrom, IsText, BeginsText, fault_line}
@@ -23,6 +25,15 @@ HaveNoEnd (line ∷ lines) = HasNoEnd line × HaveNoEnd lines
 abbrev pub ended : List ℕ → List ℕ
 ended line = line ++ 10 ∷ []
 
+-- zero is a value, and its own square
+abbrev pub ZeroIsSquare : FieldSpec → Type 0
+ZeroIsSquare s = IsRoot s (ops s).zero (ops s).zero
+
+-- the same of a chosen field
+abbrev pub Sound : Option FieldSpec → Type 0
+Sound None = Unit {0}
+Sound (Some s) = ZeroIsSquare s
+
 -- These bytes were taken and this text written: the whole lines were carried out, and the rest stands in the buffer.
 pub record Standing (machine : Machine) (bytes text : List ℕ) : Type 0 where
   pub lines : List (List ℕ)
@@ -30,6 +41,7 @@ pub record Standing (machine : Machine) (bytes text : List ℕ) : Type 0 where
   pub bytes_are : bytes ≡ flat_map ended lines ++ take machine.line.used machine.line.bytes
   pub pending : HasNoEnd (take machine.line.used machine.line.bytes)
   pub number : machine.number ≡ length lines + 1
+  pub sound : Sound (state_of machine.bank).field
   -- whatever the lines from here on make, is made behind this text
   pub goes_on : (ls : List (List ℕ)) (more : List ℕ) (status : ℕ) → IsTextFrom machine.number (state_of machine.bank) ls more status → IsText (lines ++ ls) (text ++ more) status
 

@@ -1,12 +1,10 @@
 ghost use Rattle.std.specs.Prelude.{◌≡◌, ◌≢◌, ◌++◌, ◌∷◌, [], ℕ, List, Some, None, length, IfOk, OnErr, IfSome, IfNone};
 ghost use Rattle.p3_theory.specs.Rings.Powers.{power};
-ghost use Rattle.p3_calculator_fields.specs.Bank.{state_at, canon};
-ghost use Rattle.p3_calculator_fields.specs.Coefficients.{one_coefficient, all_coefficients};
-ghost use Rattle.p3_calculator_fields.specs.Names.{field_f31c};
+ghost use Rattle.p3_calculator_fields.specs.Registers.{state_at};
 ghost use Rattle.p3_calculator_fields.specs.Display.{display};
 ghost use Rattle.p3_field_bench.specs.Effects.{Computes, numbers_below, IsInverse, IsRoot, binary, unary};
 ghost use Rattle.p3_calculator_fields.specs.States.{State};
-ghost use Rattle.p3_calculator_fields.specs.Fields.{ResiduesModulo, order, dimension, ops};
+ghost use Rattle.p3_calculator_fields.specs.Fields.{order, dimension, ops};
 ghost use Rattle.p3_field_bench.specs.Lines.{words};
 ghost use Rattle.p3_field_bench.specs.Outcomes.{outcome, silent};
 ghost use Rattle.p3_calculator_fields.specs.Premise.{MeetsPremise};
@@ -17,13 +15,8 @@ use crate::words::{
     has_words, next_word, one_register, parse_number, parse_register, registers_and_number,
     three_registers, two_registers,
 };
-use p3_bench_prime::extensions::F31c;
-use p3_bench_prime::form::{Form, Word};
-use p3_bench_prime::fp::Fp;
 use p3_calculator_fields::field::CalculatorField;
-use p3_calculator_fields::names::{NamedBinomial, NamedComplex, NamedTrinomial};
 use p3_calculator_fields::registers::Registers;
-use p3_ext::extension::{BinomialExtensionField, ExtField, Uniform, UniformShape};
 use std::alloc::{AllocError, Allocator};
 
 /// The value whose coefficients are the words of a line, as many as a value has.
@@ -251,7 +244,7 @@ fn change<F: CalculatorField>(
 }
 
 /// Carries out a line at the chosen field, and answers its text. A fault leaves the registers as before.
-fn act<F: CalculatorField, A: Allocator + Copy>(
+pub fn act<F: CalculatorField, A: Allocator + Copy>(
     alloc: A,
     operation: Operation,
     regs: &mut Registers<F>,
@@ -265,81 +258,4 @@ fn act<F: CalculatorField, A: Allocator + Copy>(
         Operation::Show => show(alloc, regs, args),
         _ => without_text(alloc, change(operation, regs, args)),
     }
-}
-
-/// Carries out a line at residues, in words of any type. The traits of fields are passed here, once for
-/// all markers, and a call at a name passes those of its marker. A fault leaves the registers as before,
-/// here and at extensions.
-pub fn act_at_fp<W: Form<T>, T: Word, A: Allocator + Copy>(
-    alloc: A,
-    operation: Operation,
-    regs: &mut Registers<Fp<W, T>>,
-    args: &[u8],
-) -> Result<Vec<u8, A>, Fault>
-    ensures computes { let s = ResiduesModulo W.ORDER W.GENERATOR in let old = state_at s (one_coefficient canon) regs.old in let new = state_at s (one_coefficient canon) regs.new in
-        Computes operation s old.registers (words args.now) (outcome result new) }
-    ensures kept { let s = ResiduesModulo W.ORDER W.GENERATOR in OnErr result (state_at s (one_coefficient canon) regs.new ≡ state_at s (one_coefficient canon) regs.old) }
-{
-    act(alloc, operation, regs, args)
-}
-
-/// The same at an extension by `X^D = W`.
-pub fn act_at_binomial<W: NamedBinomial<D>, const D: usize, A: Allocator + Copy>(
-    alloc: A,
-    operation: Operation,
-    regs: &mut Registers<BinomialExtensionField<Fp<W>, D>>,
-    args: &[u8],
-) -> Result<Vec<u8, A>, Fault>
-    ensures computes { let old = state_at W.spec (all_coefficients canon) regs.old in let new = state_at W.spec (all_coefficients canon) regs.new in
-        Computes operation W.spec old.registers (words args.now) (outcome result new) }
-    ensures kept { OnErr result (state_at W.spec (all_coefficients canon) regs.new ≡ state_at W.spec (all_coefficients canon) regs.old) }
-{
-    act(alloc, operation, regs, args)
-}
-
-/// The same at an extension by a shape with one polynomial over every ring.
-pub fn act_at_uniform<
-    W: NamedTrinomial<D, S>,
-    const D: usize,
-    S: UniformShape<D>,
-    A: Allocator + Copy,
->(
-    alloc: A,
-    operation: Operation,
-    regs: &mut Registers<ExtField<Fp<W>, D, Uniform<S, D>, Fp<W>>>,
-    args: &[u8],
-) -> Result<Vec<u8, A>, Fault>
-    ensures computes { let old = state_at W.spec (all_coefficients canon) regs.old in let new = state_at W.spec (all_coefficients canon) regs.new in
-        Computes operation W.spec old.registers (words args.now) (outcome result new) }
-    ensures kept { OnErr result (state_at W.spec (all_coefficients canon) regs.new ≡ state_at W.spec (all_coefficients canon) regs.old) }
-{
-    act(alloc, operation, regs, args)
-}
-
-/// The same at the extension of a field by `X^2 = -1`.
-fn act_at_complex_values<F: NamedComplex, A: Allocator + Copy>(
-    alloc: A,
-    operation: Operation,
-    regs: &mut Registers<BinomialExtensionField<F, 2>>,
-    args: &[u8],
-) -> Result<Vec<u8, A>, Fault>
-    ensures computes { let old = state_at F.spec (all_coefficients F.canon) regs.old in let new = state_at F.spec (all_coefficients F.canon) regs.new in
-        Computes operation F.spec old.registers (words args.now) (outcome result new) }
-    ensures kept { OnErr result (state_at F.spec (all_coefficients F.canon) regs.new ≡ state_at F.spec (all_coefficients F.canon) regs.old) }
-{
-    act(alloc, operation, regs, args)
-}
-
-/// The same at the extension of `F31` by `X^2 = -1`.
-pub fn act_at_complex<A: Allocator + Copy>(
-    alloc: A,
-    operation: Operation,
-    regs: &mut Registers<F31c>,
-    args: &[u8],
-) -> Result<Vec<u8, A>, Fault>
-    ensures computes { let old = state_at field_f31c (all_coefficients canon) regs.old in let new = state_at field_f31c (all_coefficients canon) regs.new in
-        Computes operation field_f31c old.registers (words args.now) (outcome result new) }
-    ensures kept { OnErr result (state_at field_f31c (all_coefficients canon) regs.new ≡ state_at field_f31c (all_coefficients canon) regs.old) }
-{
-    act_at_complex_values(alloc, operation, regs, args)
 }

@@ -3,6 +3,7 @@
 #![tactic(auto)]
 
 mod act;
+mod bank;
 mod commands;
 mod faults;
 pub mod laws;
@@ -21,7 +22,7 @@ pub use p3_bench_prime::fp::Fp;
 pub use p3_bench_prime::goldilocks::Goldilocks;
 pub use p3_bench_prime::koala_bear::KoalaBear;
 pub use p3_bench_prime::small::{F2, F17, F17b, F31, Z15};
-pub use p3_calculator_fields::{bank as bank, field as field, registers as registers};
+pub use p3_calculator_fields::{field as field, registers as registers};
 pub use p3_calculator_streams::memory::{MemSink, MemSource};
 pub use p3_calculator_streams::standard::{StdSink, StdSource};
 pub use p3_calculator_streams::streams::{ReadFailed, Sink, Source, WriteFailed, write_all};

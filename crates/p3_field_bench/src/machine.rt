@@ -1,7 +1,7 @@
 ghost use Rattle.std.specs.Prelude.{◌≡◌, ◌≤◌, length};
 
+use crate::bank::Bank;
 use crate::faults::Fault;
-use p3_calculator_fields::bank::Bank;
 
 /// The bytes of a line so far.
 #[derive(Drop)]
@@ -35,7 +35,7 @@ pub struct Machine {
 }
 
 impl Machine {
-    ghost use Rattle.p3_calculator_fields.specs.Bank.{state_of};
+    ghost use Rattle.p3_field_bench.specs.Bank.{state_of};
     ghost use Rattle.p3_calculator_fields.specs.States.{no_field};
 
     /// Before the first line.
@@ -45,7 +45,7 @@ impl Machine {
         ensures state { state_of result.bank ≡ no_field }
     {
         Machine {
-            bank: Bank::new(),
+            bank: Bank::Empty,
             number: 1,
             line: Line::new(),
         }

@@ -1,6 +1,6 @@
 use Rattle.std.proofs.Common.{[], ℕ, List, refl, take, subst}
 use Rattle.std.proofs.KnownBytes.{Appends-nil}
-use Rattle.p3_calculator_fields.specs.Bank.{state_of}
+use Rattle.p3_field_bench.specs.Bank.{state_of}
 use Rattle.std.specs.Io.KnownBytes.{Appends}
 use Rattle.p3_field_bench.proofs.Carrying.{goes, faulted, stopped}
 use Rattle.p3_field_bench.proofs.run.carry_out.Goals as goal

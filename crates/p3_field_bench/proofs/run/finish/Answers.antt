@@ -1,7 +1,7 @@
 use Rattle.std.proofs.Common.{[], ℕ, List, refl, take, drop, subst, inl, inr, sym, append-nil}
 use Rattle.std.proofs.KnownBytes.{Appends-nil}
 use Rattle.std.specs.Io.KnownBytes.{Appends}
-use Rattle.p3_calculator_fields.specs.Bank.{state_of}
+use Rattle.p3_field_bench.specs.Bank.{state_of}
 use Rattle.p3_field_bench.specs.Effects.{Continues, Faults}
 use Rattle.p3_field_bench.specs.Text.{fault_line}
 use Rattle.p3_field_bench.proofs.Carrying.{nothing_left, last_line, front_rest, some_pending}

@@ -1,11 +1,9 @@
-use Rattle.std.proofs.Common.{◌≡◌, ◌∙◌, ◌^◌, ℕ, Some, IsSome, sym, ap, subst}
+use Rattle.std.proofs.Common.{◌≡◌, ◌∙◌, ◌^◌, Some, IsSome, sym, ap, subst}
 use Rattle.p3_theory.specs.Polynomials.Coefficients.{length-tabulate}
 use Rattle.p3_theory.specs.Polynomials.Polynomial.{tabulate}
 use Rattle.p3_theory.specs.Roots.PowersOfTwo.{at_least_two}
 use Rattle.p3_ext.specs.Orders.{extension_size, extension_values}
 use Rattle.p3_ext.specs.Values.{ext_ops, value_of, constants_apart}
-use Rattle.p3_calculator_fields.specs.Fields.{value_count}
-use Rattle.p3_calculator_fields.specs.Representation.{RootOrNone}
 use Rattle.p3_calculator_fields.proofs.RootSearches.{searched, extension_order, extension_order_given}
 use Rattle.p3_calculator_fields.proofs.field.ExtFieldCalculatorField.root.Goals as goal
 
@@ -25,5 +23,4 @@ returns g c =
     let apart = constants_apart g.F.PrimeCharacteristicRing.ops D g.met.F.ExtensionAlgebra.at_least_two field.zero_is_not_one in
     let above = at_least_two E.zero E.one apart (extension_values g.F.Field.size D field.values n given) in
     let chosen = value_of (tabulate D F.generator_coefficients) (length-tabulate D F.generator_coefficients) in
-    subst (λ (m : ℕ). RootOrNone E m chosen c.args.self c.tonelli_shanks.result) (sym (ap value_count g.met.F.Named.is_spec))
-    (searched E (extension_size g.F.Field.size D) n given above fits chosen c.args.self _ c.tonelli_shanks.ensures.root c.tonelli_shanks.ensures.counted)
+    searched E (extension_size g.F.Field.size D) n given above fits chosen c.args.self _ c.tonelli_shanks.ensures.root c.tonelli_shanks.ensures.counted
