@@ -13,6 +13,7 @@ use crate::small::{F2, F17, F17b, F31, M2, M15, M17, M17b, M31, Z15};
 use p3_ext::extension::{
     BinomialExtensionField, ByteCountFits, Complex, ComplexExtendable, Cubic,
     CubicTrinomialExtensionField, NestedByteCountFits, Quintic, QuinticTrinomialExtensionField,
+    Septic, SepticTrinomialExtensionField,
 };
 
 /// The extension of `F17` by `X^2 = 3`.
@@ -400,6 +401,39 @@ impl PolynomialConstants<5, Quintic> for M2 {
     ghost table = { record { width = refl; rows = refl; root = refl; order = refl; apart = refl } };
 }
 
+/// The extension of `F2` by `X^7 = X + 1`.
+pub type F2t7 = SepticTrinomialExtensionField<F2>;
+
+impl PolynomialConstants<7, Septic> for M2 {
+    ghost image = { 0 ∷ 0 ∷ 1 ∷ 0 ∷ 0 ∷ 0 ∷ 0 ∷ [] };
+
+    ghost powers = { (1 ∷ 0 ∷ 0 ∷ 0 ∷ 0 ∷ 0 ∷ 0 ∷ []) ∷ (0 ∷ 0 ∷ 1 ∷ 0 ∷ 0 ∷ 0 ∷ 0 ∷ []) ∷ (0 ∷ 0 ∷ 0 ∷ 0 ∷ 1 ∷ 0 ∷ 0 ∷ []) ∷ (0 ∷ 0 ∷ 0 ∷ 0 ∷ 0 ∷ 0 ∷ 1 ∷ []) ∷ (0 ∷ 1 ∷ 1 ∷ 0 ∷ 0 ∷ 0 ∷ 0 ∷ []) ∷ (0 ∷ 0 ∷ 0 ∷ 1 ∷ 1 ∷ 0 ∷ 0 ∷ []) ∷ (0 ∷ 0 ∷ 0 ∷ 0 ∷ 0 ∷ 1 ∷ 1 ∷ []) ∷ [] };
+
+    ghost dual = { (0 ∷ 0 ∷ 1 ∷ 1 ∷ 1 ∷ 0 ∷ 1 ∷ []) ∷ (0 ∷ 1 ∷ 1 ∷ 0 ∷ 0 ∷ 0 ∷ 0 ∷ []) ∷ (0 ∷ 0 ∷ 0 ∷ 0 ∷ 0 ∷ 0 ∷ 1 ∷ []) ∷ (0 ∷ 1 ∷ 1 ∷ 1 ∷ 1 ∷ 0 ∷ 1 ∷ []) ∷ (0 ∷ 0 ∷ 0 ∷ 1 ∷ 0 ∷ 0 ∷ 1 ∷ []) ∷ (0 ∷ 0 ∷ 0 ∷ 1 ∷ 0 ∷ 1 ∷ 1 ∷ []) ∷ [] };
+
+    ghost ext_generator = { 0 ∷ 1 ∷ 0 ∷ 0 ∷ 0 ∷ 0 ∷ 0 ∷ [] };
+
+    #[inline]
+    fn power_of_image(j: usize, k: usize) -> u32 {
+        [
+            [1, 0, 0, 0, 0, 0, 0],
+            [0, 0, 1, 0, 0, 0, 0],
+            [0, 0, 0, 0, 1, 0, 0],
+            [0, 0, 0, 0, 0, 0, 1],
+            [0, 1, 1, 0, 0, 0, 0],
+            [0, 0, 0, 1, 1, 0, 0],
+            [0, 0, 0, 0, 0, 1, 1],
+        ][j][k]
+    }
+
+    #[inline]
+    fn ext_generator(i: usize) -> u32 {
+        [0, 1, 0, 0, 0, 0, 0][i]
+    }
+
+    ghost table = { record { width = refl; rows = refl; root = refl; order = refl; apart = refl } };
+}
+
 /// The extension of `F31` by `X^2 = -1`.
 pub type F31c = Complex<F31>;
 
@@ -461,6 +495,10 @@ impl<W: ShortForm> ByteCountFits<5> for Fp<W> {
 }
 
 impl<W: ShortForm> ByteCountFits<6> for Fp<W> {
+    ghost fits = { lit< tt };
+}
+
+impl<W: ShortForm> ByteCountFits<7> for Fp<W> {
     ghost fits = { lit< tt };
 }
 

@@ -4,7 +4,7 @@ ghost use Rattle.std.proofs.Common.{arith};
 
 use crate::small::{M2, M17, M31};
 use crate::two_adic_constants::{TwoAdicBinomialConstants, TwoAdicPolynomialConstants};
-use p3_ext::extension::{Cubic, Quintic};
+use p3_ext::extension::{Cubic, Quintic, Septic};
 
 impl TwoAdicBinomialConstants<2> for M17 {
     ghost generator_table = { (1 ∷ 0 ∷ []) ∷ (16 ∷ 0 ∷ []) ∷ (13 ∷ 0 ∷ []) ∷ (9 ∷ 0 ∷ []) ∷ (3 ∷ 0 ∷ []) ∷ (0 ∷ 1 ∷ []) ∷ [] };
@@ -129,4 +129,21 @@ impl TwoAdicPolynomialConstants<5, Quintic> for M2 {
     ghost generators = { record { trivial = refl; squares = refl; minus_one = λ none. absurd (omega (arith, none)) } };
 
     ghost divides_order = { (31, refl) };
+}
+
+impl TwoAdicPolynomialConstants<7, Septic> for M2 {
+    ghost generator_table = { (1 ∷ 0 ∷ 0 ∷ 0 ∷ 0 ∷ 0 ∷ 0 ∷ []) ∷ [] };
+
+    ghost EXT_TWO_ADICITY = { 0 };
+
+    const EXT_TWO_ADICITY: usize = 0;
+
+    #[inline]
+    fn ext_two_adic_generator(bits: usize, i: usize) -> u32 {
+        [[1, 0, 0, 0, 0, 0, 0]][bits][i]
+    }
+
+    ghost generators = { record { trivial = refl; squares = refl; minus_one = λ none. absurd (omega (arith, none)) } };
+
+    ghost divides_order = { (127, refl) };
 }

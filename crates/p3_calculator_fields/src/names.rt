@@ -11,7 +11,7 @@ use crate::registers::Registers;
 use p3_bench_prime::baby_bear::{BabyBear, BabyBearModulus};
 use p3_bench_prime::binomial_constants::BinomialConstants;
 use p3_bench_prime::extensions::{
-    BabyBearx4, F2t5, F17bx2, F17t5, F17x2, F17x4, F17x8, F31t3, F31x3, F31x5, F31x6, Z15x2,
+    BabyBearx4, F2t5, F2t7, F17bx2, F17t5, F17x2, F17x4, F17x8, F31t3, F31x3, F31x5, F31x6, Z15x2,
 };
 use p3_bench_prime::form::{OverModulus, Plain};
 use p3_bench_prime::fp::Fp;
@@ -20,7 +20,9 @@ use p3_bench_prime::koala_bear::KoalaBear;
 use p3_bench_prime::montgomery::Montgomery;
 use p3_bench_prime::polynomial_constants::PolynomialConstants;
 use p3_bench_prime::small::{F2, F17, F17b, F31, M2, M15, M17, M17b, M31, Z15};
-use p3_ext::extension::{Binomial, ComplexExtendable, Cubic, IntegerPolynomial, Modulo, Quintic};
+use p3_ext::extension::{
+    Binomial, ComplexExtendable, Cubic, IntegerPolynomial, Modulo, Quintic, Septic,
+};
 
 /// The names of residues.
 pub const RESIDUE_NAMES: &str = "f2 f17 f17b f31 z15 bb kb gl";
@@ -65,14 +67,17 @@ pub type MiddleList = OneOf<
 >;
 
 /// The names of extensions of degree 5 and more.
-pub const HIGH_NAMES: &str = "f31x5 f17t5 f2t5 f31x6 f17x8";
+pub const HIGH_NAMES: &str = "f31x5 f17t5 f2t5 f31x6 f17x8 f2t7";
 
 /// Their registers.
 pub type HighList = OneOf<
     Registers<F31x5>,
     OneOf<
         Registers<F17t5>,
-        OneOf<Registers<F2t5>, OneOf<Registers<F31x6>, OneOf<Registers<F17x8>, NoField>>>,
+        OneOf<
+            Registers<F2t5>,
+            OneOf<Registers<F31x6>, OneOf<Registers<F17x8>, OneOf<Registers<F2t7>, NoField>>>,
+        >,
     >,
 >;
 
@@ -175,5 +180,9 @@ impl NamedPolynomial<5, Quintic> for Plain<M17> {
 }
 
 impl NamedPolynomial<5, Quintic> for Plain<M2> {
+    ghost order_fits = { lit< tt };
+}
+
+impl NamedPolynomial<7, Septic> for Plain<M2> {
     ghost order_fits = { lit< tt };
 }

@@ -38,6 +38,7 @@ pub use p3_products::binomial_inverses::InverseByFormula;
 pub use p3_products::cubic_extension::{Cubic, cubic_square, trinomial_cubic_mul};
 pub use p3_products::integer_polynomial::IntegerPolynomial;
 pub use p3_products::quintic_extension::{Quintic, quintic_square, trinomial_quintic_mul};
+pub use p3_products::septic_extension::{Septic, septic_square, trinomial_septic_mul};
 pub use p3_products::vectors::{vector_add, vector_sub};
 use p3_ring::ring::{Algebra, PrimeCharacteristicRing};
 pub use polynomial_extension::{ExtendableModulo, Modulo};
@@ -90,6 +91,9 @@ pub type CubicTrinomial = Modulo<Cubic, 3>;
 /// The shape `X^5 = 1 - X^2`.
 pub type QuinticTrinomial = Modulo<Quintic, 5>;
 
+/// The shape `X^7 = X + 1`, this project's own.
+pub type SepticTrinomial = Modulo<Septic, 7>;
+
 /// An extension of F modulo `X^D - W`. Upstream's `BinomialExtensionField`.
 pub type BinomialExtensionField<F, const D: usize, A = F> = ExtField<F, D, Binomial<F>, A>;
 
@@ -98,6 +102,9 @@ pub type CubicTrinomialExtensionField<F, A = F> = ExtField<F, 3, CubicTrinomial,
 
 /// An extension of F modulo `X^5 + X^2 - 1`. Upstream's `QuinticTrinomialExtensionField`.
 pub type QuinticTrinomialExtensionField<F, A = F> = ExtField<F, 5, QuinticTrinomial, A>;
+
+/// An extension of F modulo `X^7 - X - 1`, this project's own.
+pub type SepticTrinomialExtensionField<F, A = F> = ExtField<F, 7, SepticTrinomial, A>;
 
 /// The product of coefficient lists alone, under the smallest bounds. `*` of `ExtField` stands on
 /// it; upstream has the product in `ExtensionAlgebra`.
@@ -301,6 +308,20 @@ pub trait HasTwoAdicQuinticExtension: QuinticTrinomialExtendable
 impl<
     F: QuinticTrinomialExtendable + TwoAdicExtendable<5, QuinticTrinomial>,
 > HasTwoAdicQuinticExtension for F {}
+
+/// A field with a Frobenius map for its extension of degree 7 by `X^7 = X + 1`: whoever gives the table of
+/// that polynomial. This project's own, as `QuinticTrinomialExtendable`.
+pub trait SepticTrinomialExtendable: ExtendableModulo<7, Septic> {}
+
+impl<F: ExtendableModulo<7, Septic>> SepticTrinomialExtendable for F {}
+
+/// A field with two-adic generators of its extension of degree 7 by `X^7 = X + 1`. This project's own, as
+/// `HasTwoAdicQuinticExtension`.
+pub trait HasTwoAdicSepticExtension: SepticTrinomialExtendable
+    + TwoAdicExtendable<7, SepticTrinomial> {}
+
+impl<F: SepticTrinomialExtendable + TwoAdicExtendable<7, SepticTrinomial>> HasTwoAdicSepticExtension
+    for F {}
 
 /// A field whose extension has a Frobenius map: X becomes its image. It stands for what the
 /// shapes share; this project's own.

@@ -1,8 +1,9 @@
 //! Square roots of extension values and their turns, of the original Rust crate over fields written
 //! for the purpose, checked by a second program. Written by a script out of its list: a line of that
 //! list, `type value root turns`, is an entry here. Coefficients are canonical values, from X^0
-//! upward. `F17X2_TWO_ADIC` is of the search by the greatest two-adic generator. The first entries
-//! of the last two are worked by hand.
+//! upward. `F2T7`, whose polynomial the original crate doesn't have, is of the second program alone.
+//! `F17X2_TWO_ADIC` is of the search by the greatest two-adic generator. The first entries of the last
+//! three are worked by hand.
 
 use crate::square_root_tables::Root;
 
@@ -199,6 +200,23 @@ pub static F2T5: &[Root<[u64; 5]>] = &[
     ([0, 0, 1, 0, 0], Some([0, 1, 0, 0, 0]), 0),
     ([0, 1, 1, 1, 0], Some([0, 1, 0, 1, 0]), 0),
     ([0, 0, 0, 1, 1], Some([1, 1, 1, 0, 1]), 0),
+];
+
+pub static F2T7: &[Root<[u64; 7]>] = &[
+    ([0, 1, 0, 0, 0, 0, 0], Some([0, 1, 0, 0, 1, 0, 0]), 0),
+    ([0, 0, 0, 0, 0, 0, 0], Some([0, 0, 0, 0, 0, 0, 0]), 0),
+    ([0, 0, 0, 1, 0, 1, 0], Some([0, 0, 1, 1, 0, 1, 1]), 0),
+    ([0, 0, 1, 0, 1, 0, 0], Some([0, 1, 1, 0, 0, 0, 0]), 0),
+    ([0, 0, 1, 1, 1, 1, 0], Some([0, 1, 0, 1, 0, 1, 1]), 0),
+    ([0, 1, 0, 1, 0, 0, 0], Some([0, 1, 1, 0, 1, 1, 0]), 0),
+    ([0, 1, 1, 0, 0, 1, 0], Some([0, 0, 0, 1, 1, 0, 1]), 0),
+    ([0, 1, 1, 1, 1, 0, 0], Some([0, 0, 0, 0, 1, 1, 0]), 0),
+    ([1, 0, 0, 0, 1, 1, 0], Some([1, 0, 1, 1, 0, 0, 1]), 0),
+    ([1, 0, 1, 0, 0, 0, 0], Some([1, 1, 0, 0, 0, 0, 0]), 0),
+    ([1, 0, 1, 1, 0, 1, 0], Some([1, 1, 1, 1, 0, 1, 1]), 0),
+    ([1, 1, 0, 0, 1, 0, 0], Some([1, 1, 1, 0, 1, 0, 0]), 0),
+    ([1, 1, 0, 1, 1, 1, 0], Some([1, 1, 0, 1, 1, 1, 1]), 0),
+    ([1, 1, 1, 1, 0, 0, 0], Some([1, 0, 1, 0, 1, 1, 0]), 0),
 ];
 
 pub static F17X2_TWO_ADIC: &[Root<[u64; 2]>] = &[

@@ -11,12 +11,13 @@ use crate::values::Canonical;
 use crate::{extension_root_tables as roots, extension_tables as tables, trinomial_tables};
 use p3_bench_prime::baby_bear::BabyBearModulus;
 use p3_bench_prime::extensions::{
-    BabyBearx4, F2t5, F17bx2, F17t5, F17x2, F17x4, F17x8, F31c, F31t3, F31x3, F31x5, F31x6, Z15x2,
+    BabyBearx4, F2t5, F2t7, F17bx2, F17t5, F17x2, F17x4, F17x8, F31c, F31t3, F31x3, F31x5, F31x6,
+    Z15x2,
 };
 use p3_bench_prime::form::Plain;
 use p3_bench_prime::montgomery::Montgomery;
 use p3_bench_prime::small::{F31, M2, M15, M17, M17b, M31};
-use p3_field::extension::{BinomialExtensionField, ComplexExtendable, Cubic, Quintic};
+use p3_field::extension::{BinomialExtensionField, ComplexExtendable, Cubic, Quintic, Septic};
 use std::process::Abort;
 use std::test::Fail;
 
@@ -167,5 +168,28 @@ fn f2t5(rt: HostRuntime) -> Result<(), Fail> {
         &rt,
         &trinomial_tables::F2T5,
         roots::F2T5,
+    )
+}
+
+#[test]
+fn f2t7(rt: HostRuntime) -> Result<(), Fail> {
+    <Plain<M2> as PolynomialCalls<7, Septic>>::assert_two_adic(
+        &rt,
+        0,
+        &[(0, [1, 0, 0, 0, 0, 0, 0])],
+        &[],
+    );
+    <Plain<M2> as PolynomialCalls<7, Septic>>::assert_inverses_or_zero(
+        &rt,
+        &[
+            ([0, 1, 0, 0, 0, 0, 0], [1, 0, 0, 0, 0, 0, 1]),
+            ([0, 0, 0, 0, 0, 0, 0], [0, 0, 0, 0, 0, 0, 0]),
+        ],
+    );
+    assert_streams::<F2t7>(&rt, trinomial_tables::F2T7.streams)?;
+    <Plain<M2> as PolynomialCalls<7, Septic>>::assert_extension(
+        &rt,
+        &trinomial_tables::F2T7,
+        roots::F2T7,
     )
 }

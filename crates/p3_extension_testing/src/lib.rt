@@ -21,6 +21,10 @@ mod markers;
 #[cfg(test)]
 mod powers;
 #[cfg(test)]
+mod septic_tables;
+#[cfg(test)]
+mod septic_values;
+#[cfg(test)]
 mod slices;
 #[cfg(test)]
 mod square_root_tables;

@@ -1,12 +1,17 @@
 //! Worked products and squares over slices. What writes to a slice does so where ones were. A test at the
 //! name of a field passes the field's traits once, to functions over every ring.
 
-use p3_bench_prime::small::{F17, F31};
+use crate::septic_tables as septic;
+use p3_bench_prime::baby_bear::BabyBear;
+use p3_bench_prime::goldilocks::Goldilocks;
+use p3_bench_prime::small::{F2, F17, F31, Z15};
 use p3_field::PrimeCharacteristicRing;
 use p3_field::extension::{
     binomial_mul, binomial_square, cubic_square, octic_mul, quartic_mul, quintic_mul,
-    quintic_square, trinomial_cubic_mul, trinomial_quintic_mul, vector_add, vector_sub,
+    quintic_square, septic_square, trinomial_cubic_mul, trinomial_quintic_mul,
+    trinomial_septic_mul, vector_add, vector_sub,
 };
+use std::process::Abort;
 
 /// The residues of some numbers.
 fn residues<R: PrimeCharacteristicRing, const N: usize>(numbers: [u64; N]) -> [R; N] {
@@ -133,6 +138,39 @@ fn trinomial_products(rt: HostRuntime) {
     let (product, square) = cubic_results(high, high);
     assert_eq!(rt; product, mod_31([0, 1, 1]));
     assert_eq!(rt; square, mod_31([0, 1, 1]));
+}
+
+/// The product by the septic trinomial, and the square of its first factor written over it.
+fn septic_results<R: PrimeCharacteristicRing>(a: [R; 7], b: [R; 7]) -> ([R; 7], [R; 7]) {
+    let mut res = [R::one(); 7];
+    trinomial_septic_mul(&a, &b, &mut res);
+    let product = res;
+    septic_square(&a, &mut res);
+    (product, res)
+}
+
+/// Asserts the products and the squares of a table. That a list is named tells that lists have room;
+/// nothing is read of it.
+fn assert_septic<R: PrimeCharacteristicRing + PartialEq>(
+    rt: &impl Abort,
+    _list: Option<[R; 7]>,
+    table: &[septic::Products],
+) {
+    for row in table {
+        let (a, b, product, square) = *row;
+        let results = septic_results::<R>(residues(a), residues(b));
+        assert!(rt; results.0 == residues(product));
+        assert!(rt; results.1 == residues(square));
+    }
+}
+
+#[test]
+fn septic_products(rt: HostRuntime) {
+    assert_septic::<F2>(&rt, None, septic::F2);
+    assert_septic::<F17>(&rt, None, septic::F17);
+    assert_septic::<Z15>(&rt, None, septic::Z15);
+    assert_septic::<BabyBear>(&rt, None, septic::BABY_BEAR);
+    assert_septic::<Goldilocks>(&rt, None, septic::GOLDILOCKS);
 }
 
 /// The sum and the difference of two vectors.

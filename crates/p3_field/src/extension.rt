@@ -6,15 +6,16 @@ pub use p3_ext::extension::{
     ExtensionOverAlgebra, ExtensionProduct, ExtensionShape, FrobeniusExtendable,
     HasComplexBinomialExtension, HasFrobenius, HasTwoAdicBinomialExtension,
     HasTwoAdicComplexBinomialExtension, HasTwoAdicCubicExtension, HasTwoAdicQuinticExtension,
-    IntegerPolynomial, InverseByFormula, Modulo, NestedByteCountFits, PackedProduct, Quintic,
-    QuinticTrinomial, QuinticTrinomialExtendable, QuinticTrinomialExtensionField,
-    TwoAdicExtendable, binomial_mul, binomial_square, cubic_square, octic_mul, quartic_mul,
-    quintic_mul, quintic_square, trinomial_cubic_mul, trinomial_quintic_mul, vector_add,
-    vector_sub,
+    HasTwoAdicSepticExtension, IntegerPolynomial, InverseByFormula, Modulo, NestedByteCountFits,
+    PackedProduct, Quintic, QuinticTrinomial, QuinticTrinomialExtendable,
+    QuinticTrinomialExtensionField, Septic, SepticTrinomial, SepticTrinomialExtendable,
+    SepticTrinomialExtensionField, TwoAdicExtendable, binomial_mul, binomial_square, cubic_square,
+    octic_mul, quartic_mul, quintic_mul, quintic_square, septic_square, trinomial_cubic_mul,
+    trinomial_quintic_mul, trinomial_septic_mul, vector_add, vector_sub,
 };
 pub use p3_packed::holds_scalar::HoldsScalar;
 pub use p3_packed::packed_ext_field::{
     PackedBinomialExtensionField, PackedCubicTrinomialExtensionField, PackedExtField,
-    PackedQuinticTrinomialExtensionField, Packing,
+    PackedQuinticTrinomialExtensionField, PackedSepticTrinomialExtensionField, Packing,
 };
 pub use p3_products::binomial_extension::{binomial_product, ring_product};

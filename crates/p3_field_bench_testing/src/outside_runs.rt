@@ -3,11 +3,13 @@
 //! checked against a second program that works from the definitions of the operations alone.
 
 mod root_runs;
+mod septic_runs;
 mod vector_runs;
 
 use crate::worked_runs::Run;
 use p3_field_bench::{MemSink, MemSource, engine};
 use root_runs::ROOTS;
+use septic_runs::SEPTICS;
 use std::process::Abort;
 use std::test::Fail;
 use vector_runs::{EDGES, FAULTS, VALUES};
@@ -122,5 +124,6 @@ fn outside_runs(rt: HostRuntime) -> Result<(), Fail> {
     assert_runs(&rt, &EDGES)?;
     assert_runs(&rt, &FAULTS)?;
     assert_runs(&rt, &ROOTS)?;
-    assert_runs(&rt, &VALUES)
+    assert_runs(&rt, &VALUES)?;
+    assert_runs(&rt, &SEPTICS)
 }

@@ -4,7 +4,7 @@ ghost use Rattle.p3_theory.specs.Polynomials.Polynomial.{embed};
 use p3_base::packed_traits::Inhabited;
 use p3_ext::extension::{
     Binomial, CubicTrinomial, ExtField, ExtensionOverAlgebra, ExtensionShape, PackedProduct,
-    QuinticTrinomial,
+    QuinticTrinomial, SepticTrinomial,
 };
 use p3_ring::accumulate::{product_from, sum_from};
 use p3_ring::ring::{Algebra, PrimeCharacteristicRing, RingSums};
@@ -34,6 +34,9 @@ pub type PackedCubicTrinomialExtensionField<F, P> = PackedExtField<F, 3, CubicTr
 /// Values of an extension of F modulo `X^5 + X^2 - 1` side by side. Upstream's
 /// `PackedQuinticTrinomialExtensionField`.
 pub type PackedQuinticTrinomialExtensionField<F, P> = PackedExtField<F, 5, QuinticTrinomial, P>;
+
+/// Values of an extension of F modulo `X^7 - X - 1` side by side, this project's own.
+pub type PackedSepticTrinomialExtensionField<F, P> = PackedExtField<F, 7, SepticTrinomial, P>;
 
 impl<F: Copy, const D: usize, S: Copy, P: Copy> Clone for PackedExtField<F, D, S, P> {
     ghost use Rattle.std.specs.Prelude.{⊤};

@@ -14,8 +14,8 @@ use p3_bench_prime::form::{Form, OverModulus, Plain};
 use p3_bench_prime::fp::Fp;
 use p3_bench_prime::montgomery::Montgomery;
 use p3_bench_prime::polynomial_constants::PolynomialConstants;
-use p3_bench_prime::small::{M17, M31};
-use p3_ext::extension::{Binomial, Cubic, IntegerPolynomial, Modulo, Quintic};
+use p3_bench_prime::small::{M2, M17, M31};
+use p3_ext::extension::{Binomial, Cubic, IntegerPolynomial, Modulo, Quintic, Septic};
 use std::alloc::{AllocError, Global};
 use std::process::Abort;
 use std::test::Fail;
@@ -126,6 +126,7 @@ fn agrees(alloc: Global, line: &str) -> Result<Option<bool>, AllocError> {
         "f17x2" => over_quadratic::<Plain<M17>>(alloc, row),
         "f17x4" => over_quartic::<Plain<M17>>(alloc, row),
         "f17t5" => over_polynomial::<Plain<M17>, Quintic, 5>(alloc, row),
+        "f2t7" => over_polynomial::<Plain<M2>, Septic, 7>(alloc, row),
         "f31t3" => over_polynomial::<Plain<M31>, Cubic, 3>(alloc, row),
         "bbx4" => over_quartic::<Montgomery<BabyBearModulus>>(alloc, row),
         _ => Ok(None),
@@ -154,6 +155,7 @@ fn outside_calls(rt: HostRuntime) -> Result<(), Fail> {
     assert_table(&rt, tables::OVER_F17X4)?;
     assert_table(&rt, tables::OVER_F31T3)?;
     assert_table(&rt, tables::OVER_F17T5)?;
+    assert_table(&rt, tables::OVER_F2T7)?;
     assert_table(&rt, tables::OVER_BBX4)
 }
 
@@ -171,6 +173,7 @@ fn operations_on_packings(rt: HostRuntime) -> Result<(), Fail> {
     assert_table(&rt, operations::OVER_F17X4)?;
     assert_table(&rt, operations::OVER_F31T3)?;
     assert_table(&rt, operations::OVER_F17T5)?;
+    assert_table(&rt, operations::OVER_F2T7)?;
     assert_table(&rt, operations::OVER_BBX4)
 }
 

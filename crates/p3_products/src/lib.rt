@@ -9,4 +9,5 @@ mod entries;
 pub mod integer_polynomial;
 pub mod power_table;
 pub mod quintic_extension;
+pub mod septic_extension;
 pub mod vectors;

@@ -11,10 +11,10 @@ use p3_bench_prime::form::{OverModulus, Plain};
 use p3_bench_prime::fp::Fp;
 use p3_bench_prime::montgomery::Montgomery;
 use p3_bench_prime::polynomial_constants::PolynomialConstants;
-use p3_bench_prime::small::{M17, M31};
+use p3_bench_prime::small::{M2, M17, M31};
 use p3_ext::extension::{
     Binomial, Cubic, ExtField, ExtensionOverAlgebra, ExtensionShape, FrobeniusExtendable,
-    IntegerPolynomial, Modulo,
+    IntegerPolynomial, Modulo, Septic,
 };
 use p3_packed::packed_ext_field::{PackedExtField, Packing};
 use p3_packed_testing::rows::Row;
@@ -196,6 +196,7 @@ fn run_agrees(alloc: Global, line: &str) -> Result<Option<bool>, AllocError> {
     match row.field {
         "f17x2" => runs_over_quadratic::<Plain<M17>>(alloc, row),
         "f31t3" => runs_over_polynomial::<Plain<M31>, Cubic, 3>(alloc, row),
+        "f2t7" => runs_over_polynomial::<Plain<M2>, Septic, 7>(alloc, row),
         "bbx4" => runs_over_quartic::<Montgomery<BabyBearModulus>>(alloc, row),
         _ => Ok(None),
     }
@@ -216,5 +217,6 @@ fn runs_over_vectors(rt: HostRuntime) -> Result<(), Fail> {
     assert_table(&rt, tables::RUNS_BY_HAND)?;
     assert_table(&rt, tables::RUNS_OVER_F17X2)?;
     assert_table(&rt, tables::RUNS_OVER_F31T3)?;
+    assert_table(&rt, tables::RUNS_OVER_F2T7)?;
     assert_table(&rt, tables::RUNS_OVER_BBX4)
 }
