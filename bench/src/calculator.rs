@@ -1,6 +1,6 @@
 //! The calculator in plain Rust, as far as the timed lines need it: the lines `field`, `put`,
 //! `add`, `mul`, `sq`, `inv` and `show` over two extensions.
-use crate::extensions::{BabyBearx4, Extension, F17x4};
+use crate::extensions::{BabyBearx4, Extension, F17x4, Ring};
 use std::fmt::Write;
 
 type Registers<E> = [E; 16];
