@@ -1,6 +1,6 @@
 //! What the extension by `X^7 = X + 1` has besides the values of tables, worked by hand: the rows of its
 //! Frobenius map, its generators, its name, its order and its bytes. A test at a field passes the field's
-//! own traits alone.
+//! own traits alone, and names a value, which tells that values have room; nothing is read of it.
 ghost use Rattle.std.specs.Prelude.{◌<◌};
 
 use crate::values::{Canonical, OfRow, Tabled};
@@ -15,7 +15,10 @@ use std::alloc::{AllocError, Global};
 use std::test::Fail;
 
 /// The coefficients of the power i + 1 of the image of X.
-fn frobenius_row<F: SepticTrinomialExtendable + Canonical>(i: usize) -> [u64; 7]
+fn frobenius_row<F: SepticTrinomialExtendable + Canonical>(
+    _value: Option<SepticTrinomialExtensionField<F>>,
+    i: usize,
+) -> [u64; 7]
     requires { i < 6 }
 {
     let mut row = [0; 7];
@@ -36,12 +39,14 @@ fn septic_images(rt: HostRuntime) {
         [0, 0, 0, 0, 0, 1, 1],
     ];
     for i in 0..6 {
-        assert_eq!(rt; frobenius_row::<F2>(i), rows[i]);
+        assert_eq!(rt; frobenius_row::<F2>(None, i), rows[i]);
     }
 }
 
 /// The two-adicity of the extension, and the coefficients of the generator for no bits.
-fn two_adic_row<F: HasTwoAdicSepticExtension + Canonical>() -> (usize, [u64; 7]) {
+fn two_adic_row<F: HasTwoAdicSepticExtension + Canonical>(
+    _value: Option<SepticTrinomialExtensionField<F>>,
+) -> (usize, [u64; 7]) {
     let mut row = [0; 7];
     for i in 0..7 {
         row[i] = F::ext_two_adic_generator(0, i).canonical();
@@ -50,7 +55,9 @@ fn two_adic_row<F: HasTwoAdicSepticExtension + Canonical>() -> (usize, [u64; 7])
 }
 
 /// The coefficients of the generator candidate, the name of the extension as an algebra and its order.
-fn constants<F: SepticTrinomialExtendable + Canonical>() -> ([u64; 7], &'static str, Option<u128>) {
+fn constants<F: SepticTrinomialExtendable + Canonical>(
+    _value: Option<SepticTrinomialExtensionField<F>>,
+) -> ([u64; 7], &'static str, Option<u128>) {
     (
         SepticTrinomialExtensionField::<F>::generator().row(),
         <F as FrobeniusExtendable<7, SepticTrinomial>>::algebra_id(),
@@ -60,8 +67,8 @@ fn constants<F: SepticTrinomialExtendable + Canonical>() -> ([u64; 7], &'static 
 
 #[test]
 fn septic_constants(rt: HostRuntime) {
-    assert_eq!(rt; two_adic_row::<F2>(), (0, [1, 0, 0, 0, 0, 0, 0]));
-    let (generator, name, order) = constants::<F2>();
+    assert_eq!(rt; two_adic_row::<F2>(None), (0, [1, 0, 0, 0, 0, 0, 0]));
+    let (generator, name, order) = constants::<F2>(None);
     assert_eq!(rt; generator, [0, 1, 0, 0, 0, 0, 0]);
     assert_eq!(rt; name, "p3-power-basis-v1:X^7-X-1");
     assert_eq!(rt; order, Some(128));

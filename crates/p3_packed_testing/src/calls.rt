@@ -79,18 +79,44 @@ where
     <Fp<W> as ExtensionCalls<Modulo<S, D>, D, N>>::extension_agrees(alloc, rooms, row)
 }
 
-/// The same at 1, 4 or 8 lanes.
-fn over_polynomial<W: OverModulus<u32>, S: IntegerPolynomial<D>, const D: usize>(
+/// The same at 1, 4 or 8 lanes, by `X^3 = X + 1`.
+fn over_cubic<W: OverModulus<u32>>(alloc: Global, row: Row<'_>) -> Result<Option<bool>, AllocError>
+where
+    W::Modulus: PolynomialConstants<3, Cubic>,
+{
+    match row.lanes {
+        "1" => polynomial_agrees::<W, Cubic, 3, 1>(alloc, None, None, row),
+        "4" => polynomial_agrees::<W, Cubic, 3, 4>(alloc, None, None, row),
+        "8" => polynomial_agrees::<W, Cubic, 3, 8>(alloc, None, None, row),
+        _ => Ok(None),
+    }
+}
+
+/// The same by `X^5 = 1 - X^2`.
+fn over_quintic<W: OverModulus<u32>>(
     alloc: Global,
     row: Row<'_>,
 ) -> Result<Option<bool>, AllocError>
 where
-    W::Modulus: PolynomialConstants<D, S>,
+    W::Modulus: PolynomialConstants<5, Quintic>,
 {
     match row.lanes {
-        "1" => polynomial_agrees::<W, S, D, 1>(alloc, None, None, row),
-        "4" => polynomial_agrees::<W, S, D, 4>(alloc, None, None, row),
-        "8" => polynomial_agrees::<W, S, D, 8>(alloc, None, None, row),
+        "1" => polynomial_agrees::<W, Quintic, 5, 1>(alloc, None, None, row),
+        "4" => polynomial_agrees::<W, Quintic, 5, 4>(alloc, None, None, row),
+        "8" => polynomial_agrees::<W, Quintic, 5, 8>(alloc, None, None, row),
+        _ => Ok(None),
+    }
+}
+
+/// The same by `X^7 = X + 1`.
+fn over_septic<W: OverModulus<u32>>(alloc: Global, row: Row<'_>) -> Result<Option<bool>, AllocError>
+where
+    W::Modulus: PolynomialConstants<7, Septic>,
+{
+    match row.lanes {
+        "1" => polynomial_agrees::<W, Septic, 7, 1>(alloc, None, None, row),
+        "4" => polynomial_agrees::<W, Septic, 7, 4>(alloc, None, None, row),
+        "8" => polynomial_agrees::<W, Septic, 7, 8>(alloc, None, None, row),
         _ => Ok(None),
     }
 }
@@ -125,9 +151,9 @@ fn agrees(alloc: Global, line: &str) -> Result<Option<bool>, AllocError> {
         "f17" => over_base::<Plain<M17>>(alloc, row),
         "f17x2" => over_quadratic::<Plain<M17>>(alloc, row),
         "f17x4" => over_quartic::<Plain<M17>>(alloc, row),
-        "f17t5" => over_polynomial::<Plain<M17>, Quintic, 5>(alloc, row),
-        "f2t7" => over_polynomial::<Plain<M2>, Septic, 7>(alloc, row),
-        "f31t3" => over_polynomial::<Plain<M31>, Cubic, 3>(alloc, row),
+        "f17t5" => over_quintic::<Plain<M17>>(alloc, row),
+        "f2t7" => over_septic::<Plain<M2>>(alloc, row),
+        "f31t3" => over_cubic::<Plain<M31>>(alloc, row),
         "bbx4" => over_quartic::<Montgomery<BabyBearModulus>>(alloc, row),
         _ => Ok(None),
     }

@@ -172,17 +172,32 @@ where
     }
 }
 
-/// The same modulo a polynomial.
-fn runs_over_polynomial<W: OverModulus<u32>, S: IntegerPolynomial<D>, const D: usize>(
+/// The same by `X^3 = X + 1`.
+fn runs_over_cubic<W: OverModulus<u32>>(
     alloc: Global,
     row: Row<'_>,
 ) -> Result<Option<bool>, AllocError>
 where
-    W::Modulus: PolynomialConstants<D, S>,
+    W::Modulus: PolynomialConstants<3, Cubic>,
 {
     match row.lanes {
-        "4" => polynomial_run_agrees::<W, S, D, 4>(alloc, None, None, row),
-        "8" => polynomial_run_agrees::<W, S, D, 8>(alloc, None, None, row),
+        "4" => polynomial_run_agrees::<W, Cubic, 3, 4>(alloc, None, None, row),
+        "8" => polynomial_run_agrees::<W, Cubic, 3, 8>(alloc, None, None, row),
+        _ => Ok(None),
+    }
+}
+
+/// The same by `X^7 = X + 1`.
+fn runs_over_septic<W: OverModulus<u32>>(
+    alloc: Global,
+    row: Row<'_>,
+) -> Result<Option<bool>, AllocError>
+where
+    W::Modulus: PolynomialConstants<7, Septic>,
+{
+    match row.lanes {
+        "4" => polynomial_run_agrees::<W, Septic, 7, 4>(alloc, None, None, row),
+        "8" => polynomial_run_agrees::<W, Septic, 7, 8>(alloc, None, None, row),
         _ => Ok(None),
     }
 }
@@ -195,8 +210,8 @@ fn run_agrees(alloc: Global, line: &str) -> Result<Option<bool>, AllocError> {
     };
     match row.field {
         "f17x2" => runs_over_quadratic::<Plain<M17>>(alloc, row),
-        "f31t3" => runs_over_polynomial::<Plain<M31>, Cubic, 3>(alloc, row),
-        "f2t7" => runs_over_polynomial::<Plain<M2>, Septic, 7>(alloc, row),
+        "f31t3" => runs_over_cubic::<Plain<M31>>(alloc, row),
+        "f2t7" => runs_over_septic::<Plain<M2>>(alloc, row),
         "bbx4" => runs_over_quartic::<Montgomery<BabyBearModulus>>(alloc, row),
         _ => Ok(None),
     }
