@@ -4,7 +4,7 @@ ghost use Rattle.std.proofs.Common.{lit<, lit≤};
 
 use crate::golden::Golden;
 use p3_bench_prime::binomial_constants::BinomialConstants;
-use p3_bench_prime::form::{Modulus, Order, Plain};
+use p3_bench_prime::form::{Modulus, ModulusOrder, Order, Plain};
 use p3_bench_prime::fp::Fp;
 use p3_bench_prime::polynomial_constants::PolynomialConstants;
 use p3_bench_prime::two_adic::{TopPowerConstants, TwoAdicConstants};
@@ -31,7 +31,9 @@ impl Modulus for M97 {
     const ORDER: u32 = 97;
 
     const GENERATOR: u32 = 5;
+}
 
+impl ModulusOrder for M97 {
     ghost same_order = { refl };
 
     ghost same_generator = { refl };

@@ -3,7 +3,7 @@ ghost use Rattle.std.proofs.Common.{lit<};
 
 use crate::form::Order;
 use crate::fp::Fp;
-use crate::montgomery::{Montgomery, MontgomeryModulus};
+use crate::montgomery::{Montgomery, MontgomeryModulus, MontgomeryOrder};
 
 /// The marker of the order 2^31 - 2^27 + 1.
 pub struct BabyBearModulus;
@@ -42,7 +42,9 @@ impl MontgomeryModulus for BabyBearModulus {
     const INVERSE: u32 = 2281701377;
 
     const SQUARE: u32 = 1172168163;
+}
 
+impl MontgomeryOrder for BabyBearModulus {
     ghost same_order = { refl };
 
     ghost same_generator = { refl };

@@ -164,7 +164,7 @@ pub trait Order {
 }
 
 /// A marker of an order below 2^31.
-pub trait Modulus: Order {
+pub trait Modulus {
     ghost ORDER: { ℕ };
 
     ghost GENERATOR: { ℕ };
@@ -178,10 +178,13 @@ pub trait Modulus: Order {
 
     /// The residue that upstream names as a generator of the units. No clause says that it generates them.
     const GENERATOR: u32;
+}
 
-    ghost same_order: { Self.order ≡ ORDER };
+/// A marker of an order below 2^31 whose extensions have constants: both traits name the same numbers.
+pub trait ModulusOrder: Modulus + Order {
+    ghost same_order: { Self.order ≡ Self.ORDER };
 
-    ghost same_generator: { Self.generator ≡ GENERATOR };
+    ghost same_generator: { Self.generator ≡ Self.GENERATOR };
 }
 
 /// A form of the residues modulo an order that a marker names. `Fp` takes its two-adic generators, its
@@ -303,7 +306,7 @@ impl<M: Modulus> Form<u32> for Plain<M> {
     }
 }
 
-impl<M: Modulus> OverModulus<u32> for Plain<M> {
+impl<M: ModulusOrder> OverModulus<u32> for Plain<M> {
     type Modulus = M;
 
     ghost same_order = { M.same_order };

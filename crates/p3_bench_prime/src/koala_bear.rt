@@ -1,7 +1,7 @@
 ghost use Rattle.std.specs.Prelude.{refl};
 ghost use Rattle.std.proofs.Common.{lit<};
 
-use crate::form::{Modulus, Order, Plain};
+use crate::form::{Modulus, ModulusOrder, Order, Plain};
 use crate::fp::Fp;
 
 /// The marker of the order 2^31 - 2^24 + 1.
@@ -25,7 +25,9 @@ impl Modulus for KoalaBearModulus {
     const ORDER: u32 = 2130706433;
 
     const GENERATOR: u32 = 3;
+}
 
+impl ModulusOrder for KoalaBearModulus {
     ghost same_order = { refl };
 
     ghost same_generator = { refl };

@@ -14,7 +14,7 @@ use std::marker::PhantomData;
 
 /// A marker of an odd order, with the numbers that Montgomery's form takes from it. It stands for what
 /// upstream writes in each impl of `MontyParameters`.
-pub trait MontgomeryModulus: Order {
+pub trait MontgomeryModulus {
     ghost ORDER: { ℕ };
 
     ghost GENERATOR: { ℕ };
@@ -47,10 +47,13 @@ pub trait MontgomeryModulus: Order {
 
     /// The residue of 2^64.
     const SQUARE: u32;
+}
 
-    ghost same_order: { Self.order ≡ ORDER };
+/// A marker of an odd order whose extensions have constants: both traits name the same numbers.
+pub trait MontgomeryOrder: MontgomeryModulus + Order {
+    ghost same_order: { Self.order ≡ Self.ORDER };
 
-    ghost same_generator: { Self.generator ≡ GENERATOR };
+    ghost same_generator: { Self.generator ≡ Self.GENERATOR };
 }
 
 /// The residue that is the product of both words once it is multiplied by 2^32.
@@ -201,7 +204,7 @@ impl<M: MontgomeryModulus> Form<u32> for Montgomery<M> {
     }
 }
 
-impl<M: MontgomeryModulus> OverModulus<u32> for Montgomery<M> {
+impl<M: MontgomeryOrder> OverModulus<u32> for Montgomery<M> {
     type Modulus = M;
 
     ghost same_order = { M.same_order };

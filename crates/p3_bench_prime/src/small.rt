@@ -2,7 +2,7 @@
 ghost use Rattle.std.specs.Prelude.{refl};
 ghost use Rattle.std.proofs.Common.{lit<};
 
-use crate::form::{Modulus, Order, Plain};
+use crate::form::{Modulus, ModulusOrder, Order, Plain};
 use crate::fp::Fp;
 
 /// The marker of the order 2.
@@ -26,7 +26,9 @@ impl Modulus for M2 {
     const ORDER: u32 = 2;
 
     const GENERATOR: u32 = 1;
+}
 
+impl ModulusOrder for M2 {
     ghost same_order = { refl };
 
     ghost same_generator = { refl };
@@ -56,7 +58,9 @@ impl Modulus for M17 {
     const ORDER: u32 = 17;
 
     const GENERATOR: u32 = 3;
+}
 
+impl ModulusOrder for M17 {
     ghost same_order = { refl };
 
     ghost same_generator = { refl };
@@ -86,7 +90,9 @@ impl Modulus for M17b {
     const ORDER: u32 = 17;
 
     const GENERATOR: u32 = 3;
+}
 
+impl ModulusOrder for M17b {
     ghost same_order = { refl };
 
     ghost same_generator = { refl };
@@ -116,7 +122,9 @@ impl Modulus for M31 {
     const ORDER: u32 = 31;
 
     const GENERATOR: u32 = 3;
+}
 
+impl ModulusOrder for M31 {
     ghost same_order = { refl };
 
     ghost same_generator = { refl };
@@ -146,7 +154,9 @@ impl Modulus for M15 {
     const ORDER: u32 = 15;
 
     const GENERATOR: u32 = 2;
+}
 
+impl ModulusOrder for M15 {
     ghost same_order = { refl };
 
     ghost same_generator = { refl };

@@ -1,10 +1,10 @@
 //! Counted square roots: worked examples by hand, and the values of `square_root_tables`.
-ghost use Rattle.std.specs.Prelude.{IsSome, refl};
+ghost use Rattle.std.specs.Prelude.{IsSome};
 ghost use Rattle.std.proofs.Common.{lit<};
 
 use crate::square_root_tables as tables;
 use crate::square_root_tables::Root;
-use p3_bench_prime::form::{Modulus, Order, Plain};
+use p3_bench_prime::form::{Modulus, Plain};
 use p3_bench_prime::fp::Fp;
 use p3_bench_prime::small::{F2, F17, F17b, F31, Z15};
 use p3_field::{
@@ -14,12 +14,6 @@ use std::process::Abort;
 
 /// The marker of the order 4, at which two times two is zero.
 struct M4;
-
-impl Order for M4 {
-    ghost order = { 4 };
-
-    ghost generator = { 3 };
-}
 
 impl Modulus for M4 {
     ghost ORDER = { 4 };
@@ -33,10 +27,6 @@ impl Modulus for M4 {
     const ORDER: u32 = 4;
 
     const GENERATOR: u32 = 3;
-
-    ghost same_order = { refl };
-
-    ghost same_generator = { refl };
 }
 
 /// The root that is answered and the turns of the search, as numbers.

@@ -1,15 +1,27 @@
 -- Polynomials with integer coefficients, and what they are over a ring.
-use Rattle.std.proofs.Common.{◌≡◌, ◌≤◌, ℕ, zero, suc, List, [], ◌∷◌, length, map, get_or, ap, ap₂, ◌∙◌}
+use Rattle.std.proofs.Common.{◌≡◌, ◌≤◌, ℕ, zero, suc, List, [], ◌∷◌, length, map, get_or, ap, ap₂, sym, ◌∙◌}
 use Rattle.std.specs.Prelude.{ℤ, pos, negsuc}
-use Rattle.p3_theory.specs.Rings.Ring.{Ops, Hom}
+use Rattle.p3_theory.specs.Rings.Ring.{Ops, Hom, RingLaws}
+use Rattle.p3_theory.specs.Rings.Multiples.{of_nat, of_int}
 use Rattle.p3_theory.specs.RingSolver.Solver.{nat}
 use Rattle.p3_theory.specs.Polynomials.Polynomial.{IsMonic}
 use Rattle.p3_theory.specs.Rings.Homomorphism.{length-map}
 
--- the element of a ring that an integer stands for
+-- the element of a ring that an integer stands for; of 1 it is the ring's own one before any law
 abbrev pub integer : {A : Type 0} → Ops A → ℤ → A
 integer O (pos n) = nat O n
 integer O (negsuc n) = O.neg (nat O (suc n))
+
+-- by the laws of a ring it is one taken as many times
+module _ {A : Type 0} {O : Ops A} (R : RingLaws O) where
+  nat-is : (n : ℕ) → nat O n ≡ of_nat O n
+  nat-is zero = λ i. O.zero
+  nat-is (suc zero) = sym (R.add_zero O.one)
+  nat-is (suc (suc n)) = R.add_comm (nat O (suc n)) O.one ∙ ap (O.add O.one) (nat-is (suc n))
+
+  pub integer-is-multiple : (z : ℤ) → integer O z ≡ of_int O z
+  integer-is-multiple (pos n) = nat-is n
+  integer-is-multiple (negsuc n) = ap O.neg (nat-is (suc n))
 
 -- the integer -1
 abbrev pub minus_one : ℤ
