@@ -4,7 +4,3 @@ use Rattle.std.specs.Prelude.{ℕ, [], ◌∷◌, Contains}
 -- one of 1, 2, 4, 8, 16, 32 and 64
 abbrev pub IsChunkLength : ℕ → Type 0
 IsChunkLength n = Contains (1 ∷ 2 ∷ 4 ∷ 8 ∷ 16 ∷ 32 ∷ 64 ∷ []) n
-
--- how many values are taken at a time: one of these counts, or all of them, which 0 tells
-abbrev pub IsBatchLength : ℕ → Type 0
-IsBatchLength n = Contains (1 ∷ 2 ∷ 4 ∷ 8 ∷ 16 ∷ 32 ∷ 64 ∷ 0 ∷ []) n

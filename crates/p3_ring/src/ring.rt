@@ -5,7 +5,7 @@ ghost use Rattle.p3_theory.specs.Rings.Powers.{power};
 ghost use Rattle.p3_theory.specs.Polynomials.Polynomial.{quotient_mul, binomial};
 ghost use Rattle.p3_theory.specs.Rings.Multiples.{of_nat, of_int, two};
 ghost use Rattle.p3_theory.specs.Rings.DotProduct.{dot};
-ghost use Rattle.p3_ring.specs.ChunkLengths.{IsBatchLength};
+ghost use Rattle.p3_ring.specs.ChunkLengths.{IsChunkLength};
 ghost use Rattle.p3_theory.specs.Rings.Operators.{Gives, GivesOne, Folds, sum_list, product_list};
 
 use crate::linear_combination::chunked_linear_combination;
@@ -403,7 +403,8 @@ pub trait Algebra<F: PrimeCharacteristicRing>: PrimeCharacteristicRing
     /// The element of F as an element of the algebra.
     ghost embed: { F → Self };
 
-    /// How many values `batched_linear_combination` takes at a time; 0 is all of them.
+    /// How many values `batched_linear_combination` takes at a time: one of 1, 2, 4, 8, 16, 32 and
+    /// 64.
     const BATCHED_LC_CHUNK: usize;
 
     ghost BATCHED_LC_CHUNK: { ℕ };
@@ -437,8 +438,8 @@ pub trait Algebra<F: PrimeCharacteristicRing>: PrimeCharacteristicRing
         sum_of_products(Self::zero(), a, f)
     }
 
-    /// `batched_linear_combination` is written for seven counts of values at a time, and for all at once.
-    ghost chunk_length: { IsBatchLength BATCHED_LC_CHUNK };
+    /// `batched_linear_combination` is written for seven counts of values at a time.
+    ghost chunk_length: { IsChunkLength BATCHED_LC_CHUNK };
 
     /// The embedding keeps zero, one, sums, negations and products.
     ghost embeds: { Hom F.ops Self.ops embed };
@@ -458,14 +459,13 @@ pub trait Algebra<F: PrimeCharacteristicRing>: PrimeCharacteristicRing
     ghost mixed_mul_assigns: { Gives ⟦<Self as MulAssign<F>>⟧.can_mul_assign ⟦<Self as MulAssign<F>>⟧.mul_assign_gives (λ x f. Self.ops.mul x (embed f)) };
 
     /// The sum of the products of values and elements of F, position by position, in chunks of
-    /// `BATCHED_LC_CHUNK`, or at once where that is 0. The slices have one length.
+    /// `BATCHED_LC_CHUNK`. The slices have one length.
     #[inline]
     final fn batched_linear_combination(values: &[Self], coeffs: &[F]) -> Self
         requires { length values.now ≡ length coeffs.now }
         ensures { result ≡ dot Self.ops values.now (map embed coeffs.now) }
     {
         match Self::BATCHED_LC_CHUNK {
-            0 => Self::mixed_dot_product(values, coeffs),
             1 => chunked_linear_combination::<1, Self, F>(values, coeffs),
             2 => chunked_linear_combination::<2, Self, F>(values, coeffs),
             4 => chunked_linear_combination::<4, Self, F>(values, coeffs),
@@ -485,9 +485,10 @@ impl<R: PrimeCharacteristicRing> Algebra<R> for R {
 
     ghost embed = { λ x. x };
 
-    const BATCHED_LC_CHUNK: usize = 0;
+    /// The most, as a ring may sum products in a wide word and reduce once a chunk.
+    const BATCHED_LC_CHUNK: usize = 64;
 
-    ghost BATCHED_LC_CHUNK = { 0 };
+    ghost BATCHED_LC_CHUNK = { 64 };
 
     /// The ring's own sum of products.
     #[inline]
@@ -495,7 +496,7 @@ impl<R: PrimeCharacteristicRing> Algebra<R> for R {
         R::dot_product(a, f)
     }
 
-    ghost chunk_length = { (7, lit< tt, refl) };
+    ghost chunk_length = { (6, lit< tt, refl) };
 
     ghost embeds = { identity R.ops };
 

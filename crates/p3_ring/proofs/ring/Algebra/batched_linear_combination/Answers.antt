@@ -1,8 +1,5 @@
 use Rattle.p3_ring.proofs.ring.Algebra.batched_linear_combination.Goals as goal
 
-pub returns-in-0 : goal.returns-in-0
-returns-in-0 g c = c.mixed_dot_product.ensures
-
 pub returns-in-1 : goal.returns-in-1
 returns-in-1 g c = c.chunked_linear_combination.ensures
 
