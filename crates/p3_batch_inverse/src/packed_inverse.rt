@@ -4,13 +4,13 @@ ghost use Rattle.p3_theory.specs.Rings.Ring.{Invertible, IsInverse};
 ghost use Rattle.p3_theory.specs.Lanes.Lanes.{lane};
 
 use p3_base::field::Field;
-use p3_packings::extension_lanes::ExtensionLanes;
+use p3_packings::extension_lanes::{ExtensionLanes, PackedExtensionRing};
 use p3_ring::ring::PrimeCharacteristicRing;
 
 /// The inverse at each lane, of a packing whose lanes all have one, by one inversion and three products
 /// a lane. It takes every number of lanes. Upstream's `invert_packed_extension`.
 #[inline]
-pub fn invert_packed_extension<F, EF: Field, PE: ExtensionLanes<F, EF>>(packed: PE) -> PE
+pub fn invert_packed_extension<F, EF: Field, PE: PackedExtensionRing<F, EF>>(packed: PE) -> PE
     requires { (k : ℕ) → k < PE.LANES → Invertible EF.ops (lane EF.ops PE.ext_lanes k packed) }
     ensures lanes { (k : ℕ) → k < PE.LANES → IsInverse EF.ops (lane EF.ops PE.ext_lanes k packed) (lane EF.ops PE.ext_lanes k result) }
     ensures inverse { IsInverse PE.ops packed result }

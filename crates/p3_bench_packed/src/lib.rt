@@ -8,3 +8,5 @@ pub mod packed;
 pub mod ring;
 pub mod scalar_operators;
 pub mod wide_products;
+
+pub use packed::Packed;

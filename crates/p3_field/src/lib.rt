@@ -81,7 +81,7 @@ pub use p3_packings::ext_columns::pack_ext_columns;
 pub use p3_packings::ext_columns::pack_ext_columns_fn;
 pub use p3_packings::ext_columns::unpack_ext_into;
 pub use p3_packings::ext_lane_items::ExtLaneItems;
-pub use p3_packings::extension_lanes::ExtensionLanes;
+pub use p3_packings::extension_lanes::{ExtensionLanes, PackedExtensionRing};
 pub use p3_packings::packed_field_extension::PackedFieldExtension;
 pub use p3_packings::unpacked_ext_rows::UnpackedExtRows;
 pub use p3_packings::unpacked_ext_rows::unpack_ext_iter;

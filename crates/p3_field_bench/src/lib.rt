@@ -16,7 +16,8 @@ mod words;
 pub use p3_bench_prime::baby_bear::BabyBear;
 pub use p3_bench_prime::complex_tower::F31cx2;
 pub use p3_bench_prime::extensions::{
-    BabyBearx4, F2t5, F17bx2, F17t5, F17x2, F17x4, F17x8, F31c, F31t3, F31x3, F31x5, F31x6, Z15x2,
+    BabyBearx4, F2t5, F2t7, F17bx2, F17t5, F17x2, F17x4, F17x8, F31c, F31t3, F31x3, F31x5, F31x6,
+    Z15x2,
 };
 pub use p3_bench_prime::fp::Fp;
 pub use p3_bench_prime::goldilocks::Goldilocks;

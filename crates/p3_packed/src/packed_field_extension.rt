@@ -1,17 +1,18 @@
 ghost use Rattle.std.specs.Prelude.{◌≡◌, ◌<◌, ℕ, length, get_or, map, slice_set};
 
 use crate::packed_ext_field::{PackedExtField, Packing};
-use p3_base::field::Field;
-use p3_base::packed_traits::{Packable, PackedField, PackedValue};
-use p3_ext::extension::{ExtField, ExtensionOverAlgebra, ExtensionShape, FrobeniusExtendable};
-use p3_packings::extension_lanes::ExtensionLanes;
+use p3_base::packed_traits::{Inhabited, Packable, PackedField, PackedValue};
+use p3_ext::extension::{
+    ExtField, ExtensionAlgebra, ExtensionOverAlgebra, ExtensionShape, FrobeniusExtendable,
+};
+use p3_packings::extension_lanes::{ExtensionLanes, PackedExtensionRing};
 use p3_packings::packed_field_extension::PackedFieldExtension;
 use p3_ring::packed_ring::PackedRing;
 use p3_ring::ring::{Algebra, PrimeCharacteristicRing};
 
 /// The packing of coefficient i of the values.
 #[inline]
-fn packed_coefficient<F: Field, P: PackedField<F>, const D: usize, S: Copy>(
+fn packed_coefficient<F: PrimeCharacteristicRing, P: PackedRing<F>, const D: usize, S: Copy>(
     slice: &[ExtField<F, D, S, F>],
     i: usize,
 ) -> P
@@ -30,7 +31,7 @@ fn packed_coefficient<F: Field, P: PackedField<F>, const D: usize, S: Copy>(
 
 /// Writes the packings of all coefficients of the values.
 #[inline]
-fn pack_coefficients<F: Field, P: PackedField<F>, const D: usize, S: Copy>(
+fn pack_coefficients<F: PrimeCharacteristicRing, P: PackedRing<F>, const D: usize, S: Copy>(
     slice: &[ExtField<F, D, S, F>],
     res: &mut [P],
 )
@@ -65,19 +66,24 @@ fn write_lanes<F: PrimeCharacteristicRing, P: PackedRing<F>>(
 
 /// The lanes are extension values: lane k has lane k of each coefficient.
 impl<
-    F: Field + ExtensionOverAlgebra<P, D, S> + Packable,
+    F: ExtensionAlgebra<F, D, S> + Packable,
     const D: usize,
     S: ExtensionShape,
-    P: PackedField<F> + Packing,
+    P: PackedRing<F> + Inhabited + Packing,
 > ExtensionLanes<F, ExtField<F, D, S, F>> for PackedExtField<F, D, S, P> {
     ghost use Rattle.p3_theory.specs.Polynomials.Coefficients.{length-tabulate};
-    ghost use Rattle.p3_packed.specs.ValueLanes.{value_lanes, lanes_keep, lanes_apart, lane_of_spread};
+    ghost use Rattle.p3_packed.specs.ValueLanes.{value_lanes, lanes_apart};
 
     const LANES: usize = <P as PackedValue>::WIDTH;
 
     ghost LANES = { P.WIDTH };
 
     ghost ext_lanes = { value_lanes P.ops F.ops P.lanes P.WIDTH };
+
+    #[inline]
+    fn ext_broadcast(value: ExtField<F, D, S, F>) -> Self {
+        Self::from(value)
+    }
 
     #[inline]
     fn from_ext_slice(slice: &[ExtField<F, D, S, F>]) -> Self {
@@ -106,6 +112,16 @@ impl<
     ghost ext_lengths = { λ x. length-tabulate P.WIDTH _ };
 
     ghost ext_same = { lanes_apart P.ops F.ops P.lanes P.WIDTH P.PackedRing.same P.PackedRing.lengths };
+}
+
+/// Each lane keeps the operations of the extension.
+impl<
+    F: ExtensionOverAlgebra<P, D, S> + Packable,
+    const D: usize,
+    S: ExtensionShape,
+    P: PackedRing<F> + Inhabited + Packing,
+> PackedExtensionRing<F, ExtField<F, D, S, F>> for PackedExtField<F, D, S, P> {
+    ghost use Rattle.p3_packed.specs.ValueLanes.{lanes_keep, lane_of_spread};
 
     ghost ext_keeps = { lanes_keep P.ops F.ops P.lanes P.WIDTH P.keeps (map ⟦<P as Algebra<F>>⟧.embed F.modulus) F.modulus (λ k h. lane_of_spread F.ops P.lanes P.WIDTH ⟦<P as Algebra<F>>⟧.embed P.injects k h F.modulus) };
 }

@@ -3,7 +3,7 @@ use crate::rows::{Row, part, word};
 use crate::texts::{holds, packing, value_at};
 use p3_base::field::Field;
 use p3_packings::ext_columns::{pack_ext_columns, pack_ext_columns_fn, unpack_ext_into};
-use p3_packings::extension_lanes::ExtensionLanes;
+use p3_packings::extension_lanes::PackedExtensionRing;
 use p3_packings::unpacked_ext_rows::{UnpackedExtRows, unpack_ext_iter};
 use p3_ring::ring::PrimeCharacteristicRing;
 use p3_spaces::basis::BasedVectorSpace;
@@ -30,7 +30,7 @@ fn columns<F, EF, PE, const N: usize>(text: &str) -> [PE; N]
 where
     F: Field,
     EF: Field + BasedVectorSpace<F>,
-    PE: ExtensionLanes<F, EF>,
+    PE: PackedExtensionRing<F, EF>,
 {
     std::array::from_fn(|c: usize| -> PE { packing::<F, EF, PE>(part(text, c)) })
 }
@@ -40,7 +40,7 @@ fn all_hold<F, EF, PE, const N: usize>(packings: [PE; N], text: &str) -> bool
 where
     F: Field,
     EF: Field + BasedVectorSpace<F>,
-    PE: ExtensionLanes<F, EF>,
+    PE: PackedExtensionRing<F, EF>,
 {
     for c in 0..N {
         let packing = packings[c];
@@ -56,7 +56,7 @@ fn called_columns<F, EF, PE, const N: usize>(_array: &[[EF; N]], text: &str) -> 
 where
     F: Field,
     EF: Field + BasedVectorSpace<F>,
-    PE: ExtensionLanes<F, EF>,
+    PE: PackedExtensionRing<F, EF>,
 {
     pack_ext_columns_fn::<F, EF, PE, [EF; N], _, N>(|l: usize| -> [EF; N] {
         array::<F, EF, N>(part(text, l))
@@ -74,7 +74,7 @@ fn packed_agree<F, EF, PE, const N: usize>(
 where
     F: Field,
     EF: Field + BasedVectorSpace<F>,
-    PE: ExtensionLanes<F, EF>,
+    PE: PackedExtensionRing<F, EF>,
 {
     let rows = arrays::<F, EF, N>(alloc, array, row.arguments)?;
     if rows.len() != PE::LANES {
@@ -97,7 +97,7 @@ fn unpacked_agree<F, EF, PE, const N: usize>(
 where
     F: Field,
     EF: Field + BasedVectorSpace<F>,
-    PE: ExtensionLanes<F, EF>,
+    PE: PackedExtensionRing<F, EF>,
 {
     let mut unpacked = arrays::<F, EF, N>(alloc, array, answer)?;
     let expected = arrays::<F, EF, N>(alloc, array, answer)?;
@@ -124,7 +124,7 @@ fn columns_agree<F, EF, PE, const N: usize>(
 where
     F: Field,
     EF: Field + BasedVectorSpace<F>,
-    PE: ExtensionLanes<F, EF>,
+    PE: PackedExtensionRing<F, EF>,
 {
     match word(row.call, 0) {
         "pack_ext_columns" => packed_agree::<F, EF, PE, N>(alloc, array, column, row),
@@ -155,7 +155,7 @@ pub(crate) fn counted_columns_agree<F, EF, PE>(
 where
     F: Field,
     EF: Field + BasedVectorSpace<F>,
-    PE: ExtensionLanes<F, EF>,
+    PE: PackedExtensionRing<F, EF>,
 {
     match word(row.call, 1) {
         "1" => columns_agree::<F, EF, PE, 1>(alloc, &[], &[], None, row),

@@ -8,7 +8,7 @@ use crate::rows::Row;
 use crate::texts::{counted, holds, packing, packings, value, values};
 use p3_base::field::Field;
 use p3_batch_inverse::packed_inverse::invert_packed_extension;
-use p3_packings::extension_lanes::ExtensionLanes;
+use p3_packings::extension_lanes::{ExtensionLanes, PackedExtensionRing};
 use p3_spaces::basis::BasedVectorSpace;
 use std::alloc::{AllocError, Global};
 
@@ -20,7 +20,7 @@ pub(crate) fn lanes_agree<F, EF, PE>(
 where
     F: Field,
     EF: Field + BasedVectorSpace<F>,
-    PE: ExtensionLanes<F, EF>,
+    PE: PackedExtensionRing<F, EF>,
 {
     let first = row.argument(0);
     let given = match row.call {
@@ -40,7 +40,7 @@ where
 }
 
 /// Whether the value of a lane is the row's.
-fn extracted<F: Field, EF: Field + BasedVectorSpace<F>, PE: ExtensionLanes<F, EF>>(
+fn extracted<F: Field, EF: Field + BasedVectorSpace<F>, PE: PackedExtensionRing<F, EF>>(
     row: Row<'_>,
 ) -> Option<bool> {
     let x = packing::<F, EF, PE>(row.argument(0));
@@ -52,7 +52,7 @@ fn extracted<F: Field, EF: Field + BasedVectorSpace<F>, PE: ExtensionLanes<F, EF
 }
 
 /// Whether the values that a packing writes to a slice are the row's.
-fn written<F: Field, EF: Field + BasedVectorSpace<F>, PE: ExtensionLanes<F, EF>>(
+fn written<F: Field, EF: Field + BasedVectorSpace<F>, PE: PackedExtensionRing<F, EF>>(
     alloc: Global,
     row: Row<'_>,
 ) -> Result<Option<bool>, AllocError> {
@@ -67,7 +67,7 @@ fn written<F: Field, EF: Field + BasedVectorSpace<F>, PE: ExtensionLanes<F, EF>>
 }
 
 /// Whether the values of packings are the row's once they are transposed.
-fn transposed<F: Field, EF: Field + BasedVectorSpace<F>, PE: ExtensionLanes<F, EF>>(
+fn transposed<F: Field, EF: Field + BasedVectorSpace<F>, PE: PackedExtensionRing<F, EF>>(
     alloc: Global,
     row: Row<'_>,
 ) -> Result<Option<bool>, AllocError> {
@@ -88,7 +88,7 @@ fn transposed<F: Field, EF: Field + BasedVectorSpace<F>, PE: ExtensionLanes<F, E
 }
 
 /// The packing with the values of a text, where there are as many as lanes.
-fn of_slice<F: Field, EF: Field + BasedVectorSpace<F>, PE: ExtensionLanes<F, EF>>(
+fn of_slice<F: Field, EF: Field + BasedVectorSpace<F>, PE: PackedExtensionRing<F, EF>>(
     alloc: Global,
     text: &str,
 ) -> Result<Option<PE>, AllocError> {
@@ -100,7 +100,7 @@ fn of_slice<F: Field, EF: Field + BasedVectorSpace<F>, PE: ExtensionLanes<F, EF>
 }
 
 /// The packing with a value written to a lane, or added to it.
-fn with_lane<F: Field, EF: Field + BasedVectorSpace<F>, PE: ExtensionLanes<F, EF>>(
+fn with_lane<F: Field, EF: Field + BasedVectorSpace<F>, PE: PackedExtensionRing<F, EF>>(
     row: Row<'_>,
 ) -> Option<PE> {
     let mut x = packing::<F, EF, PE>(row.argument(0));
@@ -117,7 +117,7 @@ fn with_lane<F: Field, EF: Field + BasedVectorSpace<F>, PE: ExtensionLanes<F, EF
 }
 
 /// Whether every lane has an inverse.
-pub(crate) fn have_inverses<F, EF: Field, PE: ExtensionLanes<F, EF>>(packed: PE) -> bool
+pub(crate) fn have_inverses<F, EF: Field, PE: PackedExtensionRing<F, EF>>(packed: PE) -> bool
     ensures { IsTrue result → (k : ℕ) → k < PE.LANES → Invertible EF.ops (lane EF.ops PE.ext_lanes k packed) }
 {
     for lane in 0..PE::LANES {
@@ -130,7 +130,7 @@ pub(crate) fn have_inverses<F, EF: Field, PE: ExtensionLanes<F, EF>>(packed: PE)
 }
 
 /// The inverse of every lane, where each has one.
-fn inverse<F: Field, EF: Field + BasedVectorSpace<F>, PE: ExtensionLanes<F, EF>>(
+fn inverse<F: Field, EF: Field + BasedVectorSpace<F>, PE: PackedExtensionRing<F, EF>>(
     x: PE,
 ) -> Option<PE> {
     if have_inverses::<F, EF, PE>(x) {

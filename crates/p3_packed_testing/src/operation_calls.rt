@@ -13,7 +13,7 @@ use p3_base::packed_traits::{Packable, PackedField, PackedValue};
 use p3_ext::extension::{ExtField, ExtensionOverAlgebra, ExtensionShape, FrobeniusExtendable};
 use p3_packed::holds_scalar::HoldsScalar;
 use p3_packed::packed_ext_field::PackedExtField;
-use p3_packings::extension_lanes::ExtensionLanes;
+use p3_packings::extension_lanes::PackedExtensionRing;
 use p3_packings::packed_field_extension::PackedFieldExtension;
 use p3_ring::ring::RingSums;
 use p3_spaces::basis::BasedVectorSpace;
@@ -85,7 +85,7 @@ fn total_agrees<F, EF, PE>(alloc: Global, row: Row<'_>) -> Result<Option<bool>, 
 where
     F: Field,
     EF: Field + BasedVectorSpace<F>,
-    PE: ExtensionLanes<F, EF> + RingSums,
+    PE: PackedExtensionRing<F, EF> + RingSums,
 {
     let values = packings::<F, EF, PE>(alloc, row.argument(0))?;
     match total::<PE>(word(row.call, 1), values) {

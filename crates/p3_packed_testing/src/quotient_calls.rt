@@ -13,12 +13,12 @@ use p3_base::packed_traits::{Packable, PackedField};
 use p3_ext::extension::{ExtField, ExtensionOverAlgebra, ExtensionShape, FrobeniusExtendable};
 use p3_packed::holds_scalar::HoldsScalar;
 use p3_packed::packed_ext_field::PackedExtField;
-use p3_packings::extension_lanes::ExtensionLanes;
+use p3_packings::extension_lanes::PackedExtensionRing;
 use p3_ring::ring::PrimeCharacteristicRing;
 use p3_spaces::basis::BasedVectorSpace;
 
 /// Packings of values of EF with the quotients that tables have.
-trait Quotients<F, EF: PrimeCharacteristicRing>: ExtensionLanes<F, EF> {
+trait Quotients<F, EF: PrimeCharacteristicRing>: PackedExtensionRing<F, EF> {
     /// The quotient by a value that has an inverse.
     fn over_value(self, value: EF) -> Self
         requires { Invertible EF.ops value };

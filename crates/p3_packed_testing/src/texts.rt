@@ -3,7 +3,7 @@
 use crate::rows::word;
 use p3_base::field::Field;
 use p3_base::packed_traits::{PackedField, PackedValue};
-use p3_packings::extension_lanes::ExtensionLanes;
+use p3_packings::extension_lanes::{ExtensionLanes, PackedExtensionRing};
 use p3_ring::ring::PrimeCharacteristicRing;
 use p3_spaces::basis::BasedVectorSpace;
 use std::alloc::{AllocError, Global};
@@ -52,14 +52,14 @@ pub fn counted<EF: PrimeCharacteristicRing>(
 }
 
 /// The packing with the values of a text, zero past its end.
-pub fn packing<F: Field, EF: Field + BasedVectorSpace<F>, PE: ExtensionLanes<F, EF>>(
+pub fn packing<F: Field, EF: Field + BasedVectorSpace<F>, PE: PackedExtensionRing<F, EF>>(
     text: &str,
 ) -> PE {
     PE::from_ext_fn(|lane: usize| -> EF { value_at::<F, EF>(text, lane) })
 }
 
 /// The packings of a text.
-pub fn packings<F: Field, EF: Field + BasedVectorSpace<F>, PE: ExtensionLanes<F, EF>>(
+pub fn packings<F: Field, EF: Field + BasedVectorSpace<F>, PE: PackedExtensionRing<F, EF>>(
     alloc: Global,
     text: &str,
 ) -> Result<Vec<PE>, AllocError> {
@@ -84,7 +84,7 @@ pub fn base_packings<F: Field, P: PackedField<F>>(
 }
 
 /// Whether the lanes of a packing hold the values of a text.
-pub fn holds<F: Field, EF: Field + BasedVectorSpace<F>, PE: ExtensionLanes<F, EF>>(
+pub fn holds<F: Field, EF: Field + BasedVectorSpace<F>, PE: PackedExtensionRing<F, EF>>(
     packing: &PE,
     text: &str,
 ) -> bool {

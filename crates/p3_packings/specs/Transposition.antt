@@ -10,15 +10,15 @@ use Rattle.p3_theory.specs.Rings.Ring.{Ops}
 use Rattle.p3_theory.specs.Lists.TabulatedPlaces.{HoldsBelow, holds-more}
 
 -- value i of a list of packings of w lanes, from lane 0 upward, packing after packing
-abbrev pub value_at : {P F : Type 0} → Ops P → Ops F → (P → List F) → ℕ → List P → ℕ → F
-value_at O Q lanes w packings i = get_or (lanes (get_or packings (i / w) O.zero)) (i % w) Q.zero
+abbrev pub value_at : {P F : Type 0} → P → Ops F → (P → List F) → ℕ → List P → ℕ → F
+value_at d Q lanes w packings i = get_or (lanes (get_or packings (i / w) d)) (i % w) Q.zero
 
 -- a value that was read of a packing
-pub value_read : {P F : Type 0} (O : Ops P) (Q : Ops F) (lanes : P → List F) (w : ℕ) (packings : List P) (i m n : ℕ) (p : P) (x : F) → m ≡ w → n ≡ w → i / m < length packings
-    → p ≡ get_or packings (i / m) p → slice_get (lanes p) (i % n) ≡ Some x → x ≡ value_at O Q lanes w packings i
-value_read O Q lanes w packings i m n p x em en b at read =
+pub value_read : {P F : Type 0} (d : P) (Q : Ops F) (lanes : P → List F) (w : ℕ) (packings : List P) (i m n : ℕ) (p : P) (x : F) → m ≡ w → n ≡ w → i / m < length packings
+    → p ≡ get_or packings (i / m) p → slice_get (lanes p) (i % n) ≡ Some x → x ≡ value_at d Q lanes w packings i
+value_read d Q lanes w packings i m n p x em en b at read =
     sym (get_or_from_slice_get (lanes p) (i % n) x Q.zero read) ∙ ap (λ k. get_or (lanes p) (i % k) Q.zero) en
-    ∙ ap (λ q. get_or (lanes q) (i % w) Q.zero) (at ∙ get_or_default packings (i / m) p O.zero b ∙ ap (λ k. get_or packings (i / k) O.zero) em)
+    ∙ ap (λ q. get_or (lanes q) (i % w) Q.zero) (at ∙ get_or_default packings (i / m) p d b ∙ ap (λ k. get_or packings (i / k) d) em)
 
 -- index c * height + r of the target holds value r * width + c
 abbrev pub IsTransposed : {F : Type 0} → (ℕ → F) → F → ℕ → ℕ → List F → Type 0

@@ -1,18 +1,18 @@
-ghost use Rattle.std.specs.Prelude.{◌≡◌, ◌<◌, ◌*◌, ◌/◌, ◌%◌, ℕ, List, length, get_or, slice_get, slice_set, Some};
+ghost use Rattle.std.specs.Prelude.{◌≡◌, ◌<◌, ◌*◌, ◌/◌, ◌%◌, ℕ, List, length, get_or, replicate, slice_get, slice_set, Some};
 ghost use Rattle.std.specs.Array.{IsFromFnResult};
 ghost use Rattle.p3_theory.specs.Bases.Coordinates.{CallableBelow};
 ghost use Rattle.p3_theory.specs.Lanes.Lanes.{KeepsLanes};
 ghost use Rattle.p3_packings.specs.Transposition.{IsTransposed, value_at};
 
-use p3_base::field::Field;
-use p3_base::packed_traits::{Inhabited, Packable, PackedField, PackedValue};
+use p3_base::packed_traits::{Inhabited, Packable, PackedValue};
+use p3_ring::packed_ring::PackedRing;
 use p3_ring::ring::PrimeCharacteristicRing;
 
-/// Values of EF side by side, each in a lane of its own: what an operation gives at a lane is EF's own
-/// operation on that lane. It is the part of upstream's `PackedFieldExtension` that says nothing of
-/// coefficients, which are values of F, so that what reads lanes alone asks for no more. This project's
-/// own.
-pub trait ExtensionLanes<F, EF: PrimeCharacteristicRing>: PrimeCharacteristicRing + Inhabited {
+/// Values of EF side by side, each in a lane of its own, which is read and written: the part of
+/// upstream's `PackedFieldExtension` that says nothing of coefficients, which are values of F, nor of
+/// operations. What reads and writes lanes alone asks for no more, so that a call at a concrete packed
+/// type passes little. This project's own.
+pub trait ExtensionLanes<F, EF: PrimeCharacteristicRing>: Inhabited {
     /// The number of lanes.
     const LANES: usize;
 
@@ -20,6 +20,10 @@ pub trait ExtensionLanes<F, EF: PrimeCharacteristicRing>: PrimeCharacteristicRin
 
     /// The values, from lane 0 upward.
     ghost ext_lanes: { Self → List EF };
+
+    /// The value in all lanes.
+    fn ext_broadcast(value: EF) -> Self
+        ensures { ext_lanes result ≡ replicate LANES value };
 
     /// The values of the slice, lane by lane. The slice has `LANES` values.
     fn from_ext_slice(slice: &[EF]) -> Self
@@ -42,9 +46,6 @@ pub trait ExtensionLanes<F, EF: PrimeCharacteristicRing>: PrimeCharacteristicRin
     /// Values with the same lanes are one value.
     ghost ext_same: { (x y : Self) → ext_lanes x ≡ ext_lanes y → x ≡ y };
 
-    /// Each lane keeps zero, one, sums, negations and products.
-    ghost ext_keeps: { KeepsLanes Self.ops EF.ops ext_lanes LANES };
-
     /// Writes the lanes to the slice, which has `LANES` values. Upstream's `to_ext_slice`.
     #[inline]
     final fn to_ext_slice(&self, out: &mut [EF])
@@ -63,7 +64,7 @@ pub trait ExtensionLanes<F, EF: PrimeCharacteristicRing>: PrimeCharacteristicRin
         requires { CallableBelow G.FnMut LANES f }
         ensures { IsFromFnResult G.FnMut f (ext_lanes result) LANES }
     {
-        let mut packed = Self::zero();
+        let mut packed = Self::ext_broadcast(EF::zero());
         for lane in 0..Self::LANES {
             let value = f(lane);
             packed.set_ext_lane(lane, value);
@@ -91,7 +92,7 @@ pub trait ExtensionLanes<F, EF: PrimeCharacteristicRing>: PrimeCharacteristicRin
         requires width { 0 < src_width }
         requires whole { length dst.old ≡ length src.now * LANES }
         requires divides { length dst.old % src_width ≡ 0 }
-        ensures { IsTransposed (value_at Self.ops EF.ops ext_lanes LANES src.now) EF.ops.zero src_width (length dst.old / src_width) dst.new }
+        ensures { IsTransposed (value_at Self.inhabitant EF.ops ext_lanes LANES src.now) EF.ops.zero src_width (length dst.old / src_width) dst.new }
     {
         let height = dst.len() / src_width;
         for c in 0..src_width {
@@ -105,13 +106,27 @@ pub trait ExtensionLanes<F, EF: PrimeCharacteristicRing>: PrimeCharacteristicRin
     }
 }
 
+/// Values of EF side by side as a ring: what an operation gives at a lane is EF's own operation on that
+/// lane. This project's own.
+pub trait PackedExtensionRing<F, EF: PrimeCharacteristicRing>: ExtensionLanes<F, EF>
+    + PrimeCharacteristicRing {
+    /// Each lane keeps zero, one, sums, negations and products.
+    ghost ext_keeps: { KeepsLanes Self.ops EF.ops Self.ext_lanes Self.LANES };
+}
+
 /// A packing of F has its values in its lanes.
-impl<F: Field + Packable, P: PackedField<F>> ExtensionLanes<F, F> for P {
+impl<F: PrimeCharacteristicRing + Packable, P: PackedRing<F> + Inhabited> ExtensionLanes<F, F>
+    for P {
     const LANES: usize = <P as PackedValue>::WIDTH;
 
     ghost LANES = { P.WIDTH };
 
     ghost ext_lanes = { P.lanes };
+
+    #[inline]
+    fn ext_broadcast(value: F) -> P {
+        P::broadcast(value)
+    }
 
     #[inline]
     fn from_ext_slice(slice: &[F]) -> P {
@@ -131,6 +146,10 @@ impl<F: Field + Packable, P: PackedField<F>> ExtensionLanes<F, F> for P {
     ghost ext_lengths = { P.lengths };
 
     ghost ext_same = { P.PackedRing.same };
+}
 
+/// Each lane of a packing keeps the operations.
+impl<F: PrimeCharacteristicRing + Packable, P: PackedRing<F> + Inhabited> PackedExtensionRing<F, F>
+    for P {
     ghost ext_keeps = { P.keeps };
 }

@@ -11,7 +11,7 @@ ghost use Rattle.p3_packings.specs.CappedPowers.{PacksPowers};
 ghost use Rattle.p3_spaces.specs.Streams.{YieldsExactly, DrawnFrom};
 
 use crate::ext_lane_items::ExtLaneItems;
-use crate::extension_lanes::ExtensionLanes;
+use crate::extension_lanes::{ExtensionLanes, PackedExtensionRing};
 use p3_base::field::Field;
 use p3_base::packed_traits::{Packable, PackedField};
 use p3_ring::powers::{BoundedPowers, Powers};
@@ -26,7 +26,7 @@ fn powers_by_lanes<F, EF: PrimeCharacteristicRing, P: ExtensionLanes<F, EF>>(bas
     ensures lanes { HoldsBelow (geometric_term EF.ops base EF.ops.one) EF.ops.zero (P.ext_lanes result.0) P.LANES }
     ensures next { result.1 ≡ geometric_term EF.ops base EF.ops.one P.LANES }
 {
-    let mut current = P::zero();
+    let mut current = P::ext_broadcast(EF::zero());
     let mut power = EF::one();
     for lane in 0..P::LANES {
         current.set_ext_lane(lane, power);
@@ -38,7 +38,7 @@ fn powers_by_lanes<F, EF: PrimeCharacteristicRing, P: ExtensionLanes<F, EF>>(bas
 /// Values of an extension side by side: what an operation gives at a lane is the extension's own
 /// operation on that lane, and the coefficients at a lane are that lane of the coefficients. Upstream's
 /// `PackedFieldExtension`.
-pub trait PackedFieldExtension<F: Field, EF: ExtensionField<F>>: ExtensionLanes<F, EF>
+pub trait PackedFieldExtension<F: Field, EF: ExtensionField<F>>: PackedExtensionRing<F, EF>
     + Algebra<EF>
     + Algebra<Self::Base>
     + BasedVectorSpace<Self::Base> {

@@ -6,7 +6,7 @@ ghost use Rattle.p3_ext.specs.Values.{ext_ops};
 ghost use Rattle.p3_runs.specs.Runs.{Fit, run};
 
 use p3_ext::extension::{ExtField, ExtensionShape, FrobeniusExtendable};
-use p3_packings::extension_lanes::ExtensionLanes;
+use p3_packings::extension_lanes::PackedExtensionRing;
 use p3_runs::steps::Step;
 use p3_vectorized::steps::run_lane_steps;
 use p3_vectorized::vectorized_ext::VectorizedExt;
@@ -17,7 +17,7 @@ use p3_vectorized::vectorized_ext::VectorizedExt;
 #[inline]
 pub fn run_lane_steps_by_coefficients<
     F: FrobeniusExtendable<D, S>,
-    PE: ExtensionLanes<F, ExtField<F, D, S, F>>,
+    PE: PackedExtensionRing<F, ExtField<F, D, S, F>>,
     const D: usize,
     S: ExtensionShape,
     const N: usize,

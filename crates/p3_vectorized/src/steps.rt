@@ -4,7 +4,7 @@ ghost use Rattle.p3_runs.specs.Runs.{Fit, run};
 ghost use Rattle.p3_theory.specs.Lanes.VectorLanes.{vector_lane};
 
 use crate::vectorized_ext::VectorizedExt;
-use p3_packings::extension_lanes::ExtensionLanes;
+use p3_packings::extension_lanes::PackedExtensionRing;
 use p3_ring::ring::PrimeCharacteristicRing;
 use p3_runs::steps::{Step, run_steps};
 
@@ -14,7 +14,7 @@ use p3_runs::steps::{Step, run_steps};
 pub fn run_lane_steps<
     F: Copy,
     EF: PrimeCharacteristicRing,
-    PE: ExtensionLanes<F, EF>,
+    PE: PackedExtensionRing<F, EF>,
     const N: usize,
 >(regs: &mut [VectorizedExt<F, EF, PE, N>], steps: &[Step])
     requires { Fit (length regs.old) steps.now }

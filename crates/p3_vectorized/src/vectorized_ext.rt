@@ -8,7 +8,7 @@ ghost use Rattle.p3_theory.specs.Lanes.VectorLanes.{vector_lane};
 
 use crate::vectorized::Vectorized;
 use p3_base::packed_traits::Inhabited;
-use p3_packings::extension_lanes::ExtensionLanes;
+use p3_packings::extension_lanes::{ExtensionLanes, PackedExtensionRing};
 use p3_ring::accumulate::{product_from, sum_from};
 use p3_ring::ring::{PrimeCharacteristicRing, RingSums};
 use p3_spaces::basis::BasedVectorSpace;
@@ -352,7 +352,7 @@ impl<F: Copy, EF: Copy, PE: PrimeCharacteristicRing + Inhabited, const N: usize>
     }
 }
 
-impl<F: Copy, EF: PrimeCharacteristicRing, PE: ExtensionLanes<F, EF>, const N: usize> VectorizedExt<
+impl<F: Copy, EF: PrimeCharacteristicRing, PE: PackedExtensionRing<F, EF>, const N: usize> VectorizedExt<
     F,
     EF,
     PE,

@@ -3,7 +3,7 @@
 use p3_base::field::Field;
 use p3_packed_testing::rows::{Row, word};
 use p3_packed_testing::texts::values;
-use p3_packings::extension_lanes::ExtensionLanes;
+use p3_packings::extension_lanes::PackedExtensionRing;
 use p3_ring::ring::PrimeCharacteristicRing;
 use p3_runs::steps::{Step, run_steps, steps_fit};
 use p3_spaces::basis::BasedVectorSpace;
@@ -31,7 +31,7 @@ pub(crate) fn counted_runs_agree<F, EF, PE>(
 where
     F: Field,
     EF: Field + BasedVectorSpace<F>,
-    PE: ExtensionLanes<F, EF>,
+    PE: PackedExtensionRing<F, EF>,
 {
     match word(row.call, 1) {
         "1" => run_agrees::<F, EF, PE, 1>(alloc, None, row),
@@ -52,7 +52,7 @@ fn run_agrees<F, EF, PE, const N: usize>(
 where
     F: Field,
     EF: Field + BasedVectorSpace<F>,
-    PE: ExtensionLanes<F, EF>,
+    PE: PackedExtensionRing<F, EF>,
 {
     let Some(list) = list_of(row.argument(1)) else {
         return Ok(None);
@@ -83,7 +83,7 @@ where
 
 /// Puts the values into registers, carries out the steps by `run_lane_steps` and reads the values back;
 /// whether the steps fit.
-fn run_vectors<F: Copy, EF: PrimeCharacteristicRing, PE: ExtensionLanes<F, EF>, const N: usize>(
+fn run_vectors<F: Copy, EF: PrimeCharacteristicRing, PE: PackedExtensionRing<F, EF>, const N: usize>(
     registers: &mut Vec<VectorizedExt<F, EF, PE, N>>,
     values: &mut [EF],
     steps: &[Step],
@@ -98,7 +98,7 @@ fn run_vectors<F: Copy, EF: PrimeCharacteristicRing, PE: ExtensionLanes<F, EF>, 
 }
 
 /// Puts the values into registers, a vector's lanes at a time.
-fn put_values<F: Copy, EF: PrimeCharacteristicRing, PE: ExtensionLanes<F, EF>, const N: usize>(
+fn put_values<F: Copy, EF: PrimeCharacteristicRing, PE: PackedExtensionRing<F, EF>, const N: usize>(
     registers: &mut Vec<VectorizedExt<F, EF, PE, N>>,
     values: &[EF],
 ) -> Result<(), AllocError> {
@@ -117,7 +117,7 @@ fn put_values<F: Copy, EF: PrimeCharacteristicRing, PE: ExtensionLanes<F, EF>, c
 }
 
 /// Reads the values of all lanes of the registers, one register after the other.
-fn read_values<F: Copy, EF: PrimeCharacteristicRing, PE: ExtensionLanes<F, EF>, const N: usize>(
+fn read_values<F: Copy, EF: PrimeCharacteristicRing, PE: PackedExtensionRing<F, EF>, const N: usize>(
     registers: &[VectorizedExt<F, EF, PE, N>],
     values: &mut [EF],
 ) {
@@ -138,7 +138,7 @@ fn read_values<F: Copy, EF: PrimeCharacteristicRing, PE: ExtensionLanes<F, EF>, 
 }
 
 /// The value of a register at a lane, where there is one.
-fn at_lane<F: Copy, EF: PrimeCharacteristicRing, PE: ExtensionLanes<F, EF>, const N: usize>(
+fn at_lane<F: Copy, EF: PrimeCharacteristicRing, PE: PackedExtensionRing<F, EF>, const N: usize>(
     register: &VectorizedExt<F, EF, PE, N>,
     lane: usize,
 ) -> Option<EF> {
@@ -150,7 +150,7 @@ fn at_lane<F: Copy, EF: PrimeCharacteristicRing, PE: ExtensionLanes<F, EF>, cons
 }
 
 /// The register with these values, where there are as many as lanes.
-fn register<F: Copy, EF: PrimeCharacteristicRing, PE: ExtensionLanes<F, EF>, const N: usize>(
+fn register<F: Copy, EF: PrimeCharacteristicRing, PE: PackedExtensionRing<F, EF>, const N: usize>(
     values: &[EF],
 ) -> Option<VectorizedExt<F, EF, PE, N>> {
     if values.len() != PE::LANES.checked_mul(N)? {
@@ -160,7 +160,7 @@ fn register<F: Copy, EF: PrimeCharacteristicRing, PE: ExtensionLanes<F, EF>, con
 }
 
 /// The packings of values.
-fn packings<F: Copy, EF: PrimeCharacteristicRing, PE: ExtensionLanes<F, EF>, const N: usize>(
+fn packings<F: Copy, EF: PrimeCharacteristicRing, PE: PackedExtensionRing<F, EF>, const N: usize>(
     values: &[EF],
 ) -> [PE; N] {
     std::array::from_fn(|i: usize| -> PE {
@@ -172,7 +172,7 @@ fn packings<F: Copy, EF: PrimeCharacteristicRing, PE: ExtensionLanes<F, EF>, con
 }
 
 /// The packing at an index of values, where there are so many.
-fn packing<F: Copy, EF: PrimeCharacteristicRing, PE: ExtensionLanes<F, EF>>(
+fn packing<F: Copy, EF: PrimeCharacteristicRing, PE: PackedExtensionRing<F, EF>>(
     values: &[EF],
     i: usize,
 ) -> Option<PE> {

@@ -67,7 +67,7 @@ pub returns-clause-inverse : goal.returns-clause-inverse
 returns-clause-inverse g c =
     let o = g.EF.PrimeCharacteristicRing.ops in
     let lanes = g.PE.ExtensionLanes.ext_lanes in
-    let keeps = g.met.PE.ExtensionLanes.ext_keeps in
+    let keeps = g.met.PE.PackedExtensionRing.ext_keeps in
     let long = g.met.PE.ExtensionLanes.ext_lengths in
     g.met.PE.ExtensionLanes.ext_same _ _
     (ext_get_or o.zero _ _ (long _ ∙ sym (long _))

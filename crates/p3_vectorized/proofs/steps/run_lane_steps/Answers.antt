@@ -4,5 +4,5 @@ use Rattle.p3_vectorized.proofs.steps.run_lane_steps.Goals as goal
 
 pub returns : goal.returns
 returns g c i h =
-    run-through (vector_keeps g.PE.PrimeCharacteristicRing.ops g.EF.PrimeCharacteristicRing.ops g.PE.ExtensionLanes.ext_lanes g.PE.ExtensionLanes.LANES g.met.PE.ExtensionLanes.ext_keeps i h)
+    run-through (vector_keeps g.PE.PrimeCharacteristicRing.ops g.EF.PrimeCharacteristicRing.ops g.PE.ExtensionLanes.ext_lanes g.PE.ExtensionLanes.LANES g.met.PE.PackedExtensionRing.ext_keeps i h)
     c.args.steps.now c.run_steps.new.regs c.args.regs.now c.run_steps.ensures

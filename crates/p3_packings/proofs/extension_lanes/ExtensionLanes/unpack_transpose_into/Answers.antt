@@ -21,7 +21,7 @@ pub loop-r-preserved : goal.loop-r-preserved
 loop-r-preserved g c =
     let o = g.EF.PrimeCharacteristicRing.ops in
     let lanes = g.Self.ExtensionLanes.ext_lanes in
-    let value = value_at g.Self.PrimeCharacteristicRing.ops o lanes g.Self.ExtensionLanes.LANES c.args.src.now in
+    let value = value_at g.Self.Inhabited.inhabitant o lanes g.Self.ExtensionLanes.LANES c.args.src.now in
     let w = c.args.src_width in
     let h = length c.args.dst.now / w in
     let size : h * w ≡ length c.args.dst.now = whole-size w h (length c.args.dst.now) refl c.requires.divides in
@@ -30,12 +30,12 @@ loop-r-preserved g c =
     let next : c.loop-c.c * h + c.loop-r.r + 1 ≡ c.loop-c.c * h + (c.loop-r.r + 1) = omega arith in
     subst (HoldsBelow (transposed_entry value w h) o.zero _) next
     (transposed-more w h value o.zero c.loop-r.dst c.loop-c.c c.loop-r.r c.extract-value.result c.loop-r-test.true (omega (arith, inside, turned, size, c.loop-r.auto.dst)) c.loop-r.invariant
-    (value_read g.Self.PrimeCharacteristicRing.ops o lanes g.Self.ExtensionLanes.LANES c.args.src.now (c.loop-r.r * w + c.loop-c.c) c.LANES.result c.LANES-in-loop-r.result c.index-src-i.result c.extract-value.result
+    (value_read g.Self.Inhabited.inhabitant o lanes g.Self.ExtensionLanes.LANES c.args.src.now (c.loop-r.r * w + c.loop-c.c) c.LANES.result c.LANES-in-loop-r.result c.index-src-i.result c.extract-value.result
     c.LANES.ensures c.LANES-in-loop-r.ensures (search arith) c.index-src-i.is c.extract-value.ensures))
 
 pub returns : goal.returns
 returns g c =
     let o = g.EF.PrimeCharacteristicRing.ops in
-    let value = value_at g.Self.PrimeCharacteristicRing.ops o g.Self.ExtensionLanes.ext_lanes g.Self.ExtensionLanes.LANES c.args.src.now in
+    let value = value_at g.Self.Inhabited.inhabitant o g.Self.ExtensionLanes.ext_lanes g.Self.ExtensionLanes.LANES c.args.src.now in
     let h = length c.args.dst.now / c.args.src_width in
     transposed-all c.args.src_width h value o.zero c.loop-c.dst (c.loop-c.c * h) (mul-le-mul_right h (omega (arith, c.loop-c-test.false))) c.loop-c.invariant

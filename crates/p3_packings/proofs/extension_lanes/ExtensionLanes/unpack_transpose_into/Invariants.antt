@@ -6,11 +6,11 @@ use Rattle.p3_packings.proofs.extension_lanes.ExtensionLanes.unpack_transpose_in
 abbrev pub invariant-loop-c : goal.invariant-loop-c
 invariant-loop-c g l =
     let o = g.EF.PrimeCharacteristicRing.ops in
-    let value = value_at g.Self.PrimeCharacteristicRing.ops o g.Self.ExtensionLanes.ext_lanes g.Self.ExtensionLanes.LANES l.src in
+    let value = value_at g.Self.Inhabited.inhabitant o g.Self.ExtensionLanes.ext_lanes g.Self.ExtensionLanes.LANES l.src in
     HoldsBelow (transposed_entry value l.src_width l.height) o.zero l.dst (l.c * l.height)
 
 abbrev pub invariant-loop-r : goal.invariant-loop-r
 invariant-loop-r g l =
     let o = g.EF.PrimeCharacteristicRing.ops in
-    let value = value_at g.Self.PrimeCharacteristicRing.ops o g.Self.ExtensionLanes.ext_lanes g.Self.ExtensionLanes.LANES l.src in
+    let value = value_at g.Self.Inhabited.inhabitant o g.Self.ExtensionLanes.ext_lanes g.Self.ExtensionLanes.LANES l.src in
     HoldsBelow (transposed_entry value l.src_width l.height) o.zero l.dst (l.c * l.height + l.r)
