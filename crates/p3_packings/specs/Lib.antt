@@ -1,3 +1,4 @@
 pub mod CallsInTurn
 pub mod CappedPowers
+pub mod LaneItems
 pub mod Transposition
