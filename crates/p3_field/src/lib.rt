@@ -86,6 +86,7 @@ pub use p3_packings::ext_powers::packed_ext_powers;
 pub use p3_packings::ext_powers::packed_ext_powers_capped;
 pub use p3_packings::extension_lanes::ExtensionLanes;
 pub use p3_packings::packed_field_extension::PackedFieldExtension;
+pub use p3_packings::scalar_sums::ScalarSums;
 pub use p3_packings::unpacked_ext_rows::UnpackedExtRows;
 pub use p3_packings::unpacked_ext_rows::unpack_ext_iter;
 pub use p3_ring::linear_combination::chunked_linear_combination;
