@@ -66,6 +66,8 @@ pub use Rattle.p3_tools.specs.PairedRuns
 pub use Rattle.p3_array.specs.ArrayFields
 pub use Rattle.p3_array.specs.ArrayEquality
 pub use Rattle.p3_packings.specs.CappedPowers
+pub use Rattle.p3_packings.specs.LaneItems
+pub use Rattle.p3_packings.specs.ScalarFolds
 pub use Rattle.p3_packings.specs.Transposition
 pub use Rattle.p3_batch_inverse.specs.BatchProducts
 pub use Rattle.p3_batch_inverse.specs.Chains

@@ -109,6 +109,8 @@ impl<
         *self = Self::new(parts);
     }
 
+    ghost some_ext_lane = { P.some_lane };
+
     ghost ext_lengths = { λ x. length-tabulate P.WIDTH _ };
 
     ghost ext_same = { lanes_apart P.ops F.ops P.lanes P.WIDTH P.PackedRing.same P.PackedRing.lengths };

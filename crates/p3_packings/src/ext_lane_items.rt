@@ -1,67 +1,114 @@
 //! The values in the lanes of packings as an iterator.
-ghost use Rattle.std.specs.Prelude.{◌≡◌, ◌≤◌, ◌+◌, ◌*◌, ℕ, [], ◌∷◌, length, MatchOption, IfSome, IfNone};
-ghost use Rattle.std.specs.Iterator.{IsFinite, UpTo, count_map};
+ghost use Rattle.std.specs.Prelude.{◌≡◌, ◌≤◌, ◌+◌, ◌*◌, ℕ, List, [], ◌∷◌, false, length, Some, MatchOption, IfSome, IfNone};
+ghost use Rattle.std.specs.Bool.{MatchBool};
+ghost use Rattle.std.specs.List.{flat_map};
+ghost use Rattle.std.specs.Iterator.{UpTo, count_map, count_unless};
 ghost use Rattle.std.specs.Iterator.SizeHint.{IsWithinCount};
-ghost use Rattle.p3_spaces.specs.Streams.{TakesFirst, left_of};
+ghost use Rattle.p3_spaces.specs.Streams.{YieldsExactly, DrawnFrom, left_of};
+ghost use Rattle.p3_packings.specs.LaneItems.{EndsForGood, TakesFirstUntilEnd};
 
 use crate::extension_lanes::ExtensionLanes;
 use p3_ring::ring::PrimeCharacteristicRing;
 use p3_spaces::hints::bytes_hint;
+use std::iter::FusedIterator;
 use std::marker::PhantomData;
 
 /// The values in the lanes of the packings of an iterator, from lane 0 upward, packing after packing:
 /// what `to_ext_iter` answers.
 #[derive(Drop)]
 pub struct ExtLaneItems<I, F, EF, PE> {
-    pub(crate) source: I,
+    source: I,
     /// The packing whose lanes are given, where one was drawn.
-    pub(crate) packed: Option<PE>,
+    packed: Option<PE>,
     /// The lane of that packing which comes next.
-    pub(crate) lane: usize,
-    pub(crate) values: PhantomData<(F, EF)>,
+    lane: usize,
+    /// Whether the source has ended; then it is not asked again.
+    is_over: bool,
+    values: PhantomData<(F, EF)>,
 }
 
 impl<F, EF: PrimeCharacteristicRing, PE: ExtensionLanes<F, EF>, I: Iterator<Item = PE>> Iterator
     for ExtLaneItems<I, F, EF, PE> {
     type Item = EF;
 
-    ghost can_next = { λ s. I.can_next s.source × IsFinite (I.remaining s.source) };
+    ghost can_next = { λ s. s.is_over ≡ false → I.can_next s.source };
 
-    ghost next_gives = { λ s r t. TakesFirst I.next_gives PE.ext_lanes
-        s.source (left_of PE.ext_lanes s.packed s.lane)
-        r t.source (left_of PE.ext_lanes t.packed t.lane) };
+    ghost next_gives = { λ s r t. TakesFirstUntilEnd I.next_gives PE.ext_lanes
+        s.is_over s.source (left_of PE.ext_lanes s.packed s.lane)
+        r t.is_over t.source (left_of PE.ext_lanes t.packed t.lane) };
 
-    ghost remaining = { λ s. count_map
+    ghost remaining = { λ s. count_unless s.is_over (count_map
         (λ n. length (left_of PE.ext_lanes s.packed s.lane) + PE.LANES * n)
-        (I.remaining s.source) };
+        (I.remaining s.source)) };
 
     #[inline]
     fn next(&mut self) -> Option<EF> {
-        loop {
-            if let Some(value) = next_of_packed::<F, EF, PE>(&self.packed, &mut self.lane) {
-                return Some(value);
-            }
-            let Some(packed) = self.source.next() else {
-                return None;
-            };
-            self.packed = Some(packed);
-            self.lane = 0;
+        if self.is_over {
+            return None;
         }
+        if let Some(value) = next_of_packed::<F, EF, PE>(&self.packed, &mut self.lane) {
+            return Some(value);
+        }
+        let Some(packed) = self.source.next() else {
+            self.is_over = true;
+            return None;
+        };
+        self.packed = Some(packed);
+        self.lane = 1;
+        Some(ExtensionLanes::<F, EF>::extract(&packed, 0))
     }
 
-    /// The lanes left of the packing in hand, and those of as many packings as the source's hint says.
+    /// The lanes left of the packing in hand, and those of as many packings as the source's hint says;
+    /// nothing once the source has ended.
     #[inline]
     fn size_hint(&self) -> (usize, Option<usize>)
-        ensures lower { IsWithinCount result.0 (count_map
-            (λ n. length (left_of PE.ext_lanes self.now.packed self.now.lane) + PE.LANES * n)
-            (I.remaining self.now.source)) }
-        ensures upper { IfSome result.1 (UpTo (count_map
+        ensures lower { IsWithinCount result.0 (count_unless self.now.is_over (count_map
             (λ n. length (left_of PE.ext_lanes self.now.packed self.now.lane) + PE.LANES * n)
             (I.remaining self.now.source))) }
-        ensures held { length (left_of PE.ext_lanes self.now.packed self.now.lane) ≤ result.0 }
+        ensures upper { IfSome result.1 (UpTo (count_unless self.now.is_over (count_map
+            (λ n. length (left_of PE.ext_lanes self.now.packed self.now.lane) + PE.LANES * n)
+            (I.remaining self.now.source)))) }
+        ensures held { MatchBool self.now.is_over (result ≡ (0, Some 0))
+            (length (left_of PE.ext_lanes self.now.packed self.now.lane) ≤ result.0) }
     {
+        if self.is_over {
+            return (0, Some(0));
+        }
         let left = lanes_left::<F, EF, PE>(&self.packed, self.lane);
         bytes_hint((left, Some(left)), PE::LANES, self.source.size_hint())
+    }
+}
+
+/// Once it has answered `None` it answers nothing else, whatever the source does.
+impl<
+    F,
+    EF: PrimeCharacteristicRing,
+    PE: ExtensionLanes<F, EF>,
+    I: Iterator<Item = PE>,
+> FusedIterator for ExtLaneItems<I, F, EF, PE> {}
+
+/// The values in the lanes of the packings, from lane 0 upward, packing after packing; of endless
+/// packings they are endless. Upstream's `to_ext_iter`.
+#[inline]
+pub fn to_ext_iter<F, EF, PE, I>(iter: I) -> ExtLaneItems<I, F, EF, PE>
+where
+    EF: PrimeCharacteristicRing,
+    PE: ExtensionLanes<F, EF>,
+    I: Iterator<Item = PE>,
+    requires { I.can_next iter }
+    ensures can { ⟦<ExtLaneItems<I, F, EF, PE> as Iterator>⟧.can_next result }
+    ensures count { ⟦<ExtLaneItems<I, F, EF, PE> as Iterator>⟧.remaining result ≡ count_map (λ n. PE.LANES * n) (I.remaining iter) }
+    ensures all { (xs : List PE) → YieldsExactly I.next_gives iter xs
+        → YieldsExactly ⟦<ExtLaneItems<I, F, EF, PE> as Iterator>⟧.next_gives result (flat_map PE.ext_lanes xs) }
+    ensures drawn { DrawnFrom ⟦<ExtLaneItems<I, F, EF, PE> as Iterator>⟧.next_gives I.next_gives result iter (λ values xs. values ≡ flat_map PE.ext_lanes xs) }
+    ensures ended { EndsForGood ⟦<ExtLaneItems<I, F, EF, PE> as Iterator>⟧.can_next ⟦<ExtLaneItems<I, F, EF, PE> as Iterator>⟧.next_gives result }
+{
+    ExtLaneItems {
+        source: iter,
+        packed: None,
+        lane: 0,
+        is_over: false,
+        values: PhantomData,
     }
 }
 

@@ -40,6 +40,9 @@ pub trait ExtensionLanes<F, EF: PrimeCharacteristicRing>: Inhabited {
         requires { lane < LANES }
         ensures { ext_lanes self.new ≡ slice_set (ext_lanes self.old) lane value };
 
+    /// There is at least one lane.
+    ghost some_ext_lane: { 0 < LANES };
+
     /// Each value has `LANES` lanes.
     ghost ext_lengths: { (x : Self) → length (ext_lanes x) ≡ LANES };
 
@@ -142,6 +145,8 @@ impl<F: PrimeCharacteristicRing + Packable, P: PackedRing<F> + Inhabited> Extens
     fn set_ext_lane(&mut self, lane: usize, value: F) {
         self.set_lane(lane, value);
     }
+
+    ghost some_ext_lane = { P.some_lane };
 
     ghost ext_lengths = { P.lengths };
 

@@ -3,6 +3,8 @@
 
 pub mod ext_columns;
 pub mod ext_lane_items;
+pub mod ext_powers;
 pub mod extension_lanes;
 pub mod packed_field_extension;
+pub mod scalar_sums;
 pub mod unpacked_ext_rows;

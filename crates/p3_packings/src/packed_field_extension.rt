@@ -1,39 +1,23 @@
 ghost use Rattle.std.specs.Prelude.{◌≡◌, ◌<◌, ◌*◌, ℕ, List, length, map, replicate, get_or};
 ghost use Rattle.std.specs.Int.{div_ceil};
 ghost use Rattle.std.specs.List.{flat_map};
-ghost use Rattle.std.specs.Iterator.{IsFinite, UpTo, size};
+ghost use Rattle.std.specs.Iterator.{count_map};
 ghost use Rattle.p3_theory.specs.Lanes.Lanes.{lane};
-ghost use Rattle.p3_theory.specs.Lists.TabulatedPlaces.{HoldsBelow};
-ghost use Rattle.p3_theory.specs.Rings.GeometricSequence.{geometric_term};
 ghost use Rattle.p3_ring.specs.BoundedSequence.{terms};
 ghost use Rattle.p3_ring.specs.PackedPowers.{PacksTerms};
 ghost use Rattle.p3_packings.specs.CappedPowers.{PacksPowers};
+ghost use Rattle.p3_packings.specs.LaneItems.{EndsForGood};
 ghost use Rattle.p3_spaces.specs.Streams.{YieldsExactly, DrawnFrom};
 
-use crate::ext_lane_items::ExtLaneItems;
-use crate::extension_lanes::{ExtensionLanes, PackedExtensionRing};
+use crate::ext_lane_items::{ExtLaneItems, to_ext_iter};
+use crate::ext_powers::{packed_ext_powers_capped, packed_ring_powers};
+use crate::extension_lanes::PackedExtensionRing;
 use p3_base::field::Field;
 use p3_base::packed_traits::{Packable, PackedField};
 use p3_ring::powers::{BoundedPowers, Powers};
-use p3_ring::ring::{Algebra, PrimeCharacteristicRing};
+use p3_ring::ring::Algebra;
 use p3_spaces::basis::BasedVectorSpace;
 use p3_spaces::extension_field::ExtensionField;
-use std::marker::PhantomData;
-
-/// The powers of the base from one upward, one in each lane, and the power that comes after them.
-#[inline]
-fn powers_by_lanes<F, EF: PrimeCharacteristicRing, P: ExtensionLanes<F, EF>>(base: EF) -> (P, EF)
-    ensures lanes { HoldsBelow (geometric_term EF.ops base EF.ops.one) EF.ops.zero (P.ext_lanes result.0) P.LANES }
-    ensures next { result.1 ≡ geometric_term EF.ops base EF.ops.one P.LANES }
-{
-    let mut current = P::ext_broadcast(EF::zero());
-    let mut power = EF::one();
-    for lane in 0..P::LANES {
-        current.set_ext_lane(lane, power);
-        power *= base;
-    }
-    (current, power)
-}
 
 /// Values of an extension side by side: what an operation gives at a lane is the extension's own
 /// operation on that lane, and the coefficients at a lane are that lane of the coefficients. Upstream's
@@ -63,11 +47,7 @@ pub trait PackedFieldExtension<F: Field, EF: ExtensionField<F>>: PackedExtension
     final fn packed_ext_powers(base: EF) -> Powers<Self>
         ensures { PacksTerms Self.ops EF.ops Self.ext_lanes Self.LANES result.base result.current base EF.ops.one }
     {
-        let (current, power) = powers_by_lanes::<F, EF, Self>(base);
-        Powers {
-            base: <Self as From<EF>>::from(power),
-            current,
-        }
+        packed_ring_powers::<F, EF, Self>(base)
     }
 
     /// The items of `packed_ext_powers` that `unpacked_len` powers need: their number is that length
@@ -77,27 +57,22 @@ pub trait PackedFieldExtension<F: Field, EF: ExtensionField<F>>: PackedExtension
         ensures count { length (terms Self.ops result) ≡ div_ceil unpacked_len Self.LANES }
         ensures powers { PacksPowers Self.ops EF.ops Self.ext_lanes Self.LANES (terms Self.ops result) base }
     {
-        Self::packed_ext_powers(base).take(unpacked_len.div_ceil(Self::LANES))
+        packed_ext_powers_capped::<F, EF, Self>(base, unpacked_len)
     }
 
-    /// The values in the lanes of the packings, from lane 0 upward, packing after packing. Upstream's
-    /// `to_ext_iter`.
+    /// The values in the lanes of the packings, from lane 0 upward, packing after packing; of endless
+    /// packings they are endless. Upstream's `to_ext_iter`.
     #[inline]
     final fn to_ext_iter<I: Iterator<Item = Self>>(iter: I) -> ExtLaneItems<I, F, EF, Self>
-        requires can { I.can_next iter }
-        requires ends { IsFinite (I.remaining iter) }
+        requires { I.can_next iter }
         ensures can { ⟦<ExtLaneItems<I, F, EF, Self> as Iterator>⟧.can_next result }
-        ensures count { UpTo (⟦<ExtLaneItems<I, F, EF, Self> as Iterator>⟧.remaining result) (Self.LANES * size (I.remaining iter)) }
+        ensures count { ⟦<ExtLaneItems<I, F, EF, Self> as Iterator>⟧.remaining result ≡ count_map (λ n. Self.LANES * n) (I.remaining iter) }
         ensures all { (xs : List Self) → YieldsExactly I.next_gives iter xs
             → YieldsExactly ⟦<ExtLaneItems<I, F, EF, Self> as Iterator>⟧.next_gives result (flat_map Self.ext_lanes xs) }
         ensures drawn { DrawnFrom ⟦<ExtLaneItems<I, F, EF, Self> as Iterator>⟧.next_gives I.next_gives result iter (λ values xs. values ≡ flat_map Self.ext_lanes xs) }
+        ensures ended { EndsForGood ⟦<ExtLaneItems<I, F, EF, Self> as Iterator>⟧.can_next ⟦<ExtLaneItems<I, F, EF, Self> as Iterator>⟧.next_gives result }
     {
-        ExtLaneItems {
-            source: iter,
-            packed: None,
-            lane: 0,
-            values: PhantomData,
-        }
+        to_ext_iter::<F, EF, Self, I>(iter)
     }
 }
 

@@ -1,48 +1,32 @@
-use Rattle.std.proofs.Common.{◌≡◌, length, arith, refl, sym, ap, ◌∙◌, rules}
-use Rattle.std.specs.Iterator.{size}
-use Rattle.p3_spaces.specs.Streams.{left_of}
-use Rattle.p3_spaces.specs.StreamLemmas.{one_more_block}
-use Rattle.p3_spaces.specs.DrawnItems.{drawn_none, drawn_next, draws_some, draws_none}
+use Rattle.std.proofs.Common.{◌≡◌, ◌+◌, ◌∷◌, length, arith, ap, ◌∙◌, drop, length-drop}
+use Rattle.std.proofs.lemmas.List.{drop_more}
+use Rattle.std.proofs.lemmas.Option.{get_or_from_slice_get, slice_get_within}
+use Rattle.p3_packings.proofs.UntilEnd.{draws_item, fewer_left}
 use Rattle.p3_packings.proofs.ext_lane_items.ExtLaneItemsIterator.next.Goals as goal
 
-pub loop-value-init : goal.loop-value-init
-loop-value-init g c =
-    let parts = g.PE.ExtensionLanes.ext_lanes in
-    let held = left_of parts c.args.self.now.packed c.args.self.now.lane in
+pub returns-clause-steps : goal.returns-clause-steps
+returns-clause-steps g c =
+    let lanes = g.PE.ExtensionLanes.ext_lanes in
+    let packed = c.in-Some-next.packed in
+    let value = c.extract.result in
+    let first : lanes packed ≡ value ∷ drop 1 (lanes packed) =
+    drop_more (lanes packed) 0 value (slice_get_within (lanes packed) 0 value c.extract.ensures)
+    ∙ ap (λ x. x ∷ drop 1 (lanes packed)) (get_or_from_slice_get (lanes packed) 0 value value c.extract.ensures) in
+    draws_item g.I.Iterator.next_gives lanes c.args.self.now.source c.next.new.self _ packed value (drop 1 (lanes packed)) c.args.self.now.is_over
+    c.if-self.false c.in_default.ensures.next c.in-Some-next.ensures.steps first
+
+pub returns-clause-goes : goal.returns-clause-goes
+returns-clause-goes g c =
+    let packings = g.PE.ExtensionLanes in
+    let lanes = packings.ext_lanes c.in-Some-next.packed in
+    let source = c.in-Some-next.ensures.goes in
+    let rest : length (drop 1 lanes) + 1 ≡ packings.LANES =
+    omega (arith, length-drop 1 lanes, g.met.PE.ExtensionLanes.ext_lengths c.in-Some-next.packed, g.met.PE.ExtensionLanes.some_ext_lane) in
     record {
-      ready = search rules;
-      finite = search rules;
-      nearer = omega arith;
-      drawn = drawn_none g.I.Iterator.next_gives parts _ held (λ rest. held ≡ rest) refl;
-    }
-
-pub returns-in-Some-clause-steps : goal.returns-in-Some-clause-steps
-returns-in-Some-clause-steps g c =
-    let parts = g.PE.ExtensionLanes.ext_lanes in
-    let held = left_of parts c.loop-value.self.packed c.loop-value.self.lane in
-    let later = left_of parts c.loop-value.self.packed c.next_of_packed.new.lane in
-    draws_some g.I.Iterator.next_gives parts _ _ _ _ (λ rest. held ≡ rest) (λ rest. later ≡ rest) c.loop-value.invariant.drawn (λ all e. (later, sym e ∙ c.in-Some.ensures.next, refl))
-
-pub returns-in_default-next-clause-steps : goal.returns-in_default-next-clause-steps
-returns-in_default-next-clause-steps g c =
-    let parts = g.PE.ExtensionLanes.ext_lanes in
-    let packed = c.loop-value.self.packed in
-    let held = left_of parts packed c.loop-value.self.lane in
-    let later = left_of parts packed c.next_of_packed.new.lane in
-    draws_none g.I.Iterator.next_gives parts _ _ _ _ (λ rest. held ≡ rest) (λ rest. later ≡ rest) c.loop-value.invariant.drawn (λ all e. sym e ∙ c.in_default.ensures.next)
-    c.in_default-next.ensures.steps (ap (left_of parts packed) c.in_default.ensures.stays ∙ c.in_default.ensures.next)
-
-pub loop-value-preserved : goal.loop-value-preserved
-loop-value-preserved g c =
-    let parts = g.PE.ExtensionLanes.ext_lanes in
-    let left = g.I.Iterator.remaining in
-    let held = left_of parts c.loop-value.self.packed c.loop-value.self.lane in
-    let later = c.in-Some-next.ensures.goes.on c.loop-value.invariant.finite in
-    let long : length (parts c.in-Some-next.packed) ≡ g.PE.ExtensionLanes.LANES = g.met.PE.ExtensionLanes.ext_lengths c.in-Some-next.packed in
-    record {
-      ready = later.0;
-      finite = later.1;
-      nearer = omega (arith, one_more_block g.PE.ExtensionLanes.LANES (size (left c.next.new.self)) (size (left c.loop-value.self.source)) later.2, long, c.loop-value.invariant.nearer);
-      drawn = drawn_next g.I.Iterator.next_gives parts _ _ _ _ _ (λ rest. held ≡ rest) (λ rest. parts c.in-Some-next.packed ≡ rest) c.loop-value.invariant.drawn
-          (λ all e. sym e ∙ c.in_default.ensures.next) c.in-Some-next.ensures.steps refl;
+      on = λ f.
+          let fewer = fewer_left c.args.self.now.is_over packings.LANES _ (length (drop 1 lanes)) (g.I.Iterator.remaining c.args.self.now.source)
+          (g.I.Iterator.remaining c.next.new.self) c.if-self.false rest (λ e. let later = source.on e in (later.1, later.2)) f in
+          (λ _. source.keeps, fewer.0, fewer.1);
+      keeps = λ _. source.keeps;
+      rests = λ _. tt;
     }
