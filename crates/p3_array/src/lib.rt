@@ -2,6 +2,7 @@
 #![tactic(auto)]
 
 pub mod array;
+pub mod laws;
 mod operators;
 mod ring;
 mod scalar_operators;

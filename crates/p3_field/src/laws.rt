@@ -1,4 +1,8 @@
 //! Laws of the traits, as contracts for other crates to stand on.
+pub use p3_array::laws::{
+    array_equality_is_of_entries, array_of_list_has_its_entries, array_quotient_by_entries,
+    default_array_is_zero,
+};
 pub use p3_base::laws::fermat;
 pub use p3_ext::laws::{
     bytes_are_of_coefficients, default_is_zero, hash_is_of_coefficients, orbit_product_is_norm,
