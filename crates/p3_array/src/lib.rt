@@ -3,5 +3,6 @@
 
 pub mod array;
 mod operators;
+mod quotients;
 mod ring;
 mod scalar_operators;
