@@ -2,6 +2,7 @@
 #![tactic(auto)]
 
 pub mod array;
+pub mod lanes;
 mod operators;
 mod quotients;
 mod ring;
