@@ -2,7 +2,9 @@
 #![tactic(auto)]
 
 pub mod array;
+pub mod lanes;
 pub mod laws;
 mod operators;
+mod quotients;
 mod ring;
 mod scalar_operators;

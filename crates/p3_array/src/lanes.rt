@@ -1,0 +1,80 @@
+//! Arrays as packings: their entries are lanes.
+ghost use Rattle.std.specs.Prelude.{◌≡◌, ◌<◌};
+
+use crate::array::FieldArray;
+use p3_base::field::Field;
+use p3_base::packed_traits::{Packable, PackedField};
+use p3_ring::packed_ring::PackedRing;
+
+/// A field whose values stand in arrays of N entries as lanes. Every field has 1, 2, 4, 8 and 16 of
+/// them; an impl at a field gives it another number. This project's own.
+pub trait Lanes<const N: usize>: Field + Packable {
+    /// There is at least one lane.
+    ghost some_lane: { 0 < N };
+}
+
+impl<F: Lanes<N>, const N: usize> PackedRing<F> for FieldArray<F, N> {
+    ghost use Rattle.p3_theory.specs.Lanes.Rows.{rows, same_items};
+    ghost use Rattle.p3_theory.specs.Lanes.RowRing.{items_keep, items-constant};
+
+    ghost some_lane = { F.some_lane };
+
+    ghost lengths = { λ x. x.sized };
+
+    ghost same = { same_items };
+
+    ghost keeps = { items_keep rows F.ops };
+
+    ghost injects = { items-constant rows F.ops };
+}
+
+impl<F: Lanes<N>, const N: usize> PackedField<F> for FieldArray<F, N> {
+    ghost use Rattle.p3_theory.specs.Lanes.Rows.{rows};
+    ghost use Rattle.p3_theory.specs.Lanes.RowRing.{unit_at_item, written_quotient, written_mixed_quotient};
+
+    ghost can_divide = { λ _ y. unit_at_item rows F.ops y };
+
+    ghost divides = { written_quotient rows F.ops };
+
+    ghost can_divide_assign = { λ _ y. unit_at_item rows F.ops y };
+
+    ghost divide_assigns = { written_quotient rows F.ops };
+
+    ghost can_divide_scalar = { λ _ _ h. h };
+
+    ghost divides_scalar = { written_mixed_quotient rows F.ops };
+
+    ghost can_divide_assign_scalar = { λ _ _ h. h };
+
+    ghost divide_assigns_scalar = { written_mixed_quotient rows F.ops };
+}
+
+impl<F: Field + Packable> Lanes<1> for F {
+    ghost use Rattle.std.proofs.Common.{lit<};
+
+    ghost some_lane = { lit< tt };
+}
+
+impl<F: Field + Packable> Lanes<2> for F {
+    ghost use Rattle.std.proofs.Common.{lit<};
+
+    ghost some_lane = { lit< tt };
+}
+
+impl<F: Field + Packable> Lanes<4> for F {
+    ghost use Rattle.std.proofs.Common.{lit<};
+
+    ghost some_lane = { lit< tt };
+}
+
+impl<F: Field + Packable> Lanes<8> for F {
+    ghost use Rattle.std.proofs.Common.{lit<};
+
+    ghost some_lane = { lit< tt };
+}
+
+impl<F: Field + Packable> Lanes<16> for F {
+    ghost use Rattle.std.proofs.Common.{lit<};
+
+    ghost some_lane = { lit< tt };
+}
