@@ -33,7 +33,7 @@ pub fn invert_packed_extension<F, EF: Field, PE: PackedExtensionRing<F, EF>>(pac
 /// The quotient at each lane, of a divisor whose lanes all have an inverse, by one inversion. Such a
 /// divisor has an inverse itself, so that `/` is allowed too. This project's own.
 #[inline]
-pub fn divide_by_lanes<F, EF: Field, PE: ExtensionLanes<F, EF>>(x: PE, y: PE) -> PE
+pub fn divide_by_lanes<F, EF: Field, PE: PackedExtensionRing<F, EF>>(x: PE, y: PE) -> PE
     requires { (k : ℕ) → k < PE.LANES → Invertible EF.ops (lane EF.ops PE.ext_lanes k y) }
     ensures lanes { (k : ℕ) → k < PE.LANES → EF.ops.mul (lane EF.ops PE.ext_lanes k result) (lane EF.ops PE.ext_lanes k y) ≡ lane EF.ops PE.ext_lanes k x }
     ensures quotient { PE.ops.mul result y ≡ x }
