@@ -68,7 +68,7 @@ impl<
     F: Field + ExtensionOverAlgebra<P, D, S> + Packable,
     const D: usize,
     S: ExtensionShape,
-    P: PackedField<F> + Packing,
+    P: PackedField<F> + Packing<Scalar = F>,
 > ExtensionLanes<F, ExtField<F, D, S, F>> for PackedExtField<F, D, S, P> {
     ghost use Rattle.p3_theory.specs.Polynomials.Coefficients.{length-tabulate};
     ghost use Rattle.p3_packed.specs.ValueLanes.{value_lanes, lanes_keep, lanes_apart, lane_of_spread};
@@ -115,7 +115,7 @@ impl<
     F: FrobeniusExtendable<D, S> + ExtensionOverAlgebra<P, D, S> + Packable,
     const D: usize,
     S: ExtensionShape,
-    P: PackedField<F> + Packing,
+    P: PackedField<F> + Packing<Scalar = F>,
 > PackedFieldExtension<F, ExtField<F, D, S, F>> for PackedExtField<F, D, S, P> {
     ghost use Rattle.std.specs.Prelude.{refl};
     ghost use Rattle.std.proofs.Common.{ap};

@@ -119,7 +119,7 @@ pub(crate) trait BaseCalls<F: PrimeCharacteristicRing>: Inhabited {
     ) -> Result<Option<bool>, AllocError>;
 }
 
-impl<F: Field + Packable, P: PackedField<F> + Packing> BaseCalls<F> for P {
+impl<F: Field + Packable, P: PackedField<F> + Packing<Scalar = F>> BaseCalls<F> for P {
     type BaseRooms = Rooms<F, F, P>;
 
     fn base_agrees(
