@@ -65,8 +65,10 @@ impl<F: Inhabited, const N: usize> Inhabited for Packed<F, N> {
     ghost inhabitant = { value_of (replicate N F.inhabitant) (length-replicate N F.inhabitant) };
 }
 
-/// A packing, and no extension value.
-impl<F: Copy, const N: usize> Packing for Packed<F, N> {}
+/// A packing of values of F.
+impl<F: Copy, const N: usize> Packing for Packed<F, N> {
+    type Scalar = F;
+}
 
 /// A field whose values stand in packings of N lanes.
 pub trait Lanes<const N: usize>: Field + Packable + WideProducts {

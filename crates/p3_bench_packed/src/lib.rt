@@ -3,6 +3,7 @@
 
 mod dot_products;
 pub mod lanes;
+pub mod left_operators;
 pub mod operators;
 pub mod packed;
 pub mod ring;

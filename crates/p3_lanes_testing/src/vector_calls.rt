@@ -74,7 +74,6 @@ fn called<F: Field, A: Algebra<F>>(
             call,
             first_or_zero(xs),
             first_or_zero(ys),
-            F::zero(),
             entry::<F>(second, 0),
             second,
         ),

@@ -1,14 +1,13 @@
 -- Extension values side by side: their operations and laws, from those of lists of coefficients.
 use Rattle.std.specs.Prelude.{◌≡◌, ◌<◌, ◌≤◌, ℕ, List, length, map, get_or, replicate, refl}
-use Rattle.std.proofs.Common.{ap, ◌∙◌, sym}
+use Rattle.std.proofs.Common.{ap, arith, ◌∙◌, sym}
+use Rattle.std.proofs.lemmas.List.{get_or-map}
 use Rattle.p3_theory.specs.Rings.Ring.{Ops, RingLaws, Ring, Hom, Invertible, subtract}
 use Rattle.p3_theory.specs.Rings.Multiples.{of_nat, two}
 use Rattle.p3_theory.specs.Rings.Powers.{power}
 use Rattle.p3_theory.specs.Rings.Homomorphism as H
-use Rattle.p3_theory.specs.Polynomials.Polynomial.{IsMonic, at, quotient_add, quotient_neg, quotient_mul, embed}
-use Rattle.p3_theory.specs.Lists.Places.{get-tabulate, to-tabulate}
+use Rattle.p3_theory.specs.Polynomials.Polynomial.{IsMonic, at, quotient_mul, embed}
 use Rattle.p3_theory.specs.FrobeniusMaps.FrobeniusTransfer.{monic_along}
-use Rattle.p3_products.specs.Entries.{entrywise_difference}
 use Rattle.p3_ext.specs.Values.{constant, ext_ops, ext_laws, value_of, same_value, is_sum, is_difference, is_negation}
 use Rattle.p3_ext.specs.ValueOrder.{zero_value}
 use Rattle.p3_ext.specs.Bases.{characteristic_of, multiple_of_one, embedding}
@@ -85,21 +84,23 @@ module _ {F P S : Type 0} {D : ℕ} where
         mul = λ x y. same_packed O g _ _ (m.mul x.value y.value);
       }
 
-  -- what is written of a value and an extension value
+  -- what operators give of the coefficients of a value and an extension value
+  module _ (o : Ops P) (f : List P) (e : F → P) (z : F) (gives : P → F → P → Type 0) where
+    along : (v : ExtField F D S F) (d : P) (k : ℕ) → k < D → e (get_or v.value k z) ≡ get_or (map e v.value) k d
+    along v d k w = sym (get_or-map e v.value k z d (omega (arith, v.sized, w)))
+
+    pub spread_sum : ((a : P) (b : F) (c : P) → gives a b c → c ≡ o.add a (e b)) → (x : PackedExtField F D S P) (v : ExtField F D S F) (r : PackedExtField F D S P)
+        → ((d : P) (b : F) (k : ℕ) → k < D → gives (get_or x.value.value k d) (get_or v.value k b) (get_or r.value.value k d)) → r ≡ (packed_ops o f).add x (spread e v)
+    spread_sum is x v r h = packed_sum o f (λ a b c. c ≡ o.add a b) (λ _ _ _ c. c) x (spread e v) r
+        (λ d k w. is _ _ _ (h d z k w) ∙ ap (o.add (get_or x.value.value k d)) (along v d k w))
+
+    pub spread_difference : ((a : P) (b : F) (c : P) → gives a b c → c ≡ subtract o a (e b)) → (x : PackedExtField F D S P) (v : ExtField F D S F) (r : PackedExtField F D S P)
+        → ((d : P) (b : F) (k : ℕ) → k < D → gives (get_or x.value.value k d) (get_or v.value k b) (get_or r.value.value k d)) → r ≡ subtract (packed_ops o f) x (spread e v)
+    spread_difference is x v r h = packed_difference o f (λ a b c. c ≡ subtract o a b) (λ _ _ _ c. c) x (spread e v) r
+        (λ d k w. is _ _ _ (h d z k w) ∙ ap (subtract o (get_or x.value.value k d)) (along v d k w))
+
+  -- the product modulo f of a value and an extension value
   module _ (o : Ops P) (f : List P) (e : F → P) where
-    pub spread_sum : (x : PackedExtField F D S P) (v : ExtField F D S F) (r : PackedExtField F D S P)
-        → r.value.value ≡ quotient_add o D x.value.value (map e v.value) → r ≡ (packed_ops o f).add x (spread e v)
-    spread_sum x v r h = same_packed o f r ((packed_ops o f).add x (spread e v)) h
-
-    pub spread_difference : (x : PackedExtField F D S P) (v : ExtField F D S F) (r : PackedExtField F D S P)
-        → r.value.value ≡ entrywise_difference o D x.value.value (map e v.value) → r ≡ subtract (packed_ops o f) x (spread e v)
-    spread_difference x v r h =
-        let b = map e v.value in
-        same_packed o f r (subtract (packed_ops o f) x (spread e v))
-        (h ∙ to-tabulate o.zero D (λ k. o.add (at o x.value.value k) (at o (quotient_neg o D b) k)) (entrywise_difference o D x.value.value b) (sym (ap length h) ∙ r.value.sized)
-        (λ k w. get-tabulate D (λ k. subtract o (at o x.value.value k) (at o b k)) k o.zero w
-        ∙ ap (o.add (at o x.value.value k)) (sym (get-tabulate D (λ i. o.neg (at o b i)) k o.zero w))))
-
     pub spread_product : (x : PackedExtField F D S P) (v : ExtField F D S F) (r : PackedExtField F D S P)
         → r.value.value ≡ quotient_mul o D f x.value.value (map e v.value) → r ≡ (packed_ops o f).mul x (spread e v)
     spread_product x v r h = same_packed o f r ((packed_ops o f).mul x (spread e v)) h

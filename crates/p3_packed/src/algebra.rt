@@ -13,7 +13,7 @@ impl<
     F: ExtensionAlgebra<F, D, S>,
     const D: usize,
     S: ExtensionShape,
-    P: PrimeCharacteristicRing + Packing,
+    P: PrimeCharacteristicRing + Packing<Scalar = F>,
 > From<P> for PackedExtField<F, D, S, P> {
     ghost from_gives = { λ x r. r.value.value ≡ embed P.ops D x };
 
@@ -23,7 +23,7 @@ impl<
     }
 }
 
-impl<F: Copy, const D: usize, S: Copy, P: Copy + Add<Output = P> + Packing> Add<P>
+impl<F: Copy, const D: usize, S: Copy, P: Copy + Add<Output = P> + Packing<Scalar = F>> Add<P>
     for PackedExtField<F, D, S, P> {
     type Output = Self;
 
@@ -39,7 +39,7 @@ impl<F: Copy, const D: usize, S: Copy, P: Copy + Add<Output = P> + Packing> Add<
     }
 }
 
-impl<F: Copy, const D: usize, S: Copy, P: Copy + Sub<Output = P> + Packing> Sub<P>
+impl<F: Copy, const D: usize, S: Copy, P: Copy + Sub<Output = P> + Packing<Scalar = F>> Sub<P>
     for PackedExtField<F, D, S, P> {
     type Output = Self;
 
@@ -55,7 +55,7 @@ impl<F: Copy, const D: usize, S: Copy, P: Copy + Sub<Output = P> + Packing> Sub<
     }
 }
 
-impl<F: Copy, const D: usize, S: Copy, P: Copy + Mul<Output = P> + Packing> Mul<P>
+impl<F: Copy, const D: usize, S: Copy, P: Copy + Mul<Output = P> + Packing<Scalar = F>> Mul<P>
     for PackedExtField<F, D, S, P> {
     type Output = Self;
 
@@ -71,7 +71,7 @@ impl<F: Copy, const D: usize, S: Copy, P: Copy + Mul<Output = P> + Packing> Mul<
     }
 }
 
-impl<F: Copy, const D: usize, S: Copy, P: Copy + Add<Output = P> + Packing> AddAssign<P>
+impl<F: Copy, const D: usize, S: Copy, P: Copy + Add<Output = P> + Packing<Scalar = F>> AddAssign<P>
     for PackedExtField<F, D, S, P> {
     ghost can_add_assign = { λ x c. (0 < D) × ((d : P) → P.can_add (get_or x.value.value 0 d) c) };
 
@@ -83,7 +83,7 @@ impl<F: Copy, const D: usize, S: Copy, P: Copy + Add<Output = P> + Packing> AddA
     }
 }
 
-impl<F: Copy, const D: usize, S: Copy, P: Copy + Sub<Output = P> + Packing> SubAssign<P>
+impl<F: Copy, const D: usize, S: Copy, P: Copy + Sub<Output = P> + Packing<Scalar = F>> SubAssign<P>
     for PackedExtField<F, D, S, P> {
     ghost can_sub_assign = { λ x c. (0 < D) × ((d : P) → P.can_sub (get_or x.value.value 0 d) c) };
 
@@ -95,7 +95,7 @@ impl<F: Copy, const D: usize, S: Copy, P: Copy + Sub<Output = P> + Packing> SubA
     }
 }
 
-impl<F: Copy, const D: usize, S: Copy, P: Copy + Mul<Output = P> + Packing> MulAssign<P>
+impl<F: Copy, const D: usize, S: Copy, P: Copy + Mul<Output = P> + Packing<Scalar = F>> MulAssign<P>
     for PackedExtField<F, D, S, P> {
     ghost can_mul_assign = { λ x c. (d : P) (k : ℕ) → k < D → P.can_mul (get_or x.value.value k d) c };
 
@@ -111,7 +111,7 @@ impl<
     F: ExtensionOverAlgebra<P, D, S>,
     const D: usize,
     S: ExtensionShape,
-    P: Algebra<F> + Packing,
+    P: Algebra<F> + Packing<Scalar = F>,
 > Algebra<P> for PackedExtField<F, D, S, P> {
     ghost use Rattle.std.specs.Prelude.{refl, []};
     ghost use Rattle.std.proofs.Common.{lit<};

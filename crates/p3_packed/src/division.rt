@@ -21,7 +21,7 @@ impl<
     F: FrobeniusExtendable<D, S> + ExtensionOverAlgebra<P, D, S> + Packable,
     const D: usize,
     S: ExtensionShape,
-    P: PackedField<F> + Packing,
+    P: PackedField<F> + Packing<Scalar = F>,
 > Div<ExtField<F, D, S, F>> for PackedExtField<F, D, S, P> {
     type Output = Self;
 
@@ -39,7 +39,7 @@ impl<
     F: FrobeniusExtendable<D, S> + ExtensionOverAlgebra<P, D, S> + Packable,
     const D: usize,
     S: ExtensionShape,
-    P: PackedField<F> + Packing,
+    P: PackedField<F> + Packing<Scalar = F>,
 > DivAssign<ExtField<F, D, S, F>> for PackedExtField<F, D, S, P> {
     ghost can_div_assign = { λ x v. Invertible (ext_ops F.ops F.modulus) v };
 
@@ -57,7 +57,7 @@ fn inverse_of_lanes<
     F: FrobeniusExtendable<D, S> + ExtensionOverAlgebra<P, D, S> + Packable,
     const D: usize,
     S: ExtensionShape,
-    P: PackedField<F> + Packing,
+    P: PackedField<F> + Packing<Scalar = F>,
 >(y: PackedExtField<F, D, S, P>) -> PackedExtField<F, D, S, P>
     requires room { ExtensionFits F.row D.row S.row }
     requires inverses { (k : ℕ) → k < P.WIDTH → Invertible (ext_ops F.ops F.modulus) (lane (ext_ops F.ops F.modulus) (value_lanes P.ops F.ops P.lanes P.WIDTH) k y) }
@@ -72,7 +72,7 @@ fn quotient<
     F: FrobeniusExtendable<D, S> + ExtensionOverAlgebra<P, D, S> + Packable,
     const D: usize,
     S: ExtensionShape,
-    P: PackedField<F> + Packing,
+    P: PackedField<F> + Packing<Scalar = F>,
 >(x: PackedExtField<F, D, S, P>, y: PackedExtField<F, D, S, P>) -> PackedExtField<F, D, S, P>
     requires room { ExtensionFits F.row D.row S.row }
     requires inverses { (k : ℕ) → k < P.WIDTH → Invertible (ext_ops F.ops F.modulus) (lane (ext_ops F.ops F.modulus) (value_lanes P.ops F.ops P.lanes P.WIDTH) k y) }

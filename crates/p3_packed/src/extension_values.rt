@@ -1,13 +1,9 @@
 //! A packed extension as an algebra over the extension values of one lane.
-ghost use Rattle.std.specs.Prelude.{◌≡◌, map};
-ghost use Rattle.p3_theory.specs.Polynomials.Polynomial.{quotient_add};
-ghost use Rattle.p3_products.specs.Entries.{entrywise_difference};
+ghost use Rattle.std.specs.Prelude.{◌≡◌, ◌<◌, ℕ, get_or, map};
 
 use crate::holds_scalar::HoldsScalar;
 use crate::packed_ext_field::PackedExtField;
-use p3_ext::extension::{
-    ExtField, ExtensionOverAlgebra, ExtensionShape, PackedProduct, vector_add, vector_sub,
-};
+use p3_ext::extension::{ExtField, ExtensionOverAlgebra, ExtensionShape, PackedProduct};
 use p3_products::vectors::embed_entries;
 use p3_ring::accumulate::{product_from, sum_from};
 use p3_ring::ring::{Algebra, PrimeCharacteristicRing};
@@ -28,28 +24,42 @@ impl<F: PrimeCharacteristicRing, const D: usize, S: Copy, P: Algebra<F>> From<Ex
     }
 }
 
-impl<F: PrimeCharacteristicRing, const D: usize, S: Copy, P: Algebra<F>> Add<ExtField<F, D, S, F>>
+/// Each coefficient and the coefficient of the extension value at its index.
+impl<F: Copy, const D: usize, S: Copy, P: Copy + Add<F, Output = P>> Add<ExtField<F, D, S, F>>
     for PackedExtField<F, D, S, P> {
     type Output = Self;
 
-    ghost add_gives = { λ x v r. r.value.value ≡ quotient_add P.ops D x.value.value (map P.embed v.value) };
+    ghost can_add = { λ x v. (d : P) (e : F) (k : ℕ) → k < D → P.can_add (get_or x.value.value k d) (get_or v.value k e) };
+
+    ghost add_gives = { λ x v r. (d : P) (e : F) (k : ℕ) → k < D → P.add_gives (get_or x.value.value k d) (get_or v.value k e) (get_or r.value.value k d) };
 
     #[inline]
     fn add(self, rhs: ExtField<F, D, S, F>) -> Self {
-        let value = vector_add(&self.value.value, &rhs.value);
+        let coefficients = self.value.value;
+        let mut value = coefficients;
+        for i in 0..D {
+            value[i] = coefficients[i] + rhs.value[i];
+        }
         Self::new(value)
     }
 }
 
-impl<F: PrimeCharacteristicRing, const D: usize, S: Copy, P: Algebra<F>> Sub<ExtField<F, D, S, F>>
+/// Each coefficient less the coefficient of the extension value at its index.
+impl<F: Copy, const D: usize, S: Copy, P: Copy + Sub<F, Output = P>> Sub<ExtField<F, D, S, F>>
     for PackedExtField<F, D, S, P> {
     type Output = Self;
 
-    ghost sub_gives = { λ x v r. r.value.value ≡ entrywise_difference P.ops D x.value.value (map P.embed v.value) };
+    ghost can_sub = { λ x v. (d : P) (e : F) (k : ℕ) → k < D → P.can_sub (get_or x.value.value k d) (get_or v.value k e) };
+
+    ghost sub_gives = { λ x v r. (d : P) (e : F) (k : ℕ) → k < D → P.sub_gives (get_or x.value.value k d) (get_or v.value k e) (get_or r.value.value k d) };
 
     #[inline]
     fn sub(self, rhs: ExtField<F, D, S, F>) -> Self {
-        let value = vector_sub(&self.value.value, &rhs.value);
+        let coefficients = self.value.value;
+        let mut value = coefficients;
+        for i in 0..D {
+            value[i] = coefficients[i] - rhs.value[i];
+        }
         Self::new(value)
     }
 }
@@ -71,10 +81,11 @@ impl<
     }
 }
 
-impl<F: PrimeCharacteristicRing, const D: usize, S: Copy, P: Algebra<F>> AddAssign<
-    ExtField<F, D, S, F>,
-> for PackedExtField<F, D, S, P> {
-    ghost add_assign_gives = { λ x v r. r.value.value ≡ quotient_add P.ops D x.value.value (map P.embed v.value) };
+impl<F: Copy, const D: usize, S: Copy, P: Copy + Add<F, Output = P>> AddAssign<ExtField<F, D, S, F>>
+    for PackedExtField<F, D, S, P> {
+    ghost can_add_assign = { λ x v. (d : P) (e : F) (k : ℕ) → k < D → P.can_add (get_or x.value.value k d) (get_or v.value k e) };
+
+    ghost add_assign_gives = { λ x v r. (d : P) (e : F) (k : ℕ) → k < D → P.add_gives (get_or x.value.value k d) (get_or v.value k e) (get_or r.value.value k d) };
 
     #[inline]
     fn add_assign(&mut self, rhs: ExtField<F, D, S, F>) {
@@ -82,10 +93,11 @@ impl<F: PrimeCharacteristicRing, const D: usize, S: Copy, P: Algebra<F>> AddAssi
     }
 }
 
-impl<F: PrimeCharacteristicRing, const D: usize, S: Copy, P: Algebra<F>> SubAssign<
-    ExtField<F, D, S, F>,
-> for PackedExtField<F, D, S, P> {
-    ghost sub_assign_gives = { λ x v r. r.value.value ≡ entrywise_difference P.ops D x.value.value (map P.embed v.value) };
+impl<F: Copy, const D: usize, S: Copy, P: Copy + Sub<F, Output = P>> SubAssign<ExtField<F, D, S, F>>
+    for PackedExtField<F, D, S, P> {
+    ghost can_sub_assign = { λ x v. (d : P) (e : F) (k : ℕ) → k < D → P.can_sub (get_or x.value.value k d) (get_or v.value k e) };
+
+    ghost sub_assign_gives = { λ x v r. (d : P) (e : F) (k : ℕ) → k < D → P.sub_gives (get_or x.value.value k d) (get_or v.value k e) (get_or r.value.value k d) };
 
     #[inline]
     fn sub_assign(&mut self, rhs: ExtField<F, D, S, F>) {
@@ -132,13 +144,13 @@ impl<F: ExtensionOverAlgebra<P, D, S>, const D: usize, S: ExtensionShape, P: Alg
 
     ghost froms = { λ v r h. same_packed P.ops [] r (spread P.embed v) h };
 
-    ghost mixed_adds = { record { called = λ _ _. tt; answer = spread_sum P.ops (map P.embed F.modulus) P.embed } };
+    ghost mixed_adds = { record { called = λ _ _ _ _ _ _. P.mixed_adds.called _ _; answer = spread_sum P.ops (map P.embed F.modulus) P.embed F.ops.zero _ P.mixed_adds.answer } };
 
-    ghost mixed_add_assigns = { record { called = λ _ _. tt; answer = spread_sum P.ops (map P.embed F.modulus) P.embed } };
+    ghost mixed_add_assigns = { record { called = λ _ _ _ _ _ _. P.mixed_adds.called _ _; answer = spread_sum P.ops (map P.embed F.modulus) P.embed F.ops.zero _ P.mixed_adds.answer } };
 
-    ghost mixed_subs = { record { called = λ _ _. tt; answer = spread_difference P.ops (map P.embed F.modulus) P.embed } };
+    ghost mixed_subs = { record { called = λ _ _ _ _ _ _. P.mixed_subs.called _ _; answer = spread_difference P.ops (map P.embed F.modulus) P.embed F.ops.zero _ P.mixed_subs.answer } };
 
-    ghost mixed_sub_assigns = { record { called = λ _ _. tt; answer = spread_difference P.ops (map P.embed F.modulus) P.embed } };
+    ghost mixed_sub_assigns = { record { called = λ _ _ _ _ _ _. P.mixed_subs.called _ _; answer = spread_difference P.ops (map P.embed F.modulus) P.embed F.ops.zero _ P.mixed_subs.answer } };
 
     ghost mixed_muls = { record { called = λ _ _. tt; answer = λ x v r h. spread_product P.ops (map P.embed F.modulus) P.embed x v r (F.packed_products _ _ _ h) } };
 

@@ -1,7 +1,7 @@
 ghost use Rattle.std.specs.Prelude.{◌≡◌, ◌<◌, ℕ, get_or, map, replicate};
 ghost use Rattle.p3_theory.specs.Polynomials.Polynomial.{embed};
 
-use p3_base::packed_traits::Inhabited;
+use p3_base::packed_traits::{Inhabited, Packable};
 use p3_ext::extension::{
     Binomial, CubicTrinomial, ExtField, ExtensionOverAlgebra, ExtensionShape, PackedProduct,
     QuinticTrinomial, SepticTrinomial,
@@ -12,9 +12,17 @@ use std::alloc::AllocError;
 use std::iter::{Product, Sum};
 use std::ops::{Add, AddAssign, Mul, MulAssign, Neg, Sub, SubAssign};
 
-/// What marks a packing, so that an extension value is not taken for one: whoever has a packing type
-/// implements it there. It has no member; this project's own.
-pub trait Packing: Copy {}
+/// A packing of values of `Scalar`, so that an extension value is not taken for a packing of its base:
+/// whoever has a packing type implements it there. This project's own.
+pub trait Packing: Copy {
+    /// What stands in a lane.
+    type Scalar;
+}
+
+/// A value that may stand in a lane is a packing of itself, of one lane.
+impl<T: Packable> Packing for T {
+    type Scalar = T;
+}
 
 /// Values of the extension of F of degree D by the shape S side by side, as their D coefficients,
 /// each a packing in P, from the constant one upward. Upstream's `PackedExtField`.

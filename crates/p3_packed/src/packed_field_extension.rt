@@ -69,7 +69,7 @@ impl<
     F: ExtensionAlgebra<F, D, S> + Packable,
     const D: usize,
     S: ExtensionShape,
-    P: PackedRing<F> + Inhabited + Packing,
+    P: PackedRing<F> + Inhabited + Packing<Scalar = F>,
 > ExtensionLanes<F, ExtField<F, D, S, F>> for PackedExtField<F, D, S, P> {
     ghost use Rattle.p3_theory.specs.Polynomials.Coefficients.{length-tabulate};
     ghost use Rattle.p3_packed.specs.ValueLanes.{value_lanes, lanes_apart};
@@ -121,7 +121,7 @@ impl<
     F: ExtensionOverAlgebra<P, D, S> + Packable,
     const D: usize,
     S: ExtensionShape,
-    P: PackedRing<F> + Inhabited + Packing,
+    P: PackedRing<F> + Inhabited + Packing<Scalar = F>,
 > PackedExtensionRing<F, ExtField<F, D, S, F>> for PackedExtField<F, D, S, P> {
     ghost use Rattle.p3_packed.specs.ValueLanes.{lanes_keep, lane_of_spread};
 
@@ -133,7 +133,7 @@ impl<
     F: FrobeniusExtendable<D, S> + ExtensionOverAlgebra<P, D, S> + Packable,
     const D: usize,
     S: ExtensionShape,
-    P: PackedField<F> + Packing,
+    P: PackedField<F> + Packing<Scalar = F>,
 > PackedFieldExtension<F, ExtField<F, D, S, F>> for PackedExtField<F, D, S, P> {
     ghost use Rattle.std.specs.Prelude.{refl};
     ghost use Rattle.std.proofs.Common.{ap};

@@ -43,7 +43,7 @@ pub(crate) trait PackedRuns<
 impl<
     F: FrobeniusExtendable<D, S> + ExtensionOverAlgebra<P, D, S> + Packable,
     S: ExtensionShape,
-    P: PackedField<F> + Packing,
+    P: PackedField<F> + Packing<Scalar = F>,
     const D: usize,
 > PackedRuns<F, S, D> for P {
     type Vectors = Vectors<F, ExtField<F, D, S, F>, PackedExtField<F, D, S, P>>;

@@ -1,0 +1,50 @@
+//! The operators of one value, which stands for itself in all lanes, and a packing on its right.
+ghost use Rattle.std.specs.Prelude.{◌≡◌, ◌<◌, ◌+◌, ◌-◌, ◌*◌, ◌%◌, ℕ, get_or};
+ghost use Rattle.p3_bench_prime.specs.declared.fp.Fp.{Fp};
+ghost use Rattle.p3_bench_prime.specs.Elements.{canon};
+
+use crate::packed::Packed;
+use p3_bench_prime::form::{Form, Word};
+use p3_bench_prime::fp::Fp;
+use std::ops::{Add, Mul, Sub};
+
+/// The value plus each lane.
+impl<W: Form<T>, T: Word, const N: usize> Add<Packed<Fp<W, T>, N>> for Fp<W, T> {
+    type Output = Packed<Fp<W, T>, N>;
+
+    ghost add_gives = { λ f x r. (d : _) (k : ℕ) → k < N → canon W.Form (get_or r.value k d) ≡ (canon W.Form f + canon W.Form (get_or x.value k d)) % W.ORDER };
+
+    #[inline]
+    fn add(self, packing: Packed<Fp<W, T>, N>) -> Packed<Fp<W, T>, N> {
+        packing + self
+    }
+}
+
+/// The value less each lane.
+impl<W: Form<T>, T: Word, const N: usize> Sub<Packed<Fp<W, T>, N>> for Fp<W, T> {
+    type Output = Packed<Fp<W, T>, N>;
+
+    ghost sub_gives = { λ f x r. (d : _) (k : ℕ) → k < N → canon W.Form (get_or r.value k d) ≡ (canon W.Form f + (W.ORDER - canon W.Form (get_or x.value k d))) % W.ORDER };
+
+    #[inline]
+    fn sub(self, packing: Packed<Fp<W, T>, N>) -> Packed<Fp<W, T>, N> {
+        let lanes = packing.value;
+        let mut value = lanes;
+        for i in 0..N {
+            value[i] = self - lanes[i];
+        }
+        Packed::new(value)
+    }
+}
+
+/// The value times each lane.
+impl<W: Form<T>, T: Word, const N: usize> Mul<Packed<Fp<W, T>, N>> for Fp<W, T> {
+    type Output = Packed<Fp<W, T>, N>;
+
+    ghost mul_gives = { λ f x r. (d : _) (k : ℕ) → k < N → canon W.Form (get_or r.value k d) ≡ (canon W.Form f * canon W.Form (get_or x.value k d)) % W.ORDER };
+
+    #[inline]
+    fn mul(self, packing: Packed<Fp<W, T>, N>) -> Packed<Fp<W, T>, N> {
+        packing * self
+    }
+}
