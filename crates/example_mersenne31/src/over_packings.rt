@@ -1,28 +1,11 @@
-//! Products of the extensions' values side by side: over any algebra of the field, as a packing.
+//! Products of the cubic extension's values side by side: over any algebra of the field, as a packing.
 ghost use Rattle.std.specs.Prelude.{◌≡◌};
 ghost use Rattle.p3_field.specs.Polynomial.{quotient_mul, binomial};
-ghost use Rattle.example_mersenne31.specs.Elements.{of, ops};
+ghost use Rattle.example_mersenne31.specs.Elements.{of};
 
 use crate::value::Mersenne31;
 use p3_field::Algebra;
 use p3_field::extension::{Binomial, ExtensionOverAlgebra, PackedProduct, binomial_product};
-
-impl<P: Algebra<Mersenne31>> PackedProduct<P, 2, Binomial<Mersenne31>> for Mersenne31 {
-    ghost packed_product_gives = { λ a b r. r ≡ quotient_mul P.ops 2 (binomial P.ops 2 (P.embed (ops.neg ops.one))) a b };
-
-    #[inline]
-    fn packed_product(a: &[P], b: &[P], res: &mut [P]) {
-        let minus_one = Self::new(0x7fff_fffe);
-        binomial_product::<Self, P, 2>(a, b, res, minus_one);
-    }
-}
-
-impl<P: Algebra<Mersenne31>> ExtensionOverAlgebra<P, 2, Binomial<Mersenne31>> for Mersenne31 {
-    ghost use Rattle.std.proofs.Common.{◌∙◌, ap, sym};
-    ghost use Rattle.p3_field.specs.TableEntries.{binomial-along};
-
-    ghost packed_products = { λ a b r h. h ∙ sym (ap (λ f. quotient_mul P.ops 2 f a b) (binomial-along P.embeds 2 (ops.neg ops.one))) };
-}
 
 impl<P: Algebra<Mersenne31>> PackedProduct<P, 3, Binomial<Mersenne31>> for Mersenne31 {
     ghost packed_product_gives = { λ a b r. r ≡ quotient_mul P.ops 3 (binomial P.ops 3 (P.embed (of 5))) a b };

@@ -1,6 +1,7 @@
 //! Packings of the bench's prime fields: `Packed<F, N>`, N values of a field side by side.
 #![tactic(auto)]
 
+mod complex_lanes;
 mod dot_products;
 pub mod lanes;
 pub mod left_operators;

@@ -16,7 +16,7 @@ use crate::small::{F31, M31};
 use p3_ext::extension::{
     BinomialExtensionField, HasComplexBinomialExtension, HasTwoAdicComplexBinomialExtension,
 };
-use p3_ring::ring::PrimeCharacteristicRing;
+use p3_ring::ring::{Algebra, PrimeCharacteristicRing};
 
 /// The extension of `F31c` by `Y^2 = 3 + 2 X`.
 pub type F31cx2 = BinomialExtensionField<F31c, 2>;
@@ -38,6 +38,11 @@ impl HasComplexBinomialExtension<2> for F31 {
     #[inline]
     fn w() -> F31c {
         complex(3, 2)
+    }
+
+    #[inline]
+    fn embedded_w<P: Algebra<F31c>>() -> P {
+        P::from(complex(3, 2))
     }
 
     #[inline]

@@ -11,6 +11,7 @@ ghost use Rattle.p3_ext.specs.Shapes.{IsBinomial};
 pub mod algebra;
 pub mod basis;
 pub mod binomial_extension;
+mod complex_algebra;
 pub mod complex_binomial;
 pub mod complex_extension;
 mod defaults;

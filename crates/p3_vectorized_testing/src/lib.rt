@@ -2,6 +2,8 @@
 #![tactic(auto)]
 
 #[cfg(test)]
+mod complex_runs;
+#[cfg(test)]
 mod lane_run_tables;
 #[cfg(test)]
 mod lane_runs;

@@ -6,8 +6,12 @@ ghost use Rattle.p3_ext.specs.ComplexValues.{complex_ops, ArePowersApart};
 
 use super::complex_extension::{Complex, ComplexExtendable};
 use super::entries::{add_each, scale_each, sub_each};
-use super::{Binomial, BinomiallyExtendable, ExtensionAlgebra, ExtensionProduct};
+use super::{
+    Binomial, BinomiallyExtendable, ExtensionAlgebra, ExtensionOverAlgebra, ExtensionProduct,
+    PackedProduct,
+};
 use p3_products::binomial_extension::{ring_product, ring_square};
+use p3_ring::ring::Algebra;
 
 /// A field whose extension by `X^2 = -1` has an extension of degree D by `Y^D = W`. Upstream's
 /// `HasComplexBinomialExtension`.
@@ -32,6 +36,11 @@ pub trait HasComplexBinomialExtension<const D: usize>: ComplexExtendable {
     /// The W of `Y^D = W`.
     fn w() -> Complex<Self>
         ensures { result ≡ w };
+
+    /// The W of `Y^D = W` as a value of an algebra over the complex values, as in every lane of a
+    /// packing. This project's own.
+    fn embedded_w<P: Algebra<Complex<Self>>>() -> P
+        ensures { result ≡ P.embed w };
 
     /// A root of unity of order D: its D-th power is one, and its powers 1 to D - 1, each less
     /// one, have inverses.
@@ -152,4 +161,38 @@ impl<F: HasComplexBinomialExtension<D>, const D: usize> BinomiallyExtendable<D> 
     ghost root_power = { F.HasComplexBinomialExtension.root_power };
 
     ghost apart = { F.HasComplexBinomialExtension.apart };
+}
+
+/// Products of lists over an algebra of the complex values, as a packing of them.
+impl<F: HasComplexBinomialExtension<D>, P: Algebra<Complex<F>>, const D: usize> PackedProduct<
+    P,
+    D,
+    Binomial<Complex<F>>,
+> for Complex<F> {
+    ghost packed_product_gives = { λ a b r. r ≡ quotient_mul P.ops D (binomial P.ops D (P.embed F.HasComplexBinomialExtension.w)) a b };
+
+    #[inline]
+    fn packed_product(a: &[P], b: &[P], res: &mut [P]) {
+        let w = <F as HasComplexBinomialExtension<D>>::embedded_w::<P>();
+        ring_product::<P, D>(a, b, res, w);
+    }
+
+    #[inline]
+    fn packed_square(a: &[P], res: &mut [P]) {
+        let mut square = [P::zero(); D];
+        let w = <F as HasComplexBinomialExtension<D>>::embedded_w::<P>();
+        ring_square::<P, D>(a, &mut square, w);
+        res.copy_from_slice(&square);
+    }
+}
+
+impl<
+    F: HasComplexBinomialExtension<D>,
+    P: Algebra<Complex<F>>,
+    const D: usize,
+> ExtensionOverAlgebra<P, D, Binomial<Complex<F>>> for Complex<F> {
+    ghost use Rattle.std.proofs.Common.{◌∙◌, ap, sym};
+    ghost use Rattle.p3_theory.specs.FrobeniusMaps.TableEntries.{binomial-along};
+
+    ghost packed_products = { λ a b r h. h ∙ sym (ap (λ f. quotient_mul P.ops D f a b) (binomial-along P.embeds D F.HasComplexBinomialExtension.w)) };
 }
