@@ -6,6 +6,7 @@ use Rattle.std.proofs.lemmas.List.{get_or-replicate, get_or-set_same, get_or-set
 use Rattle.std.proofs.lemmas.Nat.{div-mul-add, mod-mul-add, div-add-mod'}
 use Rattle.std.proofs.lemmas.Option.{slice_get-get_or, get_or_from_slice_get}
 use Rattle.std.proofs.Math.Nat.{mod-lt, mul_comm, suc-mul, mul-le-mul_right, div-mul-le_self, min-le_left, min-eq_left}
+use borrow.Author.Count.{below_more}
 use Rattle.p3_theory.specs.Polynomials.Polynomial.{at, tabulate}
 use Rattle.p3_theory.specs.Polynomials.Coefficients.{length-tabulate}
 use Rattle.p3_theory.specs.Lists.Places.{get-tabulate, to-tabulate, read_at}
@@ -114,6 +115,15 @@ module _ {P B : Type 0} (O : Ops P) (Q : Ops B) (lanes : P → List B) (w : ℕ)
 
     pub lanes-stored : (v : Row P n) (s : List B) (i : ℕ) → length s ≡ lane_count w n → length s ≤ i → HoldsBelow (lane_at v.items) Q.zero s i → s ≡ vector_lanes O Q lanes w v
     lanes-stored v s i l le h = holds-all (lane_at v.items) Q.zero s (lane_count w n) l (λ k b. h k (omega (arith, b, l, le)))
+
+  -- a packing of one group more
+  pub group-loaded : (s : List B) (xs : List P) (i : ℕ) (x : P) → i < length xs → lanes x ≡ slice_range s (i * w) (i * w + w)
+      → ((d : P) (k : ℕ) → k < i → lanes (get_or xs k d) ≡ slice_range s (k * w) (k * w + w))
+      → (d : P) (k : ℕ) → k < i + 1 → lanes (get_or (slice_set xs i x) k d) ≡ slice_range s (k * w) (k * w + w)
+  group-loaded s xs i x b told h d =
+      below_more (λ k. lanes (get_or (slice_set xs i x) k d) ≡ slice_range s (k * w) (k * w + w)) i
+      (λ k c. ap lanes (get_or-set_other xs i k x d (omega (arith, c))) ∙ h d k c)
+      (ap lanes (get_or-set_same xs i x d b) ∙ told)
 
   -- one group more is written
   pub group-written : (xs : List P) (old new : List B) (i : ℕ) (x : P) → i < length xs → x ≡ get_or xs i x → slice_range new (i * w) (i * w + w) ≡ lanes x → take (i * w) new ≡ take (i * w) old
