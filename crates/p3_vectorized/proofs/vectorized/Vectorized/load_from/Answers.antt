@@ -1,4 +1,4 @@
-use Rattle.std.proofs.Common.{arith, sym, ◌∙◌}
+use Rattle.std.proofs.Common.{sym, ◌∙◌}
 use Rattle.p3_theory.specs.Lists.Places.{read_at}
 use Rattle.p3_vectorized.specs.VectorLists.{vector_lanes, length-lanes, value-loaded, values-loaded}
 use Rattle.p3_vectorized.proofs.vectorized.Vectorized.load_from.Goals as goal
