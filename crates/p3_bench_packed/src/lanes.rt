@@ -10,7 +10,6 @@ use p3_bench_prime::fp::Fp;
 use p3_packed::holds_scalar::HoldsScalar;
 use p3_packed::packed_ext_field::Packing;
 use p3_ring::packed_ring::PackedRing;
-use p3_vectorized::vectorized::lanes::LaneCountFits;
 
 impl<F: Packable, const N: usize> PackedValue for Packed<F, N> {
     type Value = F;
@@ -251,40 +250,4 @@ impl<W> LaneCountPow2<16> for W {
     ghost use Rattle.std.specs.Prelude.{refl};
 
     ghost power_of_two = { (4, refl) };
-}
-
-impl<F: Lanes<4>> LaneCountFits<F, 1> for Packed<F, 4> {
-    ghost use Rattle.std.proofs.Common.{lit<};
-
-    ghost fits = { lit< tt };
-}
-
-impl<F: Lanes<4>> LaneCountFits<F, 2> for Packed<F, 4> {
-    ghost use Rattle.std.proofs.Common.{lit<};
-
-    ghost fits = { lit< tt };
-}
-
-impl<F: Lanes<4>> LaneCountFits<F, 3> for Packed<F, 4> {
-    ghost use Rattle.std.proofs.Common.{lit<};
-
-    ghost fits = { lit< tt };
-}
-
-impl<F: Lanes<8>> LaneCountFits<F, 1> for Packed<F, 8> {
-    ghost use Rattle.std.proofs.Common.{lit<};
-
-    ghost fits = { lit< tt };
-}
-
-impl<F: Lanes<8>> LaneCountFits<F, 2> for Packed<F, 8> {
-    ghost use Rattle.std.proofs.Common.{lit<};
-
-    ghost fits = { lit< tt };
-}
-
-impl<F: Lanes<8>> LaneCountFits<F, 3> for Packed<F, 8> {
-    ghost use Rattle.std.proofs.Common.{lit<};
-
-    ghost fits = { lit< tt };
 }

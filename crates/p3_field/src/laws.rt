@@ -8,4 +8,8 @@ pub use p3_ext::laws::{
     bytes_are_of_coefficients, default_is_zero, hash_is_of_coefficients, orbit_product_is_norm,
     order_is_lexicographic, product_is_remainder,
 };
-pub use p3_run_laws::laws::run_lane_steps_by_coefficients;
+pub use p3_run_laws::laws::{
+    packed_extension_has_a_lane, run_lane_steps_by_coefficients, run_packed_steps_by_coefficients,
+    run_steps_by_coefficients, run_steps_by_lanes, vector_default_is_zero,
+    vector_ext_default_is_zero, vector_ext_lanes_keep_operations, vector_lanes_keep_operations,
+};

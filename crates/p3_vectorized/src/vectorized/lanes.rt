@@ -1,22 +1,15 @@
 //! The lanes of a vector of packings: those of its packings, one packing after the other.
-ghost use Rattle.std.specs.Prelude.{◌≡◌, ◌<◌, ◌*◌, ◌^◌, get_or, slice_set};
+ghost use Rattle.std.specs.Prelude.{◌≡◌, ◌<◌, Some, length, get_or, slice_get, slice_set};
 ghost use Rattle.std.specs.Array.{IsFromFnResult};
 ghost use Rattle.p3_theory.specs.Bases.Coordinates.{CallableBelow};
-ghost use Rattle.p3_vectorized.specs.VectorLists.{vector_lanes};
+ghost use Rattle.p3_theory.specs.Lists.TabulatedPlaces.{HoldsBelow};
+ghost use Rattle.p3_theory.specs.Polynomials.Polynomial.{at};
+ghost use Rattle.p3_vectorized.specs.VectorLists.{lane_at, lane_count, vector_lanes};
 
 use super::Vectorized;
-use p3_base::field::Field;
-use p3_base::packed_traits::{Inhabited, Packable, PackedField, PackedValue};
+use p3_base::packed_traits::{Inhabited, Packable, PackedValue};
 use p3_ring::packed_ring::PackedRing;
 use p3_ring::ring::PrimeCharacteristicRing;
-
-/// A packing of which N have fewer than `2^64` lanes together: what a vector of N asks for, so that its
-/// lanes are counted by a `usize`. The fact is computed at each packing and N. This project's own;
-/// upstream's constant doesn't compile where it doesn't fit.
-pub trait LaneCountFits<F: Field, const N: usize>: PackedField<F> {
-    /// The lanes of N packings are fewer than `2^64`.
-    ghost fits: { Self.WIDTH * N < 2 ^ 64 };
-}
 
 impl<F: Copy, P: Inhabited, const N: usize> Vectorized<F, P, N> {
     /// The packing at an index below N.
@@ -43,10 +36,21 @@ impl<F: Copy, P: Inhabited, const N: usize> Vectorized<F, P, N> {
 }
 
 impl<F: PrimeCharacteristicRing, P: PackedRing<F> + Inhabited, const N: usize> Vectorized<F, P, N> {
-    /// Writes a lane, which is below `WIDTH * N`.
+    /// The value of a lane that is counted.
+    #[inline]
+    fn read_lane(&self, lane: usize) -> F
+        requires { lane < lane_count P.WIDTH N }
+        ensures { slice_get (vector_lanes P.ops F.ops P.lanes P.WIDTH self.now) lane ≡ Some result }
+    {
+        let width = P::WIDTH;
+        let part = self.part(lane / width);
+        part.extract(lane % width)
+    }
+
+    /// Writes a lane that is counted.
     #[inline]
     fn write_lane(&mut self, lane: usize, value: F)
-        requires { lane < P.WIDTH * N }
+        requires { lane < lane_count P.WIDTH N }
         ensures { vector_lanes P.ops F.ops P.lanes P.WIDTH self.new ≡ slice_set (vector_lanes P.ops F.ops P.lanes P.WIDTH self.old) lane value }
     {
         let width = P::WIDTH;
@@ -55,36 +59,74 @@ impl<F: PrimeCharacteristicRing, P: PackedRing<F> + Inhabited, const N: usize> V
         self.set_part(lane / width, part);
     }
 
-    /// The vector whose lane i is what the closure answers at i, for i from 0 upward.
+    /// The vector whose lane i is what the closure answers at i, for i from 0 upward to the number of
+    /// lanes.
     #[inline]
-    fn by_lanes<G: FnMut(usize) -> F>(mut f: G) -> Self
-        requires can { CallableBelow G.FnMut (P.WIDTH * N) f }
-        requires fits { P.WIDTH * N < 2 ^ 64 }
-        ensures { IsFromFnResult G.FnMut f (vector_lanes P.ops F.ops P.lanes P.WIDTH result) (P.WIDTH * N) }
+    fn by_lanes<G: FnMut(usize) -> F>(count: usize, mut f: G) -> Self
+        requires all { count ≡ lane_count P.WIDTH N }
+        requires can { CallableBelow G.FnMut (lane_count P.WIDTH N) f }
+        ensures { IsFromFnResult G.FnMut f (vector_lanes P.ops F.ops P.lanes P.WIDTH result) (lane_count P.WIDTH N) }
     {
         let mut vector = Self::new([P::zero(); N]);
-        for lane in 0..P::WIDTH * N {
+        for lane in 0..count {
             let value = f(lane);
             vector.write_lane(lane, value);
         }
         vector
     }
+
+    /// Writes the lanes from `start` on from a slice that has a value for each lane. The lanes before
+    /// hold theirs.
+    #[inline]
+    fn load_from(&mut self, start: usize, slice: &[F])
+        requires all { length slice.now ≡ lane_count P.WIDTH N }
+        requires before { HoldsBelow (at F.ops slice.now) F.ops.zero (vector_lanes P.ops F.ops P.lanes P.WIDTH self.old) start }
+        ensures { vector_lanes P.ops F.ops P.lanes P.WIDTH self.new ≡ slice.now }
+    {
+        for lane in start..slice.len() {
+            self.write_lane(lane, slice[lane]);
+        }
+    }
+
+    /// Writes the lanes from `start` on to a slice that has a place for each lane. The places before
+    /// hold theirs.
+    #[inline]
+    fn store_from(&self, start: usize, out: &mut [F])
+        requires all { length out.old ≡ lane_count P.WIDTH N }
+        requires before { HoldsBelow (lane_at P.ops F.ops P.lanes P.WIDTH self.now.items) F.ops.zero out.old start }
+        ensures { out.new ≡ vector_lanes P.ops F.ops P.lanes P.WIDTH self.now }
+    {
+        for lane in start..out.len() {
+            out[lane] = self.read_lane(lane);
+        }
+    }
 }
 
 /// Lane i is lane `i % WIDTH` of packing `i / WIDTH`, where `WIDTH` is the number of lanes of a packing.
-impl<F: Field + Packable, P: LaneCountFits<F, N>, const N: usize> PackedValue
-    for Vectorized<F, P, N> {
+/// Lanes are counted up to the greatest `usize`; upstream's constant doesn't compile where there are
+/// more.
+impl<
+    F: PrimeCharacteristicRing + Packable,
+    P: PackedRing<F> + Inhabited,
+    const N: usize,
+> PackedValue for Vectorized<F, P, N> {
     type Value = F;
 
-    const WIDTH: usize = P::WIDTH * N;
+    const WIDTH: usize = if N == 0 {
+        0
+    } else if P::WIDTH <= usize::MAX / N {
+        P::WIDTH * N
+    } else {
+        usize::MAX
+    };
 
-    ghost WIDTH = { P.WIDTH * N };
+    ghost WIDTH = { lane_count P.WIDTH N };
 
     ghost lanes = { vector_lanes P.ops F.ops P.lanes P.WIDTH };
 
     #[inline]
     fn from_fn<G: FnMut(usize) -> F>(f: G) -> Self {
-        Self::by_lanes(f)
+        Self::by_lanes(Self::WIDTH, f)
     }
 
     #[inline]
@@ -92,28 +134,35 @@ impl<F: Field + Packable, P: LaneCountFits<F, N>, const N: usize> PackedValue
         Self::new([P::broadcast(value); N])
     }
 
+    /// By the groups that lie whole in the slice, which are all but where there are lanes that aren't
+    /// counted.
     #[inline]
     fn from_slice(slice: &[F]) -> Self {
+        let width = P::WIDTH;
+        let whole = slice.len() / width;
         let mut items = [P::zero(); N];
-        for i in 0..N {
+        for i in 0..whole {
             items[i] = P::load_block(slice, i);
         }
-        Self::new(items)
+        let mut vector = Self::new(items);
+        vector.load_from(whole * width, slice);
+        vector
     }
 
     #[inline]
     fn to_slice(&self, out: &mut [F]) {
-        for i in 0..N {
+        let width = P::WIDTH;
+        let whole = out.len() / width;
+        for i in 0..whole {
             let part = self.part(i);
             part.store_block(out, i);
         }
+        self.store_from(whole * width, out);
     }
 
     #[inline]
     fn extract(&self, lane: usize) -> F {
-        let width = P::WIDTH;
-        let part = self.part(lane / width);
-        part.extract(lane % width)
+        self.read_lane(lane)
     }
 
     #[inline]
