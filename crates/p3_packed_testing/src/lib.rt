@@ -16,6 +16,8 @@ mod extension_calls;
 #[cfg(test)]
 mod lane_calls;
 #[cfg(test)]
+mod lane_items;
+#[cfg(test)]
 mod operation_calls;
 #[cfg(test)]
 mod operation_tables;
