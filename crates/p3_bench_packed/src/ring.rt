@@ -4,6 +4,7 @@ ghost use Rattle.std.specs.Prelude.{◌≡◌};
 use crate::dot_products::packed_dot_product;
 use crate::packed::Packed;
 use crate::wide_products::WideProducts;
+use p3_packings::scalar_sums::ScalarSums;
 use p3_ring::accumulate::{product_from, sum_from};
 use p3_ring::ring::{Algebra, PrimeCharacteristicRing, RingSums};
 use std::iter::{Product, Sum};
@@ -162,4 +163,11 @@ impl<F: PrimeCharacteristicRing + WideProducts, const N: usize> Algebra<F> for P
     ghost mixed_muls = { record { called = λ _ _ _ _ _. F.muls.called _ _; answer = λ x f r h. written_mixed_product packed_rows F.ops x f r (λ d k w. F.muls.answer _ _ _ (h d k w)) } };
 
     ghost mixed_mul_assigns = { record { called = λ _ _ _ _ _. F.muls.called _ _; answer = λ x f r h. written_mixed_product packed_rows F.ops x f r (λ d k w. F.muls.answer _ _ _ (h d k w)) } };
+}
+
+/// The sum and the product of values, in all lanes.
+impl<F: PrimeCharacteristicRing + WideProducts, const N: usize> ScalarSums<F> for Packed<F, N> {
+    ghost scalar_sums = { record { called = λ _. tt; answer = λ _ _ h. h; whole = λ _. tt } };
+
+    ghost scalar_products = { record { called = λ _. tt; answer = λ _ _ h. h; whole = λ _. tt } };
 }
