@@ -110,7 +110,7 @@ module _ {P B : Type 0} (O : Ops P) (Q : Ops B) (lanes : P → List B) (w : ℕ)
         → HoldsBelow (lane_at v.items) Q.zero old i → HoldsBelow (lane_at v.items) Q.zero (slice_set old i x) (i + 1)
     lane-stored v old i x b l e h =
         let lane_is : x ≡ lane_at v.items i =
-            sym (get_or_from_slice_get (vector_lanes O Q lanes w v) i x Q.zero e) ∙ get-tabulate (lane_count w n) (λ k. vector_lane O Q lanes w k v) i Q.zero (omega (arith, b, l)) in
+        sym (get_or_from_slice_get (vector_lanes O Q lanes w v) i x Q.zero e) ∙ get-tabulate (lane_count w n) (λ k. vector_lane O Q lanes w k v) i Q.zero (omega (arith, b, l)) in
         holds-more (lane_at v.items) Q.zero old i x b h lane_is
 
     pub lanes-stored : (v : Row P n) (s : List B) (i : ℕ) → length s ≡ lane_count w n → length s ≤ i → HoldsBelow (lane_at v.items) Q.zero s i → s ≡ vector_lanes O Q lanes w v

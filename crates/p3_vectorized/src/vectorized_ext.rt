@@ -352,12 +352,12 @@ impl<F: Copy, EF: Copy, PE: PrimeCharacteristicRing + Inhabited, const N: usize>
     }
 }
 
-impl<F: Copy, EF: PrimeCharacteristicRing, PE: PackedExtensionRing<F, EF>, const N: usize> VectorizedExt<
-    F,
-    EF,
-    PE,
-    N,
-> {
+impl<
+    F: Copy,
+    EF: PrimeCharacteristicRing,
+    PE: PackedExtensionRing<F, EF>,
+    const N: usize,
+> VectorizedExt<F, EF, PE, N> {
     /// The value at a lane: lane `lane % LANES` of packing `lane / LANES`, where `LANES` is the number
     /// of lanes of a packing. The lane is below `LANES * N`. Upstream's `extract`.
     #[inline]

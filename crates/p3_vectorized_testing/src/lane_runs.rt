@@ -83,7 +83,12 @@ where
 
 /// Puts the values into registers, carries out the steps by `run_lane_steps` and reads the values back;
 /// whether the steps fit.
-fn run_vectors<F: Copy, EF: PrimeCharacteristicRing, PE: PackedExtensionRing<F, EF>, const N: usize>(
+fn run_vectors<
+    F: Copy,
+    EF: PrimeCharacteristicRing,
+    PE: PackedExtensionRing<F, EF>,
+    const N: usize,
+>(
     registers: &mut Vec<VectorizedExt<F, EF, PE, N>>,
     values: &mut [EF],
     steps: &[Step],
@@ -117,10 +122,12 @@ fn put_values<F: Copy, EF: PrimeCharacteristicRing, PE: PackedExtensionRing<F, E
 }
 
 /// Reads the values of all lanes of the registers, one register after the other.
-fn read_values<F: Copy, EF: PrimeCharacteristicRing, PE: PackedExtensionRing<F, EF>, const N: usize>(
-    registers: &[VectorizedExt<F, EF, PE, N>],
-    values: &mut [EF],
-) {
+fn read_values<
+    F: Copy,
+    EF: PrimeCharacteristicRing,
+    PE: PackedExtensionRing<F, EF>,
+    const N: usize,
+>(registers: &[VectorizedExt<F, EF, PE, N>], values: &mut [EF]) {
     let Some(lanes) = PE::LANES.checked_mul(N) else {
         return;
     };

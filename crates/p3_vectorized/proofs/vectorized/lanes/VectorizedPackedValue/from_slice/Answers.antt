@@ -38,6 +38,6 @@ load_from-requires g c =
     let e : width ≡ w = c.WIDTH-width.ensures in
     let counted : whole * w ≤ lane_count w g.row.N = omega (arith, c.requires, div-mul-le_self (length slice) width, ap (λ x. whole * x) e) in
     let before : HoldsBelow (at Q slice) Q.zero (vector_lanes O Q lanes w c.new-vector.result) (whole * width) =
-        subst (λ x. HoldsBelow (at Q slice) Q.zero (vector_lanes O Q lanes w c.new-vector.result) (whole * x)) (sym e)
-        (lanes-groups O Q lanes w c.new-vector.result c.loop-i.items slice whole c.new-vector.ensures counted (λ d k b. c.loop-i.invariant.1 d k (omega (arith, b, c.loop-i-test.false)))) in
+    subst (λ x. HoldsBelow (at Q slice) Q.zero (vector_lanes O Q lanes w c.new-vector.result) (whole * x)) (sym e)
+    (lanes-groups O Q lanes w c.new-vector.result c.loop-i.items slice whole c.new-vector.ensures counted (λ d k b. c.loop-i.invariant.1 d k (omega (arith, b, c.loop-i-test.false)))) in
     search (rules, c.requires, before)

@@ -38,5 +38,5 @@ store_from-requires g c =
     let e : whole * width ≡ whole * w = ap (λ x. whole * x) c.WIDTH-width.ensures in
     let less : whole * w ≤ c.loop-i.i * w = mul-le-mul_right w c.loop-i-test.false in
     let before : HoldsBelow (lane_at g.P.PrimeCharacteristicRing.ops Q g.P.PackedValue.lanes w c.args.self.now.items) Q.zero c.loop-i.out (whole * width) =
-        λ k b. c.loop-i.invariant.1 k (omega (arith, b, e, less)) in
+    λ k b. c.loop-i.invariant.1 k (omega (arith, b, e, less)) in
     search (rules, c.loop-i.invariant.0, before)
