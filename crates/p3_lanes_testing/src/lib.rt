@@ -7,8 +7,6 @@ mod kernel_tables;
 #[cfg(test)]
 mod kernels;
 #[cfg(test)]
-mod left_operators;
-#[cfg(test)]
 mod numbers;
 #[cfg(test)]
 mod operations;

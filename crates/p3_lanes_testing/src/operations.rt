@@ -5,22 +5,26 @@ ghost use Rattle.p3_theory.specs.Rings.Ring.{Invertible};
 use p3_base::field::Field;
 use p3_ring::ring::{Algebra, PrimeCharacteristicRing};
 
-/// What an operation gives on two values, or on a value and a scalar, or the number of a text; none where it
-/// has another name.
+/// What an operation gives on two values, or on a value and the scalar `before` or `after` it, or the
+/// number of a text; none where it has another name.
 pub(crate) fn operation<F: Field, A: Algebra<F>>(
     call: &str,
     x: A,
     y: A,
-    scalar: F,
+    before: F,
+    after: F,
     number: &str,
 ) -> Option<A> {
     match call {
         "add" => Some(x + y),
         "sub" => Some(x - y),
         "mul" => Some(x * y),
-        "add scalar" => Some(x + scalar),
-        "sub scalar" => Some(x - scalar),
-        "mul scalar" => Some(x * scalar),
+        "add scalar" => Some(x + after),
+        "sub scalar" => Some(x - after),
+        "mul scalar" => Some(x * after),
+        "scalar add" => Some(A::from(before) + y),
+        "scalar sub" => Some(A::from(before) - y),
+        "scalar mul" => Some(A::from(before) * y),
         "neg" => Some(-x),
         "double" => Some(x.double()),
         "halve" => half::<F, A>(x),

@@ -47,11 +47,13 @@ fn sum_of_products<F: Field, P: PackedField<F>>(
 fn operated<F: Field, P: PackedField<F>>(call: &str, left: &str, right: &str) -> Option<P> {
     let x = packing::<F, P>(left);
     let y = packing::<F, P>(right);
+    let before = value_at::<F>(left, 0)?;
+    let after = entry::<F>(right, 0);
     match call {
-        "broadcast" => Some(P::broadcast(value_at::<F>(left, 0)?)),
+        "broadcast" => Some(P::broadcast(before)),
         "div" => quotient::<F, P>(x, y),
         "div scalar" => scalar_quotient::<F, P>(x, right),
-        _ => operation::<F, P>(call, x, y, entry::<F>(right, 0), right),
+        _ => operation::<F, P>(call, x, y, before, after, right),
     }
 }
 

@@ -1,5 +1,4 @@
 //! The packings that rows name, and vectors of them: each row's call at its field and its number of lanes.
-use crate::left_operators::{left_agrees, left_agrees_over_goldilocks};
 use crate::packing_calls::{any_agrees, row_agrees};
 use crate::packing_columns::Rooms;
 use crate::packing_list_tables::{LISTS, POWER_GROWTHS, POWERS, POWERS_OF_31, WORKED_POWERS};
@@ -84,9 +83,6 @@ impl<F: Lanes<N>, const N: usize> AnyLaneCalls for Packed<F, N> {
 
 /// Whether a row's call has its answer over a prime field in words of 32 bits.
 fn over<W: Form<u32>>(alloc: Global, row: Row<'_>) -> Result<Option<bool>, AllocError> {
-    if row.has_scalar_on_the_left() {
-        return Ok(left_agrees::<W>(row));
-    }
     match row.lanes {
         "1" => <Packed<Fp<W>, 1> as LaneCalls>::agrees(alloc, None, None, row),
         "3" => <Packed<Fp<W>, 3> as AnyLaneCalls>::any_lanes_agree(alloc, None, row),
@@ -99,9 +95,6 @@ fn over<W: Form<u32>>(alloc: Global, row: Row<'_>) -> Result<Option<bool>, Alloc
 
 /// Whether a row's call has its answer over Goldilocks.
 fn over_goldilocks(alloc: Global, row: Row<'_>) -> Result<Option<bool>, AllocError> {
-    if row.has_scalar_on_the_left() {
-        return Ok(left_agrees_over_goldilocks(row));
-    }
     match row.lanes {
         "1" => <Packed<Goldilocks, 1> as LaneCalls>::agrees(alloc, None, None, row),
         "4" => <Packed<Goldilocks, 4> as LaneCalls>::agrees(alloc, None, None, row),

@@ -47,11 +47,6 @@ impl<'a> Row<'a> {
         self.arguments.split('|').nth(index).unwrap_or("")
     }
 
-    /// Whether the call is an operator with a scalar on the left.
-    pub(crate) fn has_scalar_on_the_left(self) -> bool {
-        self.call.starts_with("scalar ")
-    }
-
     /// What the call is on.
     pub(crate) fn shape(self) -> Shape {
         if self.call.starts_with("pack_columns") || self.call.starts_with("unpack_into") {

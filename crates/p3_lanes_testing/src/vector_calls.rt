@@ -74,6 +74,7 @@ fn called<F: Field, A: Algebra<F>>(
             call,
             first_or_zero(xs),
             first_or_zero(ys),
+            F::zero(),
             entry::<F>(second, 0),
             second,
         ),
