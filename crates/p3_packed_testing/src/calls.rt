@@ -1,7 +1,7 @@
 //! The calls of the tables over the extensions of the bench. The functions that choose the number of lanes
 //! are generic over the marker of a field: a test then passes the field's constants alone.
 use crate::column_calls::Rooms;
-use crate::extension_calls::{BaseCalls, ExtensionCalls, ExtensionRooms, OwnCalls};
+use crate::extension_calls::{BaseCalls, ExtensionCalls, ExtensionRooms};
 use crate::rows::Row;
 use crate::{
     call_tables as tables, columnwise_tables as columnwise, operation_tables as operations,
@@ -20,7 +20,7 @@ use std::alloc::{AllocError, Global};
 use std::process::Abort;
 use std::test::Fail;
 
-/// A row's call over packings of 4 or 8 values of the extension by `X^2 = W`, and over its values one by one.
+/// A row's call over packings of 1, 4 or 8 values of the extension by `X^2 = W`.
 fn over_quadratic<W: OverModulus<u32>>(
     alloc: Global,
     row: Row<'_>,
@@ -29,7 +29,7 @@ where
     W::Modulus: BinomialConstants<2>,
 {
     match row.lanes {
-        "1" => <Fp<W> as OwnCalls<Binomial<Fp<W>>, 2>>::own_agrees(alloc, None, row),
+        "1" => <Fp<W> as ExtensionCalls<Binomial<Fp<W>>, 2, 1>>::extension_agrees(alloc, None, row),
         "4" => <Fp<W> as ExtensionCalls<Binomial<Fp<W>>, 2, 4>>::extension_agrees(alloc, None, row),
         "8" => <Fp<W> as ExtensionCalls<Binomial<Fp<W>>, 2, 8>>::extension_agrees(alloc, None, row),
         _ => Ok(None),
@@ -45,7 +45,7 @@ where
     W::Modulus: BinomialConstants<4>,
 {
     match row.lanes {
-        "1" => <Fp<W> as OwnCalls<Binomial<Fp<W>>, 4>>::own_agrees(alloc, None, row),
+        "1" => <Fp<W> as ExtensionCalls<Binomial<Fp<W>>, 4, 1>>::extension_agrees(alloc, None, row),
         "4" => <Fp<W> as ExtensionCalls<Binomial<Fp<W>>, 4, 4>>::extension_agrees(alloc, None, row),
         "8" => <Fp<W> as ExtensionCalls<Binomial<Fp<W>>, 4, 8>>::extension_agrees(alloc, None, row),
         _ => Ok(None),
@@ -79,25 +79,13 @@ where
     <Fp<W> as ExtensionCalls<Modulo<S, D>, D, N>>::extension_agrees(alloc, rooms, row)
 }
 
-/// The same over values of the extension one by one.
-fn own_polynomial_agrees<W: OverModulus<u32>, S: IntegerPolynomial<D>, const D: usize>(
-    alloc: Global,
-    rooms: Option<ExtensionRooms<Fp<W>, Modulo<S, D>, Fp<W>, D>>,
-    row: Row<'_>,
-) -> Result<Option<bool>, AllocError>
-where
-    W::Modulus: PolynomialConstants<D, S>,
-{
-    <Fp<W> as OwnCalls<Modulo<S, D>, D>>::own_agrees(alloc, rooms, row)
-}
-
 /// The same at 1, 4 or 8 lanes, by `X^3 = X + 1`.
 fn over_cubic<W: OverModulus<u32>>(alloc: Global, row: Row<'_>) -> Result<Option<bool>, AllocError>
 where
     W::Modulus: PolynomialConstants<3, Cubic>,
 {
     match row.lanes {
-        "1" => own_polynomial_agrees::<W, Cubic, 3>(alloc, None, row),
+        "1" => polynomial_agrees::<W, Cubic, 3, 1>(alloc, None, None, row),
         "4" => polynomial_agrees::<W, Cubic, 3, 4>(alloc, None, None, row),
         "8" => polynomial_agrees::<W, Cubic, 3, 8>(alloc, None, None, row),
         _ => Ok(None),
@@ -113,7 +101,7 @@ where
     W::Modulus: PolynomialConstants<5, Quintic>,
 {
     match row.lanes {
-        "1" => own_polynomial_agrees::<W, Quintic, 5>(alloc, None, row),
+        "1" => polynomial_agrees::<W, Quintic, 5, 1>(alloc, None, None, row),
         "4" => polynomial_agrees::<W, Quintic, 5, 4>(alloc, None, None, row),
         "8" => polynomial_agrees::<W, Quintic, 5, 8>(alloc, None, None, row),
         _ => Ok(None),
@@ -126,7 +114,7 @@ where
     W::Modulus: PolynomialConstants<7, Septic>,
 {
     match row.lanes {
-        "1" => own_polynomial_agrees::<W, Septic, 7>(alloc, None, row),
+        "1" => polynomial_agrees::<W, Septic, 7, 1>(alloc, None, None, row),
         "4" => polynomial_agrees::<W, Septic, 7, 4>(alloc, None, None, row),
         "8" => polynomial_agrees::<W, Septic, 7, 8>(alloc, None, None, row),
         _ => Ok(None),

@@ -106,35 +106,6 @@ impl<
     }
 }
 
-/// Calls on values of an extension of this field one by one: the field is a packing of itself, of one lane.
-pub(crate) trait OwnCalls<S: ExtensionShape, const D: usize>: Copy {
-    /// The types that calls make values of.
-    type OwnRooms: Drop;
-
-    /// `PackedCalls::agrees` over the field itself. Nothing is read of `rooms`.
-    fn own_agrees(
-        alloc: Global,
-        rooms: Option<Self::OwnRooms>,
-        row: Row<'_>,
-    ) -> Result<Option<bool>, AllocError>;
-}
-
-impl<
-    F: FrobeniusExtendable<D, S> + ExtensionOverAlgebra<F, D, S> + Packable,
-    S: ExtensionShape,
-    const D: usize,
-> OwnCalls<S, D> for F {
-    type OwnRooms = ExtensionRooms<F, S, F, D>;
-
-    fn own_agrees(
-        alloc: Global,
-        rooms: Option<ExtensionRooms<F, S, F, D>>,
-        row: Row<'_>,
-    ) -> Result<Option<bool>, AllocError> {
-        <F as PackedCalls<F, S, D>>::agrees(alloc, rooms, row)
-    }
-}
-
 /// Calls on packings of this type of the values of F, which is an extension of itself.
 pub(crate) trait BaseCalls<F: PrimeCharacteristicRing>: Inhabited {
     /// The types that calls make values of.
