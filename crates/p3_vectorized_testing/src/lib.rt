@@ -2,8 +2,6 @@
 #![tactic(auto)]
 
 #[cfg(test)]
-mod complex_runs;
-#[cfg(test)]
 mod lane_run_tables;
 #[cfg(test)]
 mod lane_runs;

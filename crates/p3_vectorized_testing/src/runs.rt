@@ -1,6 +1,5 @@
 //! Runs over vectors of packings of the bench's extensions. The functions that choose the number of lanes are
 //! generic over the marker of a field: a test then passes the field's constants alone.
-use crate::complex_runs::{runs_over_complex, runs_over_complex_quadratic};
 use crate::lane_run_tables as tables;
 use crate::lane_runs::{Vectors, counted_runs_agree};
 use p3_base::packed_traits::{Inhabited, Packable, PackedField};
@@ -62,7 +61,7 @@ impl<
 
 /// Runs over vectors of packings of N values of an extension of this field, implemented once for all fields:
 /// a call at a field's own name passes the field's traits, and not what its packings have by them.
-pub(crate) trait ExtensionRuns<S: ExtensionShape, const D: usize, const N: usize>: Copy {
+trait ExtensionRuns<S: ExtensionShape, const D: usize, const N: usize>: Copy {
     /// Vectors of one to three packings.
     type RunVectors: Copy;
 
@@ -211,8 +210,6 @@ fn run_agrees(alloc: Global, line: &str) -> Result<Option<bool>, AllocError> {
     };
     match row.field {
         "f17x2" => runs_over_quadratic::<Plain<M17>>(alloc, row),
-        "f31c" => runs_over_complex(alloc, row),
-        "f31cx2" => runs_over_complex_quadratic(alloc, row),
         "f31t3" => runs_over_cubic::<Plain<M31>>(alloc, row),
         "f2t7" => runs_over_septic::<Plain<M2>>(alloc, row),
         "bbx4" => runs_over_quartic::<Montgomery<BabyBearModulus>>(alloc, row),
@@ -233,7 +230,6 @@ fn assert_table(rt: &(impl Abort + AllocGlobal), table: &str) -> Result<(), Fail
 #[test]
 fn runs_over_vectors(rt: HostRuntime) -> Result<(), Fail> {
     assert_table(&rt, tables::RUNS_BY_HAND)?;
-    assert_table(&rt, tables::COMPLEX_RUNS)?;
     assert_table(&rt, tables::RUNS_OVER_F17X2)?;
     assert_table(&rt, tables::RUNS_OVER_F31T3)?;
     assert_table(&rt, tables::RUNS_OVER_F2T7)?;
