@@ -28,12 +28,7 @@ impl<W: Form<T>, T: Word, const N: usize> Sub<Packed<Fp<W, T>, N>> for Fp<W, T> 
 
     #[inline]
     fn sub(self, packing: Packed<Fp<W, T>, N>) -> Packed<Fp<W, T>, N> {
-        let lanes = packing.value;
-        let mut value = lanes;
-        for i in 0..N {
-            value[i] = self - lanes[i];
-        }
-        Packed::new(value)
+        Packed::from(self) - packing
     }
 }
 
