@@ -1,2 +1,3 @@
+pub mod PackedResidues
 pub mod Sizes
 pub mod Values

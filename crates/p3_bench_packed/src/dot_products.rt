@@ -5,6 +5,7 @@ ghost use Rattle.p3_theory.specs.Rings.DotProduct.{dot};
 ghost use Rattle.p3_theory.specs.Lanes.RowRing.{item, row_ops};
 ghost use Rattle.p3_bench_packed.specs.Values.{packed_rows};
 
+use crate::lane_loops::{add_lanes, mul_lanes};
 use crate::packed::Packed;
 use crate::wide_products::WideProducts;
 use p3_ring::ring::PrimeCharacteristicRing;
@@ -104,8 +105,8 @@ fn add_products<F: PrimeCharacteristicRing, const N: usize>(
 {
     let mut sum = sum;
     for i in start..u.len() {
-        let product = u[i] * v[i];
-        sum = sum + product;
+        let product = mul_lanes(u[i], v[i]);
+        sum = add_lanes(sum, product);
     }
     sum
 }
@@ -124,7 +125,7 @@ fn dot_by_blocks<F: PrimeCharacteristicRing, const N: usize>(
     let mut start = 0;
     while u.len() - start >= 4 {
         let block = dot_by_lanes::<F, N, 4>(&u[start..start + 4], &v[start..start + 4]);
-        sum = sum + block;
+        sum = add_lanes(sum, block);
         start += 4;
     }
     add_products(sum, u, v, start)

@@ -1,9 +1,9 @@
 //! The lanes of packings, and which packings the bench's prime fields have.
 ghost use Rattle.std.specs.Prelude.{◌≡◌, ◌<◌, ◌^◌, ℕ};
+ghost use Rattle.p3_bench_prime.specs.Elements.{ops};
 
+use crate::lane_loops::interleave_lanes;
 use crate::packed::Packed;
-use crate::wide_products::WideProducts;
-use p3_base::field::Field;
 use p3_base::packed_traits::{Inhabited, Packable, PackedField, PackedFieldPow2, PackedValue};
 use p3_bench_prime::form::{Form, Word};
 use p3_bench_prime::fp::Fp;
@@ -55,96 +55,71 @@ impl<F: Packable, const N: usize> PackedValue for Packed<F, N> {
     }
 }
 
-/// One value of the lanes' type in all lanes.
-impl<F: Inhabited, const N: usize> Inhabited for Packed<F, N> {
+/// Zero in all lanes.
+impl<W: Form<T>, T: Word, const N: usize> Inhabited for Packed<Fp<W, T>, N> {
     ghost use Rattle.std.specs.Prelude.{replicate};
     ghost use Rattle.std.proofs.lemmas.List.{length-replicate};
     ghost use Rattle.p3_bench_packed.specs.Values.{value_of};
 
-    ghost inhabitant = { value_of (replicate N F.inhabitant) (length-replicate N F.inhabitant) };
+    ghost inhabitant = { value_of (replicate N (ops W.Form).zero) (length-replicate N (ops W.Form).zero) };
 }
 
-/// A packing of values of F.
-impl<F: Copy, const N: usize> Packing for Packed<F, N> {
-    type Scalar = F;
-}
-
-/// A field whose values stand in packings of N lanes.
-pub trait Lanes<const N: usize>: Field + Packable + WideProducts {
-    /// There is at least one lane.
-    ghost some_lane: { 0 < N };
-
-    /// The number of lanes is a `usize`.
-    ghost counted: { N < 2 ^ 64 };
+/// A packing of residues.
+impl<W: Form<T>, T: Word, const N: usize> Packing for Packed<Fp<W, T>, N> {
+    type Scalar = Fp<W, T>;
 }
 
 /// A packing has a place for each lane, and at least one.
-impl<F: Lanes<N>, const N: usize> HoldsScalar<F> for Packed<F, N> {
+impl<W: Form<T> + LaneCount<N>, T: Word, const N: usize> HoldsScalar<Fp<W, T>>
+    for Packed<Fp<W, T>, N> {
     ghost use Rattle.p3_bench_packed.specs.Sizes.{packing_holds};
 
-    ghost holds = { packing_holds F.row N.row F.some_lane F.counted };
+    ghost holds = { packing_holds _ N.row W.some_lane W.counted };
 }
 
-/// A field whose values stand in packings of N lanes, a power of two.
-pub trait LanesPow2<const N: usize>: Lanes<N> {
-    /// The number of lanes is a power of two.
-    ghost power_of_two: { (k : ℕ) × (N ≡ 2 ^ k) };
-}
-
-impl<F: Lanes<N>, const N: usize> PackedRing<F> for Packed<F, N> {
+impl<W: Form<T> + LaneCount<N>, T: Word, const N: usize> PackedRing<Fp<W, T>>
+    for Packed<Fp<W, T>, N> {
     ghost use Rattle.p3_theory.specs.Lanes.RowRing.{items_keep, items-constant};
     ghost use Rattle.p3_bench_packed.specs.Values.{packed_rows, same_value};
 
-    ghost some_lane = { F.some_lane };
+    ghost some_lane = { W.some_lane };
 
     ghost lengths = { λ x. x.sized };
 
     ghost same = { same_value };
 
-    ghost keeps = { items_keep packed_rows F.ops };
+    ghost keeps = { items_keep packed_rows (ops W.Form) };
 
-    ghost injects = { items-constant packed_rows F.ops };
+    ghost injects = { items-constant packed_rows (ops W.Form) };
 }
 
-impl<F: Lanes<N>, const N: usize> PackedField<F> for Packed<F, N> {
+impl<W: Form<T> + LaneCount<N>, T: Word, const N: usize> PackedField<Fp<W, T>>
+    for Packed<Fp<W, T>, N> {
     ghost use Rattle.p3_theory.specs.Lanes.RowRing.{unit_at_item, written_quotient, written_mixed_quotient};
     ghost use Rattle.p3_bench_packed.specs.Values.{packed_rows};
 
-    ghost can_divide = { λ x y h d k w. F.can_divide _ _ (unit_at_item packed_rows F.ops y h d k w) };
+    ghost can_divide = { λ x y h. unit_at_item packed_rows (ops W.Form) y h };
 
-    ghost divides = { λ x y r h. written_quotient packed_rows F.ops x y r (λ d k w. F.divides _ _ _ (h d k w)) };
+    ghost divides = { λ x y r h. written_quotient packed_rows (ops W.Form) x y r h };
 
-    ghost can_divide_assign = { λ x y h d k w. F.can_divide _ _ (unit_at_item packed_rows F.ops y h d k w) };
+    ghost can_divide_assign = { λ x y h. unit_at_item packed_rows (ops W.Form) y h };
 
-    ghost divide_assigns = { λ x y r h. written_quotient packed_rows F.ops x y r (λ d k w. F.divides _ _ _ (h d k w)) };
+    ghost divide_assigns = { λ x y r h. written_quotient packed_rows (ops W.Form) x y r h };
 
-    ghost can_divide_scalar = { λ x f h d k w. F.can_divide _ _ h };
+    ghost can_divide_scalar = { λ x f h. h };
 
-    ghost divides_scalar = { λ x f r h. written_mixed_quotient packed_rows F.ops x f r (λ d k w. F.divides _ _ _ (h d k w)) };
+    ghost divides_scalar = { λ x f r h. written_mixed_quotient packed_rows (ops W.Form) x f r h };
 
-    ghost can_divide_assign_scalar = { λ x f h d k w. F.can_divide _ _ h };
+    ghost can_divide_assign_scalar = { λ x f h. h };
 
-    ghost divide_assigns_scalar = { λ x f r h. written_mixed_quotient packed_rows F.ops x f r (λ d k w. F.divides _ _ _ (h d k w)) };
+    ghost divide_assigns_scalar = { λ x f r h. written_mixed_quotient packed_rows (ops W.Form) x f r h };
 }
 
-impl<F: LanesPow2<N>, const N: usize> PackedFieldPow2<F> for Packed<F, N> {
+impl<W: Form<T> + LaneCountPow2<N>, T: Word, const N: usize> PackedFieldPow2<Fp<W, T>>
+    for Packed<Fp<W, T>, N> {
     #[inline]
     fn interleave(&self, other: Self, block_len: usize) -> (Self, Self) {
-        if block_len == N {
-            return (*self, other);
-        }
-        let mut first = self.value;
-        let mut second = other.value;
-        for i in 0..N {
-            if (i / block_len) % 2 == 0 {
-                first[i] = self.value[i];
-                second[i] = self.value[i + block_len];
-            } else {
-                first[i] = other.value[i - block_len];
-                second[i] = other.value[i];
-            }
-        }
-        (Self::new(first), Self::new(second))
+        interleave_lanes(self, other, block_len)
     }
 }
 
@@ -162,16 +137,6 @@ pub trait LaneCount<const N: usize> {
 pub trait LaneCountPow2<const N: usize>: LaneCount<N> {
     /// The number of lanes is a power of two.
     ghost power_of_two: { (k : ℕ) × (N ≡ 2 ^ k) };
-}
-
-impl<W: Form<T> + LaneCount<N>, T: Word, const N: usize> Lanes<N> for Fp<W, T> {
-    ghost some_lane = { W.some_lane };
-
-    ghost counted = { W.counted };
-}
-
-impl<W: Form<T> + LaneCountPow2<N>, T: Word, const N: usize> LanesPow2<N> for Fp<W, T> {
-    ghost power_of_two = { W.power_of_two };
 }
 
 impl<W> LaneCount<1> for W {

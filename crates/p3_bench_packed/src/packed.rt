@@ -1,5 +1,7 @@
 ghost use Rattle.std.specs.Prelude.{◌≡◌, ℕ, length, replicate};
 
+use p3_bench_prime::form::{Form, Word};
+use p3_bench_prime::fp::Fp;
 use std::alloc::AllocError;
 use std::fmt;
 
@@ -35,12 +37,12 @@ impl<F: Copy, const N: usize> Packed<F, N> {
     }
 }
 
-impl<F: Copy, const N: usize> From<F> for Packed<F, N> {
+impl<W: Form<T>, T: Word, const N: usize> From<Fp<W, T>> for Packed<Fp<W, T>, N> {
     ghost from_gives = { λ f r. r.value ≡ replicate N f };
 
     /// The value in all lanes.
     #[inline]
-    fn from(value: F) -> Self {
+    fn from(value: Fp<W, T>) -> Self {
         Self::new([value; N])
     }
 }

@@ -2,19 +2,20 @@
 ghost use Rattle.std.specs.Prelude.{◌≡◌};
 
 use crate::dot_products::packed_dot_product;
+use crate::lane_loops::halve_lanes;
 use crate::packed::Packed;
-use crate::wide_products::WideProducts;
+use p3_bench_prime::form::{Form, Word};
+use p3_bench_prime::fp::Fp;
 use p3_packings::scalar_sums::ScalarSums;
 use p3_ring::accumulate::{product_from, sum_from};
 use p3_ring::ring::{Algebra, PrimeCharacteristicRing, RingSums};
 use std::iter::{Product, Sum};
 
-impl<F: PrimeCharacteristicRing + WideProducts, const N: usize> Sum<Packed<F, N>> for Packed<F, N> {
+impl<W: Form<T>, T: Word, const N: usize> Sum<Packed<Fp<W, T>, N>> for Packed<Fp<W, T>, N> {
     ghost use Rattle.p3_theory.specs.Rings.Operators.{sum_list};
-    ghost use Rattle.p3_theory.specs.Lanes.RowRing.{row_ops};
-    ghost use Rattle.p3_bench_packed.specs.Values.{packed_rows};
+    ghost use Rattle.p3_bench_packed.specs.PackedResidues.{packed_ops};
 
-    ghost sum_gives = { λ xs r. r ≡ sum_list (row_ops packed_rows F.ops) xs };
+    ghost sum_gives = { λ xs r. r ≡ sum_list (packed_ops W.Form) xs };
 
     #[inline]
     fn sum<I: Iterator<Item = Self>>(iter: I) -> Self {
@@ -23,13 +24,12 @@ impl<F: PrimeCharacteristicRing + WideProducts, const N: usize> Sum<Packed<F, N>
     }
 }
 
-impl<F: PrimeCharacteristicRing + WideProducts, const N: usize> Product<Packed<F, N>>
-    for Packed<F, N> {
+impl<W: Form<T>, T: Word, const N: usize> Product<Packed<Fp<W, T>, N>>
+    for Packed<Fp<W, T>, N> {
     ghost use Rattle.p3_theory.specs.Rings.Operators.{product_list};
-    ghost use Rattle.p3_theory.specs.Lanes.RowRing.{row_ops};
-    ghost use Rattle.p3_bench_packed.specs.Values.{packed_rows};
+    ghost use Rattle.p3_bench_packed.specs.PackedResidues.{packed_ops};
 
-    ghost product_gives = { λ xs r. r ≡ product_list (row_ops packed_rows F.ops) xs };
+    ghost product_gives = { λ xs r. r ≡ product_list (packed_ops W.Form) xs };
 
     #[inline]
     fn product<I: Iterator<Item = Self>>(iter: I) -> Self {
@@ -38,70 +38,69 @@ impl<F: PrimeCharacteristicRing + WideProducts, const N: usize> Product<Packed<F
     }
 }
 
-impl<F: PrimeCharacteristicRing + WideProducts, const N: usize> Sum<F> for Packed<F, N> {
+impl<W: Form<T>, T: Word, const N: usize> Sum<Fp<W, T>> for Packed<Fp<W, T>, N> {
     ghost use Rattle.p3_theory.specs.Rings.Operators.{sum_list};
-    ghost use Rattle.p3_theory.specs.Lanes.RowRing.{constant};
-    ghost use Rattle.p3_bench_packed.specs.Values.{packed_rows};
+    ghost use Rattle.p3_bench_prime.specs.Elements.{ops};
+    ghost use Rattle.p3_bench_packed.specs.PackedResidues.{in_all_lanes};
 
-    ghost sum_gives = { λ xs r. r ≡ constant packed_rows F.ops (sum_list F.ops xs) };
+    ghost sum_gives = { λ xs r. r ≡ in_all_lanes W.Form (sum_list (ops W.Form) xs) };
 
     /// The sum of the items in all lanes.
     #[inline]
-    fn sum<I: Iterator<Item = F>>(iter: I) -> Self {
-        let total = sum_from(F::zero(), iter);
+    fn sum<I: Iterator<Item = Fp<W, T>>>(iter: I) -> Self {
+        let total = sum_from(Fp::<W, T>::zero(), iter);
         Self::from(total)
     }
 }
 
-impl<F: PrimeCharacteristicRing + WideProducts, const N: usize> Product<F> for Packed<F, N> {
+impl<W: Form<T>, T: Word, const N: usize> Product<Fp<W, T>> for Packed<Fp<W, T>, N> {
     ghost use Rattle.p3_theory.specs.Rings.Operators.{product_list};
-    ghost use Rattle.p3_theory.specs.Lanes.RowRing.{constant};
-    ghost use Rattle.p3_bench_packed.specs.Values.{packed_rows};
+    ghost use Rattle.p3_bench_prime.specs.Elements.{ops};
+    ghost use Rattle.p3_bench_packed.specs.PackedResidues.{in_all_lanes};
 
-    ghost product_gives = { λ xs r. r ≡ constant packed_rows F.ops (product_list F.ops xs) };
+    ghost product_gives = { λ xs r. r ≡ in_all_lanes W.Form (product_list (ops W.Form) xs) };
 
     /// The product of the items in all lanes.
     #[inline]
-    fn product<I: Iterator<Item = F>>(iter: I) -> Self {
-        let product = product_from(F::one(), iter);
+    fn product<I: Iterator<Item = Fp<W, T>>>(iter: I) -> Self {
+        let product = product_from(Fp::<W, T>::one(), iter);
         Self::from(product)
     }
 }
 
-impl<F: PrimeCharacteristicRing + WideProducts, const N: usize> PrimeCharacteristicRing
-    for Packed<F, N> {
-    ghost use Rattle.p3_theory.specs.Lanes.RowRing.{row_ops, row_laws, row_characteristic, written_sum, written_product, written_negation, written_difference};
+impl<W: Form<T>, T: Word, const N: usize> PrimeCharacteristicRing
+    for Packed<Fp<W, T>, N> {
+    ghost use Rattle.p3_theory.specs.ResidueRings.Residues.{residue_laws};
+    ghost use Rattle.p3_theory.specs.Lanes.RowRing.{row_laws, row_characteristic};
+    ghost use Rattle.p3_bench_residues.specs.ResidueMultiples.{of_nat-order};
+    ghost use Rattle.p3_bench_prime.specs.Elements.{ops, is};
     ghost use Rattle.p3_bench_packed.specs.Values.{packed_rows};
+    ghost use Rattle.p3_bench_packed.specs.PackedResidues.{packed_ops, sum_of_lanes, difference_of_lanes, negation_of_lanes, product_of_lanes};
 
-    type PrimeSubfield = F::PrimeSubfield;
+    type PrimeSubfield = Fp<W, T>;
 
-    ghost ops = { row_ops packed_rows F.ops };
+    ghost ops = { packed_ops W.Form };
 
     #[inline]
     fn zero() -> Self {
-        let zero = F::zero();
+        let zero = Fp::<W, T>::zero();
         Self::new([zero; N])
     }
 
     #[inline]
     fn one() -> Self {
-        let one = F::one();
+        let one = Fp::<W, T>::one();
         Self::new([one; N])
     }
 
     #[inline]
-    fn from_prime_subfield(f: F::PrimeSubfield) -> Self {
-        let value = F::from_prime_subfield(f);
-        Self::new([value; N])
+    fn from_prime_subfield(f: Fp<W, T>) -> Self {
+        Self::new([f; N])
     }
 
     #[inline]
     fn halve(&self) -> Self {
-        let mut value = self.value;
-        for i in 0..N {
-            value[i] = self.value[i].halve();
-        }
-        Self::new(value)
+        halve_lanes(self)
     }
 
     #[inline(always)]
@@ -109,38 +108,40 @@ impl<F: PrimeCharacteristicRing + WideProducts, const N: usize> PrimeCharacteris
         packed_dot_product(u, v)
     }
 
-    ghost ring = { row_laws packed_rows F.ops F.ring };
+    ghost ring = { row_laws packed_rows (ops W.Form) (residue_laws (is W.Form)) };
 
-    ghost characteristic = { row_characteristic packed_rows F.ops F.PrimeSubfield.order F.characteristic };
+    ghost characteristic = { row_characteristic packed_rows (ops W.Form) W.ORDER (of_nat-order (is W.Form)) };
 
-    ghost adds = { record { called = λ _ _ _ _ _. F.adds.called _ _; answer = λ x y r h. written_sum packed_rows F.ops x y r (λ d k w. F.adds.answer _ _ _ (h d k w)) } };
+    ghost adds = { record { called = λ _ _. tt; answer = sum_of_lanes W.Form } };
 
-    ghost add_assigns = { record { called = λ _ _ _ _ _. F.adds.called _ _; answer = λ x y r h. written_sum packed_rows F.ops x y r (λ d k w. F.adds.answer _ _ _ (h d k w)) } };
+    ghost add_assigns = { record { called = λ _ _. tt; answer = sum_of_lanes W.Form } };
 
-    ghost subs = { record { called = λ _ _ _ _ _. F.subs.called _ _; answer = λ x y r h. written_difference packed_rows F.ops x y r (λ d k w. F.subs.answer _ _ _ (h d k w)) } };
+    ghost subs = { record { called = λ _ _. tt; answer = difference_of_lanes W.Form } };
 
-    ghost sub_assigns = { record { called = λ _ _ _ _ _. F.subs.called _ _; answer = λ x y r h. written_difference packed_rows F.ops x y r (λ d k w. F.subs.answer _ _ _ (h d k w)) } };
+    ghost sub_assigns = { record { called = λ _ _. tt; answer = difference_of_lanes W.Form } };
 
-    ghost negs = { record { called = λ _ _ _ _. F.negs.called _; answer = λ x r h. written_negation packed_rows F.ops x r (λ d k w. F.negs.answer _ _ (h d k w)) } };
+    ghost negs = { record { called = λ _. tt; answer = negation_of_lanes W.Form } };
 
-    ghost muls = { record { called = λ _ _ _ _ _. F.muls.called _ _; answer = λ x y r h. written_product packed_rows F.ops x y r (λ d k w. F.muls.answer _ _ _ (h d k w)) } };
+    ghost muls = { record { called = λ _ _. tt; answer = product_of_lanes W.Form } };
 
-    ghost mul_assigns = { record { called = λ _ _ _ _ _. F.muls.called _ _; answer = λ x y r h. written_product packed_rows F.ops x y r (λ d k w. F.muls.answer _ _ _ (h d k w)) } };
+    ghost mul_assigns = { record { called = λ _ _. tt; answer = product_of_lanes W.Form } };
 }
 
-impl<F: PrimeCharacteristicRing + WideProducts, const N: usize> RingSums for Packed<F, N> {
+impl<W: Form<T>, T: Word, const N: usize> RingSums for Packed<Fp<W, T>, N> {
     ghost sums = { record { called = λ _. tt; answer = λ _ _ h. h; whole = λ _. tt } };
 
     ghost products = { record { called = λ _. tt; answer = λ _ _ h. h; whole = λ _. tt } };
 }
 
-impl<F: PrimeCharacteristicRing + WideProducts, const N: usize> Algebra<F> for Packed<F, N> {
+impl<W: Form<T>, T: Word, const N: usize> Algebra<Fp<W, T>> for Packed<Fp<W, T>, N> {
     ghost use Rattle.std.specs.Prelude.{refl};
     ghost use Rattle.std.proofs.Common.{lit<};
-    ghost use Rattle.p3_theory.specs.Lanes.RowRing.{constant, constants_keep, written_constant, written_mixed_sum, written_mixed_difference, written_mixed_product};
+    ghost use Rattle.p3_theory.specs.Lanes.RowRing.{constants_keep, written_constant};
+    ghost use Rattle.p3_bench_prime.specs.Elements.{ops};
     ghost use Rattle.p3_bench_packed.specs.Values.{packed_rows};
+    ghost use Rattle.p3_bench_packed.specs.PackedResidues.{in_all_lanes, mixed_sum_of_lanes, mixed_difference_of_lanes, mixed_product_of_lanes};
 
-    ghost embed = { constant packed_rows F.ops };
+    ghost embed = { in_all_lanes W.Form };
 
     const BATCHED_LC_CHUNK: usize = 8;
 
@@ -148,25 +149,25 @@ impl<F: PrimeCharacteristicRing + WideProducts, const N: usize> Algebra<F> for P
 
     ghost chunk_length = { (3, lit< tt, refl) };
 
-    ghost embeds = { constants_keep packed_rows F.ops };
+    ghost embeds = { constants_keep packed_rows (ops W.Form) };
 
-    ghost froms = { λ f r h. written_constant packed_rows F.ops r f h };
+    ghost froms = { λ f r h. written_constant packed_rows (ops W.Form) r f h };
 
-    ghost mixed_adds = { record { called = λ _ _ _ _ _. F.adds.called _ _; answer = λ x f r h. written_mixed_sum packed_rows F.ops x f r (λ d k w. F.adds.answer _ _ _ (h d k w)) } };
+    ghost mixed_adds = { record { called = λ _ _. tt; answer = mixed_sum_of_lanes W.Form } };
 
-    ghost mixed_add_assigns = { record { called = λ _ _ _ _ _. F.adds.called _ _; answer = λ x f r h. written_mixed_sum packed_rows F.ops x f r (λ d k w. F.adds.answer _ _ _ (h d k w)) } };
+    ghost mixed_add_assigns = { record { called = λ _ _. tt; answer = mixed_sum_of_lanes W.Form } };
 
-    ghost mixed_subs = { record { called = λ _ _ _ _ _. F.subs.called _ _; answer = λ x f r h. written_mixed_difference packed_rows F.ops x f r (λ d k w. F.subs.answer _ _ _ (h d k w)) } };
+    ghost mixed_subs = { record { called = λ _ _. tt; answer = mixed_difference_of_lanes W.Form } };
 
-    ghost mixed_sub_assigns = { record { called = λ _ _ _ _ _. F.subs.called _ _; answer = λ x f r h. written_mixed_difference packed_rows F.ops x f r (λ d k w. F.subs.answer _ _ _ (h d k w)) } };
+    ghost mixed_sub_assigns = { record { called = λ _ _. tt; answer = mixed_difference_of_lanes W.Form } };
 
-    ghost mixed_muls = { record { called = λ _ _ _ _ _. F.muls.called _ _; answer = λ x f r h. written_mixed_product packed_rows F.ops x f r (λ d k w. F.muls.answer _ _ _ (h d k w)) } };
+    ghost mixed_muls = { record { called = λ _ _. tt; answer = mixed_product_of_lanes W.Form } };
 
-    ghost mixed_mul_assigns = { record { called = λ _ _ _ _ _. F.muls.called _ _; answer = λ x f r h. written_mixed_product packed_rows F.ops x f r (λ d k w. F.muls.answer _ _ _ (h d k w)) } };
+    ghost mixed_mul_assigns = { record { called = λ _ _. tt; answer = mixed_product_of_lanes W.Form } };
 }
 
 /// The sum and the product of values, in all lanes.
-impl<F: PrimeCharacteristicRing + WideProducts, const N: usize> ScalarSums<F> for Packed<F, N> {
+impl<W: Form<T>, T: Word, const N: usize> ScalarSums<Fp<W, T>> for Packed<Fp<W, T>, N> {
     ghost scalar_sums = { record { called = λ _. tt; answer = λ _ _ h. h; whole = λ _. tt } };
 
     ghost scalar_products = { record { called = λ _. tt; answer = λ _ _ h. h; whole = λ _. tt } };

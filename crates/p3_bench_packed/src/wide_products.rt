@@ -6,7 +6,7 @@ use p3_bench_prime::fp::Fp;
 /// A type whose values are words. Where a product of two words takes more than 32 bits, the compiler finds
 /// vectors too dear if a factor is one value in all lanes, or if one packing stands in several dot products
 /// of a function; in functions of their own it takes such products in vectors. This project's own.
-pub trait WideProducts {
+pub(crate) trait WideProducts {
     /// Whether a product of two words takes more than 32 bits.
     const WIDE: bool;
 }

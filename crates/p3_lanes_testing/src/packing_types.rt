@@ -8,7 +8,7 @@ use crate::power_lists::ExtensionPowers;
 use crate::rows::Row;
 use crate::vector_calls::Vectors;
 use crate::vector_tables::VECTORS;
-use p3_bench_packed::lanes::{Lanes, LanesPow2};
+use p3_bench_packed::lanes::{LaneCount, LaneCountPow2};
 use p3_bench_packed::packed::Packed;
 use p3_bench_prime::baby_bear::BabyBearModulus;
 use p3_bench_prime::form::{Form, Plain};
@@ -21,9 +21,9 @@ use std::alloc::{AllocError, Global};
 use std::process::Abort;
 use std::test::Fail;
 
-/// The calls of rows on packings of this type and on vectors of them, implemented once for all fields and
-/// all numbers of lanes that are a power of two: a call at a packing's own name passes that its field has
-/// so many lanes, and not what the packing has by that.
+/// The calls of rows on packings of this type and on vectors of them, implemented once for all fields in words
+/// of one type and all numbers of lanes that are a power of two: a call at a packing's own name passes the
+/// form of its words, and not what the packing has by that.
 trait LaneCalls: Copy {
     /// The types that calls on packings make values of. Of an associated type it is known that its values
     /// have room.
@@ -41,18 +41,33 @@ trait LaneCalls: Copy {
     ) -> Result<Option<bool>, AllocError>;
 }
 
-impl<F: LanesPow2<N>, const N: usize> LaneCalls for Packed<F, N> {
-    type Rooms = Rooms<F, Packed<F, N>>;
+impl<W: Form<u32> + LaneCountPow2<N>, const N: usize> LaneCalls for Packed<Fp<W>, N> {
+    type Rooms = Rooms<Fp<W>, Packed<Fp<W>, N>>;
 
-    type Vectors = Vectors<F, Packed<F, N>>;
+    type Vectors = Vectors<Fp<W>, Packed<Fp<W>, N>>;
 
     fn agrees(
         alloc: Global,
-        rooms: Option<Rooms<F, Packed<F, N>>>,
-        vectors: Option<Vectors<F, Packed<F, N>>>,
+        rooms: Option<Rooms<Fp<W>, Packed<Fp<W>, N>>>,
+        vectors: Option<Vectors<Fp<W>, Packed<Fp<W>, N>>>,
         row: Row<'_>,
     ) -> Result<Option<bool>, AllocError> {
-        any_agrees::<F, Packed<F, N>>(alloc, rooms, vectors, row)
+        any_agrees::<Fp<W>, Packed<Fp<W>, N>>(alloc, rooms, vectors, row)
+    }
+}
+
+impl<W: Form<u64> + LaneCountPow2<N>, const N: usize> LaneCalls for Packed<Fp<W, u64>, N> {
+    type Rooms = Rooms<Fp<W, u64>, Packed<Fp<W, u64>, N>>;
+
+    type Vectors = Vectors<Fp<W, u64>, Packed<Fp<W, u64>, N>>;
+
+    fn agrees(
+        alloc: Global,
+        rooms: Option<Rooms<Fp<W, u64>, Packed<Fp<W, u64>, N>>>,
+        vectors: Option<Vectors<Fp<W, u64>, Packed<Fp<W, u64>, N>>>,
+        row: Row<'_>,
+    ) -> Result<Option<bool>, AllocError> {
+        any_agrees::<Fp<W, u64>, Packed<Fp<W, u64>, N>>(alloc, rooms, vectors, row)
     }
 }
 
@@ -69,15 +84,15 @@ trait AnyLaneCalls: Copy {
     ) -> Result<Option<bool>, AllocError>;
 }
 
-impl<F: Lanes<N>, const N: usize> AnyLaneCalls for Packed<F, N> {
-    type AnyRooms = Rooms<F, Packed<F, N>>;
+impl<W: Form<u32> + LaneCount<N>, const N: usize> AnyLaneCalls for Packed<Fp<W>, N> {
+    type AnyRooms = Rooms<Fp<W>, Packed<Fp<W>, N>>;
 
     fn any_lanes_agree(
         alloc: Global,
-        rooms: Option<Rooms<F, Packed<F, N>>>,
+        rooms: Option<Rooms<Fp<W>, Packed<Fp<W>, N>>>,
         row: Row<'_>,
     ) -> Result<Option<bool>, AllocError> {
-        row_agrees::<F, Packed<F, N>>(alloc, rooms, row)
+        row_agrees::<Fp<W>, Packed<Fp<W>, N>>(alloc, rooms, row)
     }
 }
 

@@ -1,12 +1,12 @@
 //! The calls of the tables over the extensions of the bench. The functions that choose the number of lanes
 //! are generic over the marker of a field: a test then passes the field's constants alone.
 use crate::column_calls::Rooms;
-use crate::extension_calls::{BaseCalls, ExtensionCalls, ExtensionRooms};
+use crate::extension_calls::{BaseCalls, ExtensionRooms, PackedCalls};
 use crate::rows::Row;
 use crate::{
     call_tables as tables, columnwise_tables as columnwise, operation_tables as operations,
 };
-use p3_bench_packed::lanes::{LaneCount, Lanes};
+use p3_bench_packed::lanes::LaneCount;
 use p3_bench_packed::packed::Packed;
 use p3_bench_prime::baby_bear::BabyBearModulus;
 use p3_bench_prime::binomial_constants::BinomialConstants;
@@ -29,9 +29,9 @@ where
     W::Modulus: BinomialConstants<2>,
 {
     match row.lanes {
-        "1" => <Fp<W> as ExtensionCalls<Binomial<Fp<W>>, 2, 1>>::extension_agrees(alloc, None, row),
-        "4" => <Fp<W> as ExtensionCalls<Binomial<Fp<W>>, 2, 4>>::extension_agrees(alloc, None, row),
-        "8" => <Fp<W> as ExtensionCalls<Binomial<Fp<W>>, 2, 8>>::extension_agrees(alloc, None, row),
+        "1" => <Packed<Fp<W>, 1> as PackedCalls<Fp<W>, Binomial<Fp<W>>, 2>>::agrees(alloc, None, row),
+        "4" => <Packed<Fp<W>, 4> as PackedCalls<Fp<W>, Binomial<Fp<W>>, 2>>::agrees(alloc, None, row),
+        "8" => <Packed<Fp<W>, 8> as PackedCalls<Fp<W>, Binomial<Fp<W>>, 2>>::agrees(alloc, None, row),
         _ => Ok(None),
     }
 }
@@ -45,9 +45,9 @@ where
     W::Modulus: BinomialConstants<4>,
 {
     match row.lanes {
-        "1" => <Fp<W> as ExtensionCalls<Binomial<Fp<W>>, 4, 1>>::extension_agrees(alloc, None, row),
-        "4" => <Fp<W> as ExtensionCalls<Binomial<Fp<W>>, 4, 4>>::extension_agrees(alloc, None, row),
-        "8" => <Fp<W> as ExtensionCalls<Binomial<Fp<W>>, 4, 8>>::extension_agrees(alloc, None, row),
+        "1" => <Packed<Fp<W>, 1> as PackedCalls<Fp<W>, Binomial<Fp<W>>, 4>>::agrees(alloc, None, row),
+        "4" => <Packed<Fp<W>, 4> as PackedCalls<Fp<W>, Binomial<Fp<W>>, 4>>::agrees(alloc, None, row),
+        "8" => <Packed<Fp<W>, 8> as PackedCalls<Fp<W>, Binomial<Fp<W>>, 4>>::agrees(alloc, None, row),
         _ => Ok(None),
     }
 }
@@ -76,7 +76,7 @@ fn polynomial_agrees<
 where
     W::Modulus: PolynomialConstants<D, S>,
 {
-    <Fp<W> as ExtensionCalls<Modulo<S, D>, D, N>>::extension_agrees(alloc, rooms, row)
+    <Packed<Fp<W>, N> as PackedCalls<Fp<W>, Modulo<S, D>, D>>::agrees(alloc, rooms, row)
 }
 
 /// The same at 1, 4 or 8 lanes, by `X^3 = X + 1`.
@@ -123,21 +123,21 @@ where
 
 /// A row's call over packings of N values of a field itself, which is an extension of its own. That packings
 /// and what calls make values of are named tells that they have room; nothing is read of them.
-fn base_agrees<F: Lanes<N>, const N: usize>(
+fn base_agrees<W: Form<u32> + LaneCount<N>, const N: usize>(
     alloc: Global,
-    _packing: Option<Packed<F, N>>,
-    rooms: Option<Rooms<F, F, Packed<F, N>>>,
+    _packing: Option<Packed<Fp<W>, N>>,
+    rooms: Option<Rooms<Fp<W>, Fp<W>, Packed<Fp<W>, N>>>,
     row: Row<'_>,
 ) -> Result<Option<bool>, AllocError> {
-    <Packed<F, N> as BaseCalls<F>>::base_agrees(alloc, rooms, row)
+    <Packed<Fp<W>, N> as BaseCalls<Fp<W>>>::base_agrees(alloc, rooms, row)
 }
 
 /// The same at 1, 4 or 8 lanes.
 fn over_base<W: Form<u32>>(alloc: Global, row: Row<'_>) -> Result<Option<bool>, AllocError> {
     match row.lanes {
-        "1" => base_agrees::<Fp<W>, 1>(alloc, None, None, row),
-        "4" => base_agrees::<Fp<W>, 4>(alloc, None, None, row),
-        "8" => base_agrees::<Fp<W>, 8>(alloc, None, None, row),
+        "1" => base_agrees::<W, 1>(alloc, None, None, row),
+        "4" => base_agrees::<W, 4>(alloc, None, None, row),
+        "8" => base_agrees::<W, 8>(alloc, None, None, row),
         _ => Ok(None),
     }
 }

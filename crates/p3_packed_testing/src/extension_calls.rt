@@ -6,8 +6,6 @@ use crate::row_calls::row_agrees;
 use crate::rows::{Row, word};
 use p3_base::field::Field;
 use p3_base::packed_traits::{Inhabited, Packable, PackedField};
-use p3_bench_packed::lanes::Lanes;
-use p3_bench_packed::packed::Packed;
 use p3_ext::extension::{ExtField, ExtensionOverAlgebra, ExtensionShape, FrobeniusExtendable};
 use p3_packed::holds_scalar::HoldsScalar;
 use p3_packed::packed_ext_field::{PackedExtField, Packing};
@@ -72,37 +70,6 @@ impl<
             "sum" | "product" => extension_total_agrees::<F, S, P, D>(alloc, rooms, row),
             _ => extension_row_agrees::<F, S, P, D>(alloc, rooms, row),
         }
-    }
-}
-
-/// Calls on packings of N values of an extension of this field, implemented once for all fields: a call at
-/// a field's own name passes the field's traits, and not what its packings have by them.
-pub(crate) trait ExtensionCalls<S: ExtensionShape, const D: usize, const N: usize>: Copy {
-    /// The types that calls make values of.
-    type ExtensionRooms: Drop;
-
-    /// `PackedCalls::agrees` over packings of N lanes. Nothing is read of `rooms`.
-    fn extension_agrees(
-        alloc: Global,
-        rooms: Option<Self::ExtensionRooms>,
-        row: Row<'_>,
-    ) -> Result<Option<bool>, AllocError>;
-}
-
-impl<
-    F: FrobeniusExtendable<D, S> + ExtensionOverAlgebra<Packed<F, N>, D, S> + Lanes<N>,
-    S: ExtensionShape,
-    const D: usize,
-    const N: usize,
-> ExtensionCalls<S, D, N> for F {
-    type ExtensionRooms = ExtensionRooms<F, S, Packed<F, N>, D>;
-
-    fn extension_agrees(
-        alloc: Global,
-        rooms: Option<ExtensionRooms<F, S, Packed<F, N>, D>>,
-        row: Row<'_>,
-    ) -> Result<Option<bool>, AllocError> {
-        <Packed<F, N> as PackedCalls<F, S, D>>::agrees(alloc, rooms, row)
     }
 }
 

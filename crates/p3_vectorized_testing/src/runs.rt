@@ -3,7 +3,7 @@
 use crate::lane_run_tables as tables;
 use crate::lane_runs::{Vectors, counted_runs_agree};
 use p3_base::packed_traits::{Inhabited, Packable, PackedField};
-use p3_bench_packed::lanes::{LaneCount, Lanes};
+use p3_bench_packed::lanes::LaneCount;
 use p3_bench_packed::packed::Packed;
 use p3_bench_prime::baby_bear::BabyBearModulus;
 use p3_bench_prime::binomial_constants::BinomialConstants;
@@ -59,37 +59,6 @@ impl<
     }
 }
 
-/// Runs over vectors of packings of N values of an extension of this field, implemented once for all fields:
-/// a call at a field's own name passes the field's traits, and not what its packings have by them.
-trait ExtensionRuns<S: ExtensionShape, const D: usize, const N: usize>: Copy {
-    /// Vectors of one to three packings.
-    type RunVectors: Copy;
-
-    /// `PackedRuns::runs_agree` over packings of N lanes. Nothing is read of `vectors`.
-    fn extension_runs_agree(
-        alloc: Global,
-        vectors: Option<Self::RunVectors>,
-        row: Row<'_>,
-    ) -> Result<Option<bool>, AllocError>;
-}
-
-impl<
-    F: FrobeniusExtendable<D, S> + ExtensionOverAlgebra<Packed<F, N>, D, S> + Lanes<N>,
-    S: ExtensionShape,
-    const D: usize,
-    const N: usize,
-> ExtensionRuns<S, D, N> for F {
-    type RunVectors = Vectors<F, ExtField<F, D, S, F>, PackedExtField<F, D, S, Packed<F, N>>>;
-
-    fn extension_runs_agree(
-        alloc: Global,
-        vectors: Option<Vectors<F, ExtField<F, D, S, F>, PackedExtField<F, D, S, Packed<F, N>>>>,
-        row: Row<'_>,
-    ) -> Result<Option<bool>, AllocError> {
-        <Packed<F, N> as PackedRuns<F, S, D>>::runs_agree(alloc, vectors, row)
-    }
-}
-
 /// Vectors of packings of N values of the extension of degree D of the residues of a marker.
 type RunVectors<W, S, const D: usize, const N: usize> = Vectors<
     Fp<W>,
@@ -108,7 +77,7 @@ fn quadratic_run_agrees<W: OverModulus<u32> + LaneCount<N>, const N: usize>(
 where
     W::Modulus: BinomialConstants<2>,
 {
-    <Fp<W> as ExtensionRuns<Binomial<Fp<W>>, 2, N>>::extension_runs_agree(alloc, vectors, row)
+    <Packed<Fp<W>, N> as PackedRuns<Fp<W>, Binomial<Fp<W>>, 2>>::runs_agree(alloc, vectors, row)
 }
 
 /// The same of the extension by `X^4 = W`.
@@ -121,7 +90,7 @@ fn quartic_run_agrees<W: OverModulus<u32> + LaneCount<N>, const N: usize>(
 where
     W::Modulus: BinomialConstants<4>,
 {
-    <Fp<W> as ExtensionRuns<Binomial<Fp<W>>, 4, N>>::extension_runs_agree(alloc, vectors, row)
+    <Packed<Fp<W>, N> as PackedRuns<Fp<W>, Binomial<Fp<W>>, 4>>::runs_agree(alloc, vectors, row)
 }
 
 /// The same of the extension modulo a polynomial.
@@ -139,7 +108,7 @@ fn polynomial_run_agrees<
 where
     W::Modulus: PolynomialConstants<D, S>,
 {
-    <Fp<W> as ExtensionRuns<Modulo<S, D>, D, N>>::extension_runs_agree(alloc, vectors, row)
+    <Packed<Fp<W>, N> as PackedRuns<Fp<W>, Modulo<S, D>, D>>::runs_agree(alloc, vectors, row)
 }
 
 /// The runs at 4 and 8 lanes.

@@ -1,0 +1,10 @@
+//! Calls at packed extension values whose types are named, as a user writes them: operators, lanes, powers,
+//! and functions of a user's own that are generic over a ring or over lanes.
+#![tactic(auto)]
+
+#[cfg(test)]
+mod generic;
+#[cfg(test)]
+mod quadratic;
+#[cfg(test)]
+mod quartic;
