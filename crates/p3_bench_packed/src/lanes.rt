@@ -72,9 +72,10 @@ impl<W: Form<T>, T: Word, const N: usize> Packing for Packed<Fp<W, T>, N> {
 /// A packing has a place for each lane, and at least one.
 impl<W: Form<T> + LaneCount<N>, T: Word, const N: usize> HoldsScalar<Fp<W, T>>
     for Packed<Fp<W, T>, N> {
+    ghost use Rattle.p3_bench_prime.specs.contracts.fp.Fp.{the_row};
     ghost use Rattle.p3_bench_packed.specs.Sizes.{packing_holds};
 
-    ghost holds = { packing_holds _ N.row W.some_lane W.counted };
+    ghost holds = { packing_holds (the_row W.row T.row W.Form T.Word) N.row W.some_lane W.counted };
 }
 
 impl<W: Form<T> + LaneCount<N>, T: Word, const N: usize> PackedRing<Fp<W, T>>
