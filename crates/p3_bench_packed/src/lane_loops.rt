@@ -155,7 +155,9 @@ pub(crate) fn div_value<F: Copy + Div<Output = F>, const N: usize>(
 
 /// Half of each lane.
 #[inline]
-pub(crate) fn halve_lanes<F: PrimeCharacteristicRing, const N: usize>(x: &Packed<F, N>) -> Packed<F, N>
+pub(crate) fn halve_lanes<F: PrimeCharacteristicRing, const N: usize>(
+    x: &Packed<F, N>,
+) -> Packed<F, N>
     requires { Invertible (row_ops {n = N} packed_rows F.ops) (two (row_ops {n = N} packed_rows F.ops)) }
     ensures { (row_ops packed_rows F.ops).add result result ≡ x.now }
 {

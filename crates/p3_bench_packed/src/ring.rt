@@ -24,8 +24,7 @@ impl<W: Form<T>, T: Word, const N: usize> Sum<Packed<Fp<W, T>, N>> for Packed<Fp
     }
 }
 
-impl<W: Form<T>, T: Word, const N: usize> Product<Packed<Fp<W, T>, N>>
-    for Packed<Fp<W, T>, N> {
+impl<W: Form<T>, T: Word, const N: usize> Product<Packed<Fp<W, T>, N>> for Packed<Fp<W, T>, N> {
     ghost use Rattle.p3_theory.specs.Rings.Operators.{product_list};
     ghost use Rattle.p3_bench_packed.specs.PackedResidues.{packed_ops};
 
@@ -68,8 +67,7 @@ impl<W: Form<T>, T: Word, const N: usize> Product<Fp<W, T>> for Packed<Fp<W, T>,
     }
 }
 
-impl<W: Form<T>, T: Word, const N: usize> PrimeCharacteristicRing
-    for Packed<Fp<W, T>, N> {
+impl<W: Form<T>, T: Word, const N: usize> PrimeCharacteristicRing for Packed<Fp<W, T>, N> {
     ghost use Rattle.p3_theory.specs.ResidueRings.Residues.{residue_laws};
     ghost use Rattle.p3_theory.specs.Lanes.RowRing.{row_laws, row_characteristic};
     ghost use Rattle.p3_bench_residues.specs.ResidueMultiples.{of_nat-order};

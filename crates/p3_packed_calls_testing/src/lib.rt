@@ -5,6 +5,8 @@
 #[cfg(test)]
 mod generic;
 #[cfg(test)]
+mod own_field;
+#[cfg(test)]
 mod quadratic;
 #[cfg(test)]
 mod quartic;

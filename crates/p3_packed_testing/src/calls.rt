@@ -20,7 +20,8 @@ use std::alloc::{AllocError, Global};
 use std::process::Abort;
 use std::test::Fail;
 
-/// A row's call over packings of 1, 4 or 8 values of the extension by `X^2 = W`.
+/// A row's call over packings of 1, 4 or 8 values of the extension by `X^2 = W`. One value stands in the field
+/// itself, which is a packing of one lane.
 fn over_quadratic<W: OverModulus<u32>>(
     alloc: Global,
     row: Row<'_>,
@@ -29,9 +30,13 @@ where
     W::Modulus: BinomialConstants<2>,
 {
     match row.lanes {
-        "1" => <Packed<Fp<W>, 1> as PackedCalls<Fp<W>, Binomial<Fp<W>>, 2>>::agrees(alloc, None, row),
-        "4" => <Packed<Fp<W>, 4> as PackedCalls<Fp<W>, Binomial<Fp<W>>, 2>>::agrees(alloc, None, row),
-        "8" => <Packed<Fp<W>, 8> as PackedCalls<Fp<W>, Binomial<Fp<W>>, 2>>::agrees(alloc, None, row),
+        "1" => <Fp<W> as PackedCalls<Fp<W>, Binomial<Fp<W>>, 2>>::agrees(alloc, None, row),
+        "4" => <Packed<Fp<W>, 4> as PackedCalls<Fp<W>, Binomial<Fp<W>>, 2>>::agrees(
+            alloc, None, row,
+        ),
+        "8" => <Packed<Fp<W>, 8> as PackedCalls<Fp<W>, Binomial<Fp<W>>, 2>>::agrees(
+            alloc, None, row,
+        ),
         _ => Ok(None),
     }
 }
@@ -45,9 +50,13 @@ where
     W::Modulus: BinomialConstants<4>,
 {
     match row.lanes {
-        "1" => <Packed<Fp<W>, 1> as PackedCalls<Fp<W>, Binomial<Fp<W>>, 4>>::agrees(alloc, None, row),
-        "4" => <Packed<Fp<W>, 4> as PackedCalls<Fp<W>, Binomial<Fp<W>>, 4>>::agrees(alloc, None, row),
-        "8" => <Packed<Fp<W>, 8> as PackedCalls<Fp<W>, Binomial<Fp<W>>, 4>>::agrees(alloc, None, row),
+        "1" => <Fp<W> as PackedCalls<Fp<W>, Binomial<Fp<W>>, 4>>::agrees(alloc, None, row),
+        "4" => <Packed<Fp<W>, 4> as PackedCalls<Fp<W>, Binomial<Fp<W>>, 4>>::agrees(
+            alloc, None, row,
+        ),
+        "8" => <Packed<Fp<W>, 8> as PackedCalls<Fp<W>, Binomial<Fp<W>>, 4>>::agrees(
+            alloc, None, row,
+        ),
         _ => Ok(None),
     }
 }
@@ -85,7 +94,7 @@ where
     W::Modulus: PolynomialConstants<3, Cubic>,
 {
     match row.lanes {
-        "1" => polynomial_agrees::<W, Cubic, 3, 1>(alloc, None, None, row),
+        "1" => <Fp<W> as PackedCalls<Fp<W>, Modulo<Cubic, 3>, 3>>::agrees(alloc, None, row),
         "4" => polynomial_agrees::<W, Cubic, 3, 4>(alloc, None, None, row),
         "8" => polynomial_agrees::<W, Cubic, 3, 8>(alloc, None, None, row),
         _ => Ok(None),
@@ -101,7 +110,7 @@ where
     W::Modulus: PolynomialConstants<5, Quintic>,
 {
     match row.lanes {
-        "1" => polynomial_agrees::<W, Quintic, 5, 1>(alloc, None, None, row),
+        "1" => <Fp<W> as PackedCalls<Fp<W>, Modulo<Quintic, 5>, 5>>::agrees(alloc, None, row),
         "4" => polynomial_agrees::<W, Quintic, 5, 4>(alloc, None, None, row),
         "8" => polynomial_agrees::<W, Quintic, 5, 8>(alloc, None, None, row),
         _ => Ok(None),
@@ -114,7 +123,7 @@ where
     W::Modulus: PolynomialConstants<7, Septic>,
 {
     match row.lanes {
-        "1" => polynomial_agrees::<W, Septic, 7, 1>(alloc, None, None, row),
+        "1" => <Fp<W> as PackedCalls<Fp<W>, Modulo<Septic, 7>, 7>>::agrees(alloc, None, row),
         "4" => polynomial_agrees::<W, Septic, 7, 4>(alloc, None, None, row),
         "8" => polynomial_agrees::<W, Septic, 7, 8>(alloc, None, None, row),
         _ => Ok(None),
@@ -135,7 +144,7 @@ fn base_agrees<W: Form<u32> + LaneCount<N>, const N: usize>(
 /// The same at 1, 4 or 8 lanes.
 fn over_base<W: Form<u32>>(alloc: Global, row: Row<'_>) -> Result<Option<bool>, AllocError> {
     match row.lanes {
-        "1" => base_agrees::<W, 1>(alloc, None, None, row),
+        "1" => <Fp<W> as BaseCalls<Fp<W>>>::base_agrees(alloc, None, row),
         "4" => base_agrees::<W, 4>(alloc, None, None, row),
         "8" => base_agrees::<W, 8>(alloc, None, None, row),
         _ => Ok(None),
