@@ -1,15 +1,26 @@
 //! Laws of the definitions that the contracts cite.
 
-ghost use Rattle.std.specs.Prelude.{ℕ, List, Option, false, IfSome};
+ghost use Rattle.std.specs.Prelude.{◌≡◌, ◌*◌, ◌%◌, ◌^◌, ℕ, List, Option, false, IfSome};
 ghost use Rattle.std.specs.Io.KnownBytes.{Consumes, IsAtEnd};
 ghost use Rattle.p3_field_bench.specs.Lines.{lines_of};
 ghost use Rattle.p3_field_bench.specs.Text.{RunEnds, IsText};
 ghost use Rattle.p3_calculator_fields.specs.States.{no_field};
 ghost use Rattle.p3_field_bench.specs.SameTexts.{TakeNoRoots, AreOneFrom};
 
+use p3_base::field::PrimeField32;
+use p3_bench_prime::baby_bear::BabyBear;
+use p3_integers::integers::Quotient;
+
 pub use p3_calculator_fields::laws::{
     domain_f17, domain_f31, premise_f2, premise_f17, premise_f17x2, premise_f31, premise_f31c,
 };
+
+/// BabyBear stands in Montgomery's form: the stored word is the canonical value times 2^32 modulo the order.
+pub fn baby_bear_is_in_montgomery_form(x: BabyBear)
+    ensures { ⟦<BabyBear as PrimeField32>⟧.unique_u32 x ≡ (⟦<BabyBear as Quotient>⟧.canon x * 2 ^ 32) % 2013265921 }
+{
+    let _ = x;
+}
 
 /// The texts of the calculator are defined for every input.
 pub fn every_input_has_a_text()

@@ -141,6 +141,8 @@ impl<
 
     type Base = P;
 
+    ghost base_injects = { λ p. refl };
+
     ghost width = { refl };
 
     ghost dimension = { refl };

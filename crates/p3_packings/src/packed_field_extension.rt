@@ -3,6 +3,7 @@ ghost use Rattle.std.specs.Int.{div_ceil};
 ghost use Rattle.std.specs.List.{flat_map};
 ghost use Rattle.std.specs.Iterator.{count_map};
 ghost use Rattle.p3_theory.specs.Lanes.Lanes.{lane};
+ghost use Rattle.p3_theory.specs.Polynomials.Polynomial.{embed};
 ghost use Rattle.p3_ring.specs.BoundedSequence.{terms};
 ghost use Rattle.p3_ring.specs.PackedPowers.{PacksTerms};
 ghost use Rattle.p3_packings.specs.CappedPowers.{PacksPowers};
@@ -28,6 +29,9 @@ pub trait PackedFieldExtension<F: Field, EF: ExtensionField<F>>: PackedExtension
     + BasedVectorSpace<Self::Base> {
     /// The packing of the coefficients. It stands for upstream's `F::Packing`.
     type Base: PackedField<F>;
+
+    /// A packing of field values as a value has the coefficients p, 0, .., 0.
+    ghost base_injects: { (p : Self.Base) → ⟦<Self as BasedVectorSpace<Self::Base>>⟧.coefficients (⟦<Self as Algebra<Self::Base>>⟧.embed p) ≡ embed Self.Base.ops ⟦<Self as BasedVectorSpace<Self::Base>>⟧.DIMENSION p };
 
     /// Each value has as many lanes as the packing.
     ghost width: { Self.LANES ≡ Self.Base.WIDTH };
@@ -81,6 +85,8 @@ impl<F: Field + Packable, P: PackedField<F>> PackedFieldExtension<F, F> for P {
     ghost use Rattle.std.specs.Prelude.{refl};
 
     type Base = P;
+
+    ghost base_injects = { λ p. refl };
 
     ghost width = { refl };
 
