@@ -30,7 +30,7 @@ impl<T, const N: usize> AsRow<T, N> for Scales<T, N> {
 }
 
 /// The N scales of a text.
-fn scales<F: Field, EF: ExtensionField<F>, const N: usize>(
+fn scales_of<F: Field, EF: ExtensionField<F>, const N: usize>(
     alloc: Global,
     text: &str,
 ) -> Result<Option<Scales<EF, N>>, AllocError> {
@@ -58,30 +58,10 @@ where
         let (Some(row), Some(text)) = (sides.next(), sides.next()) else {
             break;
         };
-        let Some(scales) = scales::<F, EF, N>(alloc, text)? else {
+        let Some(scales) = scales_of::<F, EF, N>(alloc, text)? else {
             return Ok(None);
         };
         items.push((base_packings::<F, P>(alloc, row)?, scales))?;
-    }
-    Ok(Some(items))
-}
-
-/// The same with rows of values of F.
-fn base_items<F: Field, EF: ExtensionField<F>, const N: usize>(
-    alloc: Global,
-    text: &str,
-) -> Result<Option<Vec<(Vec<F>, Scales<EF, N>)>>, AllocError> {
-    let mut items = Vec::new(alloc);
-    let mut sides = text.split('|');
-    sides.next();
-    for _ in 0..text.len() {
-        let (Some(row), Some(text)) = (sides.next(), sides.next()) else {
-            break;
-        };
-        let Some(scales) = scales::<F, EF, N>(alloc, text)? else {
-            return Ok(None);
-        };
-        items.push((base_values::<F>(alloc, row)?, scales))?;
     }
     Ok(Some(items))
 }
@@ -126,41 +106,6 @@ where
     }
 }
 
-/// Whether the accumulators are what the row says once the products are added.
-fn columnwise_agree<F, EF, PE, const N: usize>(
-    alloc: Global,
-    row: Row<'_>,
-) -> Result<Option<bool>, AllocError>
-where
-    F: Field,
-    EF: ExtensionField<F>,
-    PE: PackedFieldExtension<F, EF>,
-    requires { 0 < N }
-{
-    let mut accumulators = packings::<F, EF, PE>(alloc, row.argument(0))?;
-    let Some(items) = items::<F, EF, PE::Base, N>(alloc, row.arguments)? else {
-        return Ok(None);
-    };
-    add_products::<PE::Base, EF, PE, N>(row, &mut accumulators, items);
-    Ok(Some(all_hold::<F, EF, PE>(&accumulators, row.answer)))
-}
-
-/// Whether the products added to extension values by themselves are what a row of one lane says.
-fn values_agree<F: Field, EF: ExtensionField<F>, const N: usize>(
-    alloc: Global,
-    row: Row<'_>,
-) -> Result<Option<bool>, AllocError>
-    requires { 0 < N }
-{
-    let mut accumulators = values::<F, EF>(alloc, row.argument(0))?;
-    let Some(items) = base_items::<F, EF, N>(alloc, row.arguments)? else {
-        return Ok(None);
-    };
-    add_products::<F, EF, EF, N>(row, &mut accumulators, items);
-    let answer = values::<F, EF>(alloc, row.answer)?;
-    Ok(Some(same::<EF>(&accumulators, &answer)))
-}
-
 /// Whether two lists have the same values.
 fn same<EF: Field>(left: &[EF], right: &[EF]) -> bool {
     if left.len() != right.len() {
@@ -174,9 +119,34 @@ fn same<EF: Field>(left: &[EF], right: &[EF]) -> bool {
     true
 }
 
-/// Whether the products are what the row says, over packings, and where it has one lane over extension
-/// values as well.
-fn products_agree<F, EF, PE, const N: usize>(
+/// Whether the products added to extension values, one row of values of F after the other, are what a
+/// row of one lane says.
+fn values_agree<F: Field, EF: ExtensionField<F>, const N: usize>(
+    alloc: Global,
+    row: Row<'_>,
+) -> Result<bool, AllocError>
+    requires { 0 < N }
+{
+    let mut accumulators = values::<F, EF>(alloc, row.argument(0))?;
+    let mut sides = row.arguments.split('|');
+    sides.next();
+    for _ in 0..row.arguments.len() {
+        let (Some(entries), Some(text)) = (sides.next(), sides.next()) else {
+            break;
+        };
+        let Some(scales) = scales_of::<F, EF, N>(alloc, text)? else {
+            return Ok(false);
+        };
+        let mut items = Vec::new(alloc);
+        items.push((base_values::<F>(alloc, entries)?, scales))?;
+        add_products::<F, EF, EF, N>(row, &mut accumulators, items);
+    }
+    Ok(same::<EF>(&accumulators, &values::<F, EF>(alloc, row.answer)?))
+}
+
+/// Whether the accumulators are what the row says once the products are added; where it has one lane, the
+/// same over extension values too.
+fn columnwise_agree<F, EF, PE, const N: usize>(
     alloc: Global,
     row: Row<'_>,
 ) -> Result<Option<bool>, AllocError>
@@ -186,18 +156,18 @@ where
     PE: PackedFieldExtension<F, EF>,
     requires { 0 < N }
 {
-    if row.lanes == "1" {
-        let Some(agree) = values_agree::<F, EF, N>(alloc, row)? else {
-            return Ok(None);
-        };
-        if !agree {
-            return Ok(Some(false));
-        }
+    if row.lanes == "1" && !values_agree::<F, EF, N>(alloc, row)? {
+        return Ok(Some(false));
     }
-    columnwise_agree::<F, EF, PE, N>(alloc, row)
+    let mut accumulators = packings::<F, EF, PE>(alloc, row.argument(0))?;
+    let Some(items) = items::<F, EF, PE::Base, N>(alloc, row.arguments)? else {
+        return Ok(None);
+    };
+    add_products::<PE::Base, EF, PE, N>(row, &mut accumulators, items);
+    Ok(Some(all_hold::<F, EF, PE>(&accumulators, row.answer)))
 }
 
-/// `products_agree` at the number of scales, the call's second word.
+/// `columnwise_agree` at the number of scales, the call's second word.
 pub(crate) fn counted_columnwise_agree<F, EF, PE>(
     alloc: Global,
     row: Row<'_>,
@@ -208,10 +178,10 @@ where
     PE: PackedFieldExtension<F, EF>,
 {
     match word(row.call, 1) {
-        "1" => products_agree::<F, EF, PE, 1>(alloc, row),
-        "2" => products_agree::<F, EF, PE, 2>(alloc, row),
-        "3" => products_agree::<F, EF, PE, 3>(alloc, row),
-        "4" => products_agree::<F, EF, PE, 4>(alloc, row),
+        "1" => columnwise_agree::<F, EF, PE, 1>(alloc, row),
+        "2" => columnwise_agree::<F, EF, PE, 2>(alloc, row),
+        "3" => columnwise_agree::<F, EF, PE, 3>(alloc, row),
+        "4" => columnwise_agree::<F, EF, PE, 4>(alloc, row),
         _ => Ok(None),
     }
 }
