@@ -7,7 +7,6 @@ use p3_base::packed_traits::{PackedField, PackedValue};
 use p3_columns::columnwise::{
     AsRow, coeffwise_dot_product, generic_batched_columnwise_dot_product,
 };
-use p3_ring::ring::{Algebra, PrimeCharacteristicRing};
 use std::alloc::{AllocError, Global};
 
 /// Whether eight packings hold the values of a text, word by word.
