@@ -94,11 +94,12 @@ where
     }
 }
 
-/// For each item, a row and its N scales, adds `scales[j] * row[c]` to accumulator `c*N + j`.
-/// The accumulators are an algebra over the ring of the rows' entries and over the ring of the
-/// scales, as packed extension values are over packings and over extension values; each scale is
-/// brought into the algebra once for each item. Accumulators past the last whole group of N, and
-/// past the end of a short row, stay. Upstream's `generic_batched_columnwise_dot_product`.
+/// For each item, a row and its N scales, adds `scales[j] * row[c]` to accumulator `c*N + j`. N is
+/// at least one, and the iterator ends. The accumulators are an algebra over the ring of the rows'
+/// entries and over the ring of the scales, as packed extension values are over packings and over
+/// extension values; each scale is brought into the algebra once for each item. Accumulators past
+/// the last whole group of N, and past the end of a short row, stay. Upstream's
+/// `generic_batched_columnwise_dot_product`.
 #[inline]
 pub fn generic_batched_columnwise_dot_product<P, EF, PE, R, S, I, const N: usize>(
     acc: &mut [PE],
