@@ -1,4 +1,5 @@
 pub mod CoefficientSums
+pub mod ColumnGroups
 pub mod Columns
 pub mod IndexAnswers
 pub mod ParallelStreams

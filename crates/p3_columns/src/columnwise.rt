@@ -1,4 +1,4 @@
-ghost use Rattle.std.specs.Prelude.{◌≡◌, ◌<◌, ◌≤◌, List, length, map};
+ghost use Rattle.std.specs.Prelude.{◌≡◌, ◌<◌, ◌≤◌, List, length, map, get_or};
 ghost use Rattle.std.specs.Iterator.{IsFinite, Drains};
 ghost use Rattle.p3_theory.specs.Rings.ColumnwiseProducts.{add_scaled_row, add_scaled_rows};
 ghost use Rattle.p3_columns.specs.CoefficientSums.{add_coefficient_products, coefficient_sums};
@@ -29,17 +29,40 @@ impl<T, const N: usize> AsRow<T, N> for [T; N] {
     }
 }
 
-/// Adds `scales[j] * row[c]` to accumulator `c*N + j`, for each place c of the row that has a
+/// An element as a value of an algebra over its ring.
+#[inline]
+fn spread_at<EF: PrimeCharacteristicRing, PE: Algebra<EF>>(scales: &[EF], j: usize) -> PE
+    requires { j < length scales.now }
+    ensures { (e : EF) → result ≡ PE.embed (get_or scales.now j e) }
+{
+    PE::from(scales[j])
+}
+
+/// The N elements as values of an algebra over their ring.
+#[inline]
+fn spread<EF: PrimeCharacteristicRing, PE: Algebra<EF>, const N: usize>(scales: &[EF]) -> [PE; N]
+    requires { length scales.now ≡ N }
+    ensures { result ≡ map PE.embed scales.now }
+{
+    std::array::from_fn(
+        |j: usize| -> PE
+            requires index { j < length scales.now }
+            ensures entry { (e : EF) → result ≡ PE.embed (get_or scales.entry.now j e) }
+            ensures kept { scales.exit ≡ scales.entry }
+        { spread_at::<EF, PE>(scales, j) },
+    )
+}
+
+/// Adds `scales[j] * row[c]` to accumulator `c*N + j`, for each index c of the row that has a
 /// whole group of N accumulators.
 #[inline]
-fn add_scaled_row<F: PrimeCharacteristicRing, EF: Algebra<F>, const N: usize>(
-    acc: &mut [EF],
-    row: &[F],
-    scales: &[EF],
+fn add_scaled_row<P: PrimeCharacteristicRing, PE: Algebra<P>, const N: usize>(
+    acc: &mut [PE],
+    row: &[P],
+    scales: [PE; N],
 )
     requires groups { 0 < N }
-    requires scales { length scales.now ≡ N }
-    ensures { acc.new ≡ add_scaled_row EF.ops EF.embed N acc.old row.now scales.now }
+    ensures { acc.new ≡ add_scaled_row PE.ops PE.embed N acc.old row.now scales }
 {
     let groups = (acc.len() / N).min(row.len());
     let mut place = 0;
@@ -52,46 +75,70 @@ fn add_scaled_row<F: PrimeCharacteristicRing, EF: Algebra<F>, const N: usize>(
     }
 }
 
-/// For each item, a row and its N scales, adds `scales[j] * row[c]` to accumulator `c*N + j`.
-/// Accumulators past the last whole group of N, and past the end of a short row, stay. Upstream's
-/// `generic_batched_columnwise_dot_product`.
+/// `add_scaled_row` with scales that are brought into the algebra first, where there is a group of
+/// N accumulators.
 #[inline]
-pub fn generic_batched_columnwise_dot_product<F, EF, R, S, I, const N: usize>(
-    acc: &mut [EF],
-    items: I,
-)
+#[tactic(auto, using(crate::specs::ColumnGroups::no_group))]
+fn spread_and_add<P, EF, PE, const N: usize>(acc: &mut [PE], row: &[P], scales: &[EF])
 where
-    F: PrimeCharacteristicRing,
-    EF: Algebra<F>,
-    R: AsSlice<F> + Drop,
-    S: AsRow<EF, N> + Drop,
-    I: Iterator<Item = (R, S)> + Drop,
+    P: PrimeCharacteristicRing,
+    EF: PrimeCharacteristicRing,
+    PE: Algebra<P> + Algebra<EF>,
     requires groups { 0 < N }
-    requires can { I.can_next items }
-    requires ends { IsFinite (I.remaining items) }
-    ensures ran { (xs : List (R × S)) × Drains I.next_gives items xs × (acc.new ≡ add_scaled_rows EF.ops EF.embed N acc.old (map (λ x. (R.items x.0, S.entries x.1)) xs)) }
+    requires scales { length scales.now ≡ N }
+    ensures { acc.new ≡ add_scaled_row PE.ops ⟦<PE as Algebra<P>>⟧.embed N acc.old row.now (map ⟦<PE as Algebra<EF>>⟧.embed scales.now) }
 {
-    for (row, scales) in items {
-        add_scaled_row::<F, EF, N>(acc, row.as_slice(), scales.as_row());
+    if N <= acc.len() {
+        let spread = spread::<EF, PE, N>(scales);
+        add_scaled_row::<P, PE, N>(acc, row, spread);
     }
 }
 
-/// `generic_batched_columnwise_dot_product` over a field and its extension. Upstream's
-/// `batched_columnwise_dot_product`.
+/// For each item, a row and its N scales, adds `scales[j] * row[c]` to accumulator `c*N + j`. N is
+/// at least one, and the iterator ends. The accumulators are an algebra over the ring of the rows'
+/// entries and over the ring of the scales, as packed extension values are over packings and over
+/// extension values; each scale is brought into the algebra once for each item. Accumulators past
+/// the last whole group of N, and past the end of a short row, stay. Upstream's
+/// `generic_batched_columnwise_dot_product`.
 #[inline]
-pub fn batched_columnwise_dot_product<F, EF, R, S, I, const N: usize>(acc: &mut [EF], items: I)
+pub fn generic_batched_columnwise_dot_product<P, EF, PE, R, S, I, const N: usize>(
+    acc: &mut [PE],
+    items: I,
+)
 where
-    F: Field,
-    EF: Field + Algebra<F>,
-    R: AsSlice<F> + Drop,
+    P: PrimeCharacteristicRing,
+    EF: PrimeCharacteristicRing,
+    PE: Algebra<P> + Algebra<EF>,
+    R: AsSlice<P> + Drop,
     S: AsRow<EF, N> + Drop,
     I: Iterator<Item = (R, S)> + Drop,
     requires groups { 0 < N }
     requires can { I.can_next items }
     requires ends { IsFinite (I.remaining items) }
-    ensures ran { (xs : List (R × S)) × Drains I.next_gives items xs × (acc.new ≡ add_scaled_rows EF.ops EF.embed N acc.old (map (λ x. (R.items x.0, S.entries x.1)) xs)) }
+    ensures ran { (xs : List (R × S)) × Drains I.next_gives items xs × (acc.new ≡ add_scaled_rows PE.ops ⟦<PE as Algebra<P>>⟧.embed N acc.old (map (λ x. (R.items x.0, map ⟦<PE as Algebra<EF>>⟧.embed (S.entries x.1))) xs)) }
 {
-    generic_batched_columnwise_dot_product::<F, EF, R, S, I, N>(acc, items);
+    for (row, scales) in items {
+        spread_and_add::<P, EF, PE, N>(acc, row.as_slice(), scales.as_row());
+    }
+}
+
+/// `generic_batched_columnwise_dot_product` over packings, extension values and packed extension
+/// values. Upstream's `batched_columnwise_dot_product`.
+#[inline]
+pub fn batched_columnwise_dot_product<P, EF, PE, R, S, I, const N: usize>(acc: &mut [PE], items: I)
+where
+    P: PrimeCharacteristicRing,
+    EF: PrimeCharacteristicRing,
+    PE: Algebra<P> + Algebra<EF>,
+    R: AsSlice<P> + Drop,
+    S: AsRow<EF, N> + Drop,
+    I: Iterator<Item = (R, S)> + Drop,
+    requires groups { 0 < N }
+    requires can { I.can_next items }
+    requires ends { IsFinite (I.remaining items) }
+    ensures ran { (xs : List (R × S)) × Drains I.next_gives items xs × (acc.new ≡ add_scaled_rows PE.ops ⟦<PE as Algebra<P>>⟧.embed N acc.old (map (λ x. (R.items x.0, map ⟦<PE as Algebra<EF>>⟧.embed (S.entries x.1))) xs)) }
+{
+    generic_batched_columnwise_dot_product::<P, EF, PE, R, S, I, N>(acc, items);
 }
 
 /// Adds coefficient i of the slice times the scale to entry i, for each i below d that the slice has.

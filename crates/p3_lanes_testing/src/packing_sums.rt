@@ -7,7 +7,6 @@ use p3_base::packed_traits::{PackedField, PackedValue};
 use p3_columns::columnwise::{
     AsRow, coeffwise_dot_product, generic_batched_columnwise_dot_product,
 };
-use p3_ring::ring::{Algebra, PrimeCharacteristicRing};
 use std::alloc::{AllocError, Global};
 
 /// Whether eight packings hold the values of a text, word by word.
@@ -80,7 +79,7 @@ impl<T, const N: usize> AsRow<T, N> for Scales<T, N> {
 fn items<F: Field, P: PackedField<F>, const N: usize>(
     alloc: Global,
     text: &str,
-) -> Result<Option<Vec<(Vec<P>, Scales<P, N>)>>, AllocError> {
+) -> Result<Option<Vec<(Vec<P>, Scales<F, N>)>>, AllocError> {
     let mut items = Vec::new(alloc);
     let mut sides = text.split('|');
     sides.next();
@@ -88,7 +87,7 @@ fn items<F: Field, P: PackedField<F>, const N: usize>(
         let (Some(row), Some(scales)) = (sides.next(), sides.next()) else {
             break;
         };
-        let scales = broadcast_values::<F, P>(alloc, scales)?;
+        let scales = entries::<F>(alloc, scales)?;
         if scales.len() != N {
             return Ok(None);
         }
@@ -97,13 +96,10 @@ fn items<F: Field, P: PackedField<F>, const N: usize>(
     Ok(Some(items))
 }
 
-/// The packings that have a value of a text in all lanes.
-fn broadcast_values<F: Field, P: PackedField<F>>(
-    alloc: Global,
-    text: &str,
-) -> Result<Vec<P>, AllocError> {
+/// The values of a text.
+fn entries<F: Field>(alloc: Global, text: &str) -> Result<Vec<F>, AllocError> {
     text.split_ascii_whitespace()
-        .map(|word: &str| -> P { P::from(entry::<F>(word, 0)) })
+        .map(|word: &str| -> F { entry::<F>(word, 0) })
         .collect(alloc)
 }
 
@@ -147,7 +143,7 @@ fn columnwise_agree<F: Field, P: PackedField<F>, const N: usize>(
     let Some(items) = items::<F, P, N>(alloc, row.arguments)? else {
         return Ok(None);
     };
-    generic_batched_columnwise_dot_product::<P, P, Vec<P>, Scales<P, N>, _, N>(
+    generic_batched_columnwise_dot_product::<P, F, P, Vec<P>, Scales<F, N>, _, N>(
         &mut accumulators,
         items.into_iter(),
     );

@@ -24,7 +24,7 @@ pub(crate) fn row_agrees<F: Field, EF: ExtensionField<F>, PE: PackedFieldExtensi
             sequences_agree::<F, EF, PE>(alloc, row)
         }
         "packed_ext" => operations_agree::<F, EF, PE>(alloc, row),
-        "generic_batched_columnwise_dot_product" => {
+        "batched_columnwise_dot_product" | "generic_batched_columnwise_dot_product" => {
             counted_columnwise_agree::<F, EF, PE>(alloc, row)
         }
         _ => lanes_agree::<F, EF, PE>(alloc, row),

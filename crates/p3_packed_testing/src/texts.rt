@@ -83,6 +83,13 @@ pub fn base_packings<F: Field, P: PackedField<F>>(
         .collect(alloc)
 }
 
+/// The values of F of a text, which stand between spaces.
+pub fn base_values<F: Field>(alloc: Global, text: &str) -> Result<Vec<F>, AllocError> {
+    text.split_ascii_whitespace()
+        .map(|word: &str| -> F { coefficient::<F>(word, 0) })
+        .collect(alloc)
+}
+
 /// Whether the lanes of a packing hold the values of a text.
 pub fn holds<F: Field, EF: Field + BasedVectorSpace<F>, PE: PackedExtensionRing<F, EF>>(
     packing: &PE,
