@@ -1,8 +1,8 @@
 //! Runs of steps read lane by lane and as coefficient lists, and what holds of lanes.
-ghost use Rattle.std.specs.Prelude.{◌≡◌, ◌<◌, ◌*◌, ℕ, length, map};
+ghost use Rattle.std.specs.Prelude.{◌≡◌, ◌<◌, ◌*◌, ℕ, get_or, length, map};
 ghost use Rattle.p3_theory.specs.Lanes.Lanes.{lane};
 ghost use Rattle.p3_theory.specs.Lanes.VectorLanes.{vector_lane};
-ghost use Rattle.p3_theory.specs.Polynomials.Polynomial.{quotient_ops};
+ghost use Rattle.p3_theory.specs.Polynomials.Polynomial.{embed, quotient_ops};
 ghost use Rattle.p3_theory.specs.Rings.Ring.{Hom};
 ghost use Rattle.p3_ext.specs.Values.{ext_ops};
 ghost use Rattle.p3_runs.specs.Runs.{Fit, run};
@@ -15,6 +15,7 @@ use p3_packings::packed_field_extension::PackedFieldExtension;
 use p3_ring::packed_ring::PackedRing;
 use p3_ring::ring::PrimeCharacteristicRing;
 use p3_runs::steps::{Step, run_steps};
+use p3_spaces::basis::BasedVectorSpace;
 use p3_spaces::extension_field::ExtensionField;
 use p3_vectorized::steps::run_lane_steps;
 use p3_vectorized::vectorized::Vectorized;
@@ -132,3 +133,18 @@ pub fn packed_extension_has_a_lane<
 >()
     ensures { 0 < PE.LANES }
 {}
+
+/// A vector of packings of field values as one of extension values: the coefficients of each part are p, 0,
+/// .., 0.
+pub fn vector_ext_of_vector<
+    F: Field,
+    EF: ExtensionField<F>,
+    PE: PackedFieldExtension<F, EF>,
+    const N: usize,
+>(v: Vectorized<F, PE::Base, N>) -> VectorizedExt<F, EF, PE, N>
+    ensures { (d : PE.Base) (e : PE) (k : ℕ) → k < N →
+        ⟦<PE as BasedVectorSpace<PE::Base>>⟧.coefficients (get_or result.items k e)
+        ≡ embed PE.Base.ops ⟦<PE as BasedVectorSpace<PE::Base>>⟧.DIMENSION (get_or v.items k d) }
+{
+    VectorizedExt::<F, EF, PE, N>::from(v)
+}

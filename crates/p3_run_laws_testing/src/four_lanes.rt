@@ -57,7 +57,8 @@ fn a_square_of_two_packings(rt: HostRuntime) {
     let vector = VectorizedExt::<F17, F17x2, _, 2>::new([start(), start()]);
     let mut regs = [vector, vector];
     run_four_lanes(&mut regs, &[Step::Square { d: 0, a: 1 }]);
-    let lane: F17x2 = regs[0].extract(5);
+    let read = &regs[..];
+    let lane: F17x2 = read[0].extract(5);
     assert_eq!(rt; lane.value[0].as_canonical_u64(), 13);
     assert_eq!(rt; lane.value[1].as_canonical_u64(), 4);
 }
