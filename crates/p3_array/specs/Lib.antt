@@ -1,2 +1,3 @@
 pub mod ArrayFields
 pub mod ArrayEquality
+pub mod Interleaving
