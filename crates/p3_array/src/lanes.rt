@@ -4,7 +4,14 @@ ghost use Rattle.std.specs.Prelude.{◌≡◌, ◌<◌, ◌^◌, ℕ};
 use crate::array::FieldArray;
 use p3_base::field::Field;
 use p3_base::packed_traits::{Packable, PackedField, PackedFieldPow2};
+use p3_packed::holds_scalar::HoldsScalar;
+use p3_packed::packed_ext_field::Packing;
 use p3_ring::packed_ring::PackedRing;
+
+/// A packing of values of F.
+impl<F: Inhabited, const N: usize> Packing for FieldArray<F, N> {
+    type Scalar = F;
+}
 
 /// A field whose values stand in arrays of N entries as lanes. Every field has 1, 2, 4, 8 and 16 of
 /// them; an impl at a field gives it another number. This project's own.
@@ -21,6 +28,13 @@ pub trait Lanes<const N: usize>: Field + Packable {
 pub trait LanesPow2<const N: usize>: Lanes<N> {
     /// The number of lanes is a power of two.
     ghost power_of_two: { (k : ℕ) × (N ≡ 2 ^ k) };
+}
+
+/// An array has room for each entry, and at least one.
+impl<F: Lanes<N>, const N: usize> HoldsScalar<F> for FieldArray<F, N> {
+    ghost use Rattle.p3_array.specs.ArraySizes.{field_array_holds};
+
+    ghost holds = { field_array_holds F.row N.row F.Inhabited F.some_lane F.counted };
 }
 
 impl<F: Lanes<N>, const N: usize> PackedRing<F> for FieldArray<F, N> {
