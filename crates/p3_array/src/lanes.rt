@@ -3,7 +3,7 @@ ghost use Rattle.std.specs.Prelude.{◌≡◌, ◌<◌, ◌^◌, ℕ};
 
 use crate::array::FieldArray;
 use p3_base::field::Field;
-use p3_base::packed_traits::{Packable, PackedField, PackedFieldPow2};
+use p3_base::packed_traits::{Inhabited, Packable, PackedField, PackedFieldPow2};
 use p3_packed::holds_scalar::HoldsScalar;
 use p3_packed::packed_ext_field::Packing;
 use p3_ring::packed_ring::PackedRing;
