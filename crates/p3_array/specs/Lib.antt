@@ -1,2 +1,4 @@
 pub mod ArrayFields
 pub mod ArrayEquality
+pub mod Interleaving
+pub mod ArraySizes

@@ -8,3 +8,4 @@ mod operators;
 mod quotients;
 mod ring;
 mod scalar_operators;
+mod scalar_sums;

@@ -7,3 +7,5 @@ mod array_calls;
 mod array_tables;
 #[cfg(test)]
 mod mapping;
+#[cfg(test)]
+mod packings;

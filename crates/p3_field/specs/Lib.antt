@@ -65,6 +65,7 @@ pub use Rattle.p3_tools.specs.BackwardRuns
 pub use Rattle.p3_tools.specs.PairedRuns
 pub use Rattle.p3_array.specs.ArrayFields
 pub use Rattle.p3_array.specs.ArrayEquality
+pub use Rattle.p3_array.specs.ArraySizes
 pub use Rattle.p3_packings.specs.CappedPowers
 pub use Rattle.p3_packings.specs.LaneItems
 pub use Rattle.p3_packings.specs.ScalarFolds

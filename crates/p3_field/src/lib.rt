@@ -7,6 +7,7 @@ pub mod steps;
 
 pub use p3_array::array::FieldArray;
 pub use p3_array::lanes::Lanes;
+pub use p3_array::lanes::LanesPow2;
 pub use p3_base::field::Field;
 pub use p3_base::field::PrimeField;
 pub use p3_base::field::PrimeField32;

@@ -1,0 +1,9 @@
+//! Tests of packed extensions of complex values, over arrays.
+#![tactic(auto)]
+
+#[cfg(test)]
+mod complex_runs;
+#[cfg(test)]
+mod lane_runs;
+#[cfg(test)]
+mod run_tables;
