@@ -1,2 +1,1 @@
-pub mod Interleaving
 mod LaneDotProducts
