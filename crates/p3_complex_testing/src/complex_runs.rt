@@ -1,5 +1,5 @@
-//! Runs over vectors of packed extension values, each coefficient an array: over the complex values of a
-//! field, and over the extension of degree 2 of these.
+//! Runs over vectors of packed extension values: over the complex values of a field, in arrays, and over the
+//! extension of degree 2 of these, each complex value a packing of one lane.
 use crate::lane_runs::run_agrees;
 use crate::run_tables::{F31C, F31CX2, WRONG_AT_F31C, WRONG_AT_F31CX2};
 use p3_array::array::FieldArray;
@@ -47,16 +47,26 @@ fn complex_run_agrees<F: ComplexExtendable + Lanes<N>, const N: usize>(
     packed_run_agrees::<F, F, FieldArray<F, N>>(alloc, vector, table)
 }
 
-/// The run over the extension of degree 2 of complex values, in arrays of N complex values.
-fn tower_run_agrees<F: HasComplexBinomialExtension<2>, const N: usize>(
+/// The run over the extension of degree 2 of complex values, each coefficient a packing in P.
+fn tower_over<F, P>(
     alloc: Global,
-    vector: Option<PackedVector<Complex<F>, FieldArray<Complex<F>, N>>>,
+    vector: Option<PackedVector<Complex<F>, P>>,
     table: &str,
 ) -> Result<Option<bool>, AllocError>
 where
-    Complex<F>: Lanes<N> + PrimeCharacteristicRing<PrimeSubfield = F::PrimeSubfield>,
+    F: HasComplexBinomialExtension<2> + Packable,
+    P: PackedRing<Complex<F>> + Inhabited + Packing<Scalar = Complex<F>>,
 {
-    packed_run_agrees::<F, Complex<F>, FieldArray<Complex<F>, N>>(alloc, vector, table)
+    packed_run_agrees::<F, Complex<F>, P>(alloc, vector, table)
+}
+
+/// The same in complex values, each a packing of one lane.
+fn tower_run_agrees<F: HasComplexBinomialExtension<2> + Packable>(
+    alloc: Global,
+    vector: Option<PackedVector<Complex<F>, Complex<F>>>,
+    table: &str,
+) -> Result<Option<bool>, AllocError> {
+    tower_over::<F, Complex<F>>(alloc, vector, table)
 }
 
 #[test]
@@ -84,20 +94,9 @@ fn runs_over_complex_values(rt: HostRuntime) -> Result<(), Fail> {
 #[test]
 fn runs_over_their_extension(rt: HostRuntime) -> Result<(), Fail> {
     let alloc = rt.alloc();
+    assert_eq!(rt; tower_run_agrees::<F31>(alloc, None, F31CX2)?, Some(true));
     assert_eq!(rt;
-        tower_run_agrees::<F31, 1>(alloc, None, F31CX2)?,
-        Some(true)
-    );
-    assert_eq!(rt;
-        tower_run_agrees::<F31, 4>(alloc, None, F31CX2)?,
-        Some(true)
-    );
-    assert_eq!(rt;
-        tower_run_agrees::<F31, 8>(alloc, None, F31CX2)?,
-        Some(true)
-    );
-    assert_eq!(rt;
-        tower_run_agrees::<F31, 1>(alloc, None, WRONG_AT_F31CX2)?,
+        tower_run_agrees::<F31>(alloc, None, WRONG_AT_F31CX2)?,
         Some(false)
     );
     Ok(())

@@ -1,4 +1,4 @@
-//! Tests of packed extensions of complex values, over arrays.
+//! Tests of packed extensions of complex values.
 #![tactic(auto)]
 
 #[cfg(test)]
