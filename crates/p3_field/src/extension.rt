@@ -13,6 +13,7 @@ pub use p3_ext::extension::{
     octic_mul, quartic_mul, quintic_mul, quintic_square, septic_square, trinomial_cubic_mul,
     trinomial_quintic_mul, trinomial_septic_mul, vector_add, vector_sub,
 };
+pub use p3_packed::bounds::{CoefficientPacking, PackableExtension};
 pub use p3_packed::holds_scalar::HoldsScalar;
 pub use p3_packed::packed_ext_field::{
     PackedBinomialExtensionField, PackedCubicTrinomialExtensionField, PackedExtField,

@@ -9,11 +9,10 @@ ghost use Rattle.p3_field_bench.specs.SameTexts.{TakeNoRoots, AreOneFrom};
 
 use p3_base::field::PrimeField32;
 use p3_bench_prime::baby_bear::BabyBear;
-use p3_integers::integers::Quotient;
-
 pub use p3_calculator_fields::laws::{
     domain_f17, domain_f31, premise_f2, premise_f17, premise_f17x2, premise_f31, premise_f31c,
 };
+use p3_integers::integers::Quotient;
 
 /// BabyBear stands in Montgomery's form: the stored word is the canonical value times 2^32 modulo the order.
 pub fn baby_bear_is_in_montgomery_form(x: BabyBear)

@@ -3,6 +3,7 @@
 
 pub mod algebra;
 pub mod basis;
+pub mod bounds;
 mod division;
 pub mod extension_values;
 pub mod holds_scalar;

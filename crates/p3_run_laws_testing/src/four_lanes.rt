@@ -36,12 +36,12 @@ where
     requires { Fit (length regs.old) steps.now }
     ensures { (i : ℕ) → i < 4 * N →
         map (λ v. (vector_lane ⟦<PackedBinomialExtensionField<Fp<W>, Packed<Fp<W>, 4>, 2> as PrimeCharacteristicRing>⟧.ops
-            (ext_ops (ops W.Form) ⟦<Fp<W> as ExtensionAlgebra<Fp<W>, 2, Binomial<Fp<W>>>>⟧.modulus)
-            ⟦<PackedBinomialExtensionField<Fp<W>, Packed<Fp<W>, 4>, 2> as ExtensionLanes<Fp<W>, BinomialExtensionField<Fp<W>, 2>>>⟧.ext_lanes 4 i v).value) regs.new
+        (ext_ops (ops W.Form) ⟦<Fp<W> as ExtensionAlgebra<Fp<W>, 2, Binomial<Fp<W>>>>⟧.modulus)
+        ⟦<PackedBinomialExtensionField<Fp<W>, Packed<Fp<W>, 4>, 2> as ExtensionLanes<Fp<W>, BinomialExtensionField<Fp<W>, 2>>>⟧.ext_lanes 4 i v).value) regs.new
         ≡ run (quotient_ops (ops W.Form) 2 ⟦<Fp<W> as ExtensionAlgebra<Fp<W>, 2, Binomial<Fp<W>>>>⟧.modulus) steps.now
-            (map (λ v. (vector_lane ⟦<PackedBinomialExtensionField<Fp<W>, Packed<Fp<W>, 4>, 2> as PrimeCharacteristicRing>⟧.ops
-            (ext_ops (ops W.Form) ⟦<Fp<W> as ExtensionAlgebra<Fp<W>, 2, Binomial<Fp<W>>>>⟧.modulus)
-            ⟦<PackedBinomialExtensionField<Fp<W>, Packed<Fp<W>, 4>, 2> as ExtensionLanes<Fp<W>, BinomialExtensionField<Fp<W>, 2>>>⟧.ext_lanes 4 i v).value) regs.old) }
+        (map (λ v. (vector_lane ⟦<PackedBinomialExtensionField<Fp<W>, Packed<Fp<W>, 4>, 2> as PrimeCharacteristicRing>⟧.ops
+        (ext_ops (ops W.Form) ⟦<Fp<W> as ExtensionAlgebra<Fp<W>, 2, Binomial<Fp<W>>>>⟧.modulus)
+        ⟦<PackedBinomialExtensionField<Fp<W>, Packed<Fp<W>, 4>, 2> as ExtensionLanes<Fp<W>, BinomialExtensionField<Fp<W>, 2>>>⟧.ext_lanes 4 i v).value) regs.old) }
 {
     run_lane_steps_by_coefficients::<Fp<W>, FourLanes<W>, 2, Binomial<Fp<W>>, N>(regs, steps)
 }
