@@ -7,5 +7,3 @@ mod array_calls;
 mod array_tables;
 #[cfg(test)]
 mod mapping;
-#[cfg(test)]
-mod packings;
