@@ -11,10 +11,10 @@ use p3_bench_prime::form::{OverModulus, Plain};
 use p3_bench_prime::fp::Fp;
 use p3_bench_prime::montgomery::Montgomery;
 use p3_bench_prime::polynomial_constants::PolynomialConstants;
-use p3_bench_prime::small::{M2, M17, M31};
+use p3_bench_prime::small::{M2, M15, M17, M17b, M31};
 use p3_ext::extension::{
     Binomial, Cubic, ExtField, ExtensionOverAlgebra, ExtensionShape, FrobeniusExtendable,
-    IntegerPolynomial, Modulo, Septic,
+    IntegerPolynomial, Modulo, Quintic, Septic,
 };
 use p3_packed::packed_ext_field::{PackedExtField, Packing};
 use p3_packed_testing::rows::Row;
@@ -141,6 +141,84 @@ where
     }
 }
 
+/// The same at degree 3, over packings of four values.
+fn runs_at_degree_3<W: OverModulus<u32>>(
+    alloc: Global,
+    row: Row<'_>,
+) -> Result<Option<bool>, AllocError>
+where
+    W::Modulus: BinomialConstants<3>,
+{
+    match row.lanes {
+        "4" => <Packed<Fp<W>, 4> as PackedRuns<Fp<W>, Binomial<Fp<W>>, 3>>::runs_agree(
+            alloc, None, row,
+        ),
+        _ => Ok(None),
+    }
+}
+
+/// The same at degree 5, over packings of four values.
+fn runs_at_degree_5<W: OverModulus<u32>>(
+    alloc: Global,
+    row: Row<'_>,
+) -> Result<Option<bool>, AllocError>
+where
+    W::Modulus: BinomialConstants<5>,
+{
+    match row.lanes {
+        "4" => <Packed<Fp<W>, 4> as PackedRuns<Fp<W>, Binomial<Fp<W>>, 5>>::runs_agree(
+            alloc, None, row,
+        ),
+        _ => Ok(None),
+    }
+}
+
+/// The same at degree 6, over packings of four values.
+fn runs_at_degree_6<W: OverModulus<u32>>(
+    alloc: Global,
+    row: Row<'_>,
+) -> Result<Option<bool>, AllocError>
+where
+    W::Modulus: BinomialConstants<6>,
+{
+    match row.lanes {
+        "4" => <Packed<Fp<W>, 4> as PackedRuns<Fp<W>, Binomial<Fp<W>>, 6>>::runs_agree(
+            alloc, None, row,
+        ),
+        _ => Ok(None),
+    }
+}
+
+/// The same at degree 8, over packings of four values.
+fn runs_at_degree_8<W: OverModulus<u32>>(
+    alloc: Global,
+    row: Row<'_>,
+) -> Result<Option<bool>, AllocError>
+where
+    W::Modulus: BinomialConstants<8>,
+{
+    match row.lanes {
+        "4" => <Packed<Fp<W>, 4> as PackedRuns<Fp<W>, Binomial<Fp<W>>, 8>>::runs_agree(
+            alloc, None, row,
+        ),
+        _ => Ok(None),
+    }
+}
+
+/// The same by `X^5 = 1 - X^2`.
+fn runs_over_quintic<W: OverModulus<u32>>(
+    alloc: Global,
+    row: Row<'_>,
+) -> Result<Option<bool>, AllocError>
+where
+    W::Modulus: PolynomialConstants<5, Quintic>,
+{
+    match row.lanes {
+        "4" => polynomial_run_agrees::<W, Quintic, 5, 4>(alloc, None, None, row),
+        _ => Ok(None),
+    }
+}
+
 /// The same by `X^3 = X + 1`.
 fn runs_over_cubic<W: OverModulus<u32>>(
     alloc: Global,
@@ -179,6 +257,15 @@ fn run_agrees(alloc: Global, line: &str) -> Result<Option<bool>, AllocError> {
     };
     match row.field {
         "f17x2" => runs_over_quadratic::<Plain<M17>>(alloc, row),
+        "f17bx2" => runs_over_quadratic::<Plain<M17b>>(alloc, row),
+        "z15x2" => runs_over_quadratic::<Plain<M15>>(alloc, row),
+        "f31x3" => runs_at_degree_3::<Plain<M31>>(alloc, row),
+        "f17x4" => runs_over_quartic::<Plain<M17>>(alloc, row),
+        "f31x5" => runs_at_degree_5::<Plain<M31>>(alloc, row),
+        "f31x6" => runs_at_degree_6::<Plain<M31>>(alloc, row),
+        "f17x8" => runs_at_degree_8::<Plain<M17>>(alloc, row),
+        "f17t5" => runs_over_quintic::<Plain<M17>>(alloc, row),
+        "f2t5" => runs_over_quintic::<Plain<M2>>(alloc, row),
         "f31t3" => runs_over_cubic::<Plain<M31>>(alloc, row),
         "f2t7" => runs_over_septic::<Plain<M2>>(alloc, row),
         "bbx4" => runs_over_quartic::<Montgomery<BabyBearModulus>>(alloc, row),
@@ -202,5 +289,6 @@ fn runs_over_vectors(rt: HostRuntime) -> Result<(), Fail> {
     assert_table(&rt, tables::RUNS_OVER_F17X2)?;
     assert_table(&rt, tables::RUNS_OVER_F31T3)?;
     assert_table(&rt, tables::RUNS_OVER_F2T7)?;
+    assert_table(&rt, tables::RUNS_OVER_OTHERS)?;
     assert_table(&rt, tables::RUNS_OVER_BBX4)
 }
