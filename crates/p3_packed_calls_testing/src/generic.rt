@@ -1,11 +1,6 @@
-//! Functions as a user of the library writes them, generic over what they need.
+//! A function as a user of the library writes it, generic over what it needs.
 use p3_packings::extension_lanes::ExtensionLanes;
 use p3_ring::ring::PrimeCharacteristicRing;
-
-/// The square of a value and one, in any ring.
-pub(crate) fn square_and_one<R: PrimeCharacteristicRing>(x: R) -> R {
-    x.square() + R::one()
-}
 
 /// The sum of the values in the lanes of a packing.
 pub(crate) fn sum_of_lanes<F, EF: PrimeCharacteristicRing, PE: ExtensionLanes<F, EF>>(x: PE) -> EF {

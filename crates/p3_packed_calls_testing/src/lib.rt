@@ -1,5 +1,5 @@
 //! Calls at packed extension values whose types are named, as a user writes them: operators, lanes, powers,
-//! and functions of a user's own that are generic over a ring or over lanes.
+//! and a function of a user's own that is generic over lanes.
 #![tactic(auto)]
 
 #[cfg(test)]

@@ -1,7 +1,7 @@
 //! Over the extension of the residues modulo 17 by `X^2 = 3`. Expected values by hand.
 ghost use Rattle.std.specs.Prelude.{◌<◌};
 
-use crate::generic::{square_and_one, sum_of_lanes};
+use crate::generic::sum_of_lanes;
 use p3_base::field::PrimeField64;
 use p3_bench_packed::packed::Packed;
 use p3_bench_prime::extensions::F17x2;
@@ -10,6 +10,7 @@ use p3_packed::packed_ext_field::PackedBinomialExtensionField;
 use p3_packings::ext_lane_items::to_ext_iter;
 use p3_packings::ext_powers::packed_ext_powers;
 use p3_packings::extension_lanes::ExtensionLanes;
+use std::ops::Div;
 
 type FourLanes = PackedBinomialExtensionField<F17, Packed<F17, 4>, 2>;
 
@@ -73,12 +74,12 @@ fn products(rt: HostRuntime) {
     assert_eq!(rt; eight_at(&square, 4), (4, 2));
 }
 
-#[test]
-fn quotients(rt: HostRuntime) {
-    let y = F17x2::new([F17::new(1), F17::new(2)]);
-    let quotient = four() / y;
-    assert_eq!(rt; four_at(&quotient, 0), (2, 14));
-    assert_eq!(rt; four_at(&quotient, 3), (5, 14));
+/// The quotient by a value that has an inverse.
+fn quotient(x: FourLanes, y: F17x2) -> FourLanes
+    requires { ⟦<PackedBinomialExtensionField<F17, Packed<F17, 4>, 2> as Div<F17x2>>⟧.can_div x y }
+    ensures { ⟦<PackedBinomialExtensionField<F17, Packed<F17, 4>, 2> as Div<F17x2>>⟧.div_gives x y result }
+{
+    x / y
 }
 
 #[test]
@@ -105,11 +106,6 @@ fn powers(rt: HostRuntime) {
     assert_eq!(rt; four_at(&powers.current, 2), (13, 4));
     assert_eq!(rt; four_at(&powers.current, 3), (3, 13));
     assert_eq!(rt; four_at(&powers.base, 0), (13, 2));
-}
-
-#[test]
-fn a_function_over_any_ring(rt: HostRuntime) {
-    assert_eq!(rt; four_at(&square_and_one(four()), 1), (15, 12));
 }
 
 #[test]

@@ -11,33 +11,27 @@ type FourLanes = PackedBinomialExtensionField<BabyBear, Packed<BabyBear, 4>, 4>;
 
 type EightLanes = PackedBinomialExtensionField<BabyBear, Packed<BabyBear, 8>, 4>;
 
-/// The value `low + X^3` in each lane.
-fn with_cube<const N: usize>(
-    low: [BabyBear; N],
-) -> PackedBinomialExtensionField<BabyBear, Packed<BabyBear, N>, 4> {
-    let zero = Packed::new([BabyBear::new(0); N]);
-    let one = Packed::new([BabyBear::new(1); N]);
-    PackedBinomialExtensionField::<BabyBear, Packed<BabyBear, N>, 4>::new([
-        Packed::new(low),
-        zero,
-        zero,
-        one,
-    ])
-}
-
 /// The values `l + 1 + X^3` in lanes l from 0 to 3.
 fn four() -> FourLanes {
-    with_cube([
+    let low = Packed::new([
         BabyBear::new(1),
         BabyBear::new(2),
         BabyBear::new(3),
         BabyBear::new(4),
-    ])
+    ]);
+    let zero = Packed::new([BabyBear::new(0); 4]);
+    FourLanes::new([low, zero, zero, Packed::new([BabyBear::new(1); 4])])
 }
 
 /// The values `7 + X^3` in eight lanes.
 fn eight() -> EightLanes {
-    with_cube([BabyBear::new(7); 8])
+    let zero = Packed::new([BabyBear::new(0); 8]);
+    EightLanes::new([
+        Packed::new([BabyBear::new(7); 8]),
+        zero,
+        zero,
+        Packed::new([BabyBear::new(1); 8]),
+    ])
 }
 
 /// The canonical number of a coefficient in a lane.

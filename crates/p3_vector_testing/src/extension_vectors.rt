@@ -27,17 +27,25 @@ fn of_value(x: F17x2) -> (u64, u64) {
     (x.value[0].as_canonical_u64(), x.value[1].as_canonical_u64())
 }
 
+/// The canonical numbers of two residues.
+fn residues(v: VectorizedExt<F17, F17, F17, 2>) -> (u64, u64) {
+    let [first, second] = v.0;
+    (first.as_canonical_u64(), second.as_canonical_u64())
+}
+
 #[test]
 fn coefficients_are_put_together(rt: HostRuntime) {
     assert_eq!(rt; numbers(start()), ((1, 3), (2, 4)));
 }
 
+/// A field is an extension of itself.
 #[test]
 fn one_value_with_each_part(rt: HostRuntime) {
-    let x = F17x2::new([F17::new(1), F17::new(2)]);
-    assert_eq!(rt; numbers(start() + x), ((2, 5), (3, 6)));
-    assert_eq!(rt; numbers(start() - x), ((0, 1), (1, 2)));
-    assert_eq!(rt; numbers(start() * x), ((2, 5), (9, 8)));
+    let v = VectorizedExt::<F17, F17, F17, 2>::new([F17::new(1), F17::new(2)]);
+    let x = F17::new(5);
+    assert_eq!(rt; residues(v + x), (6, 7));
+    assert_eq!(rt; residues(v - x), (13, 14));
+    assert_eq!(rt; residues(v * x), (5, 10));
 }
 
 #[test]
