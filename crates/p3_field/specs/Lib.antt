@@ -15,13 +15,16 @@ pub use Rattle.p3_theory.specs.Lanes.VectorLanes
 pub use Rattle.p3_theory.specs.Lists.ListItems
 pub use Rattle.p3_theory.specs.Lists.ListOrder
 pub use Rattle.p3_theory.specs.Lists.PairedLists
+pub use Rattle.p3_theory.specs.Lists.Places
 pub use Rattle.p3_theory.specs.Lists.TabulatedPlaces
 pub use Rattle.p3_theory.specs.Lists.WrittenItems
 pub use Rattle.p3_theory.specs.Polynomials.BaseProduct
 pub use Rattle.p3_theory.specs.Polynomials.Coefficients
+pub use Rattle.p3_theory.specs.Polynomials.Horner
 pub use Rattle.p3_theory.specs.Polynomials.HornerFold
 pub use Rattle.p3_theory.specs.Polynomials.IntegerPolynomials
 pub use Rattle.p3_theory.specs.Polynomials.Polynomial
+pub use Rattle.p3_theory.specs.Polynomials.Sequences
 pub use Rattle.p3_theory.specs.Polynomials.Text
 pub use Rattle.p3_theory.specs.Products.ComplexExtensions
 pub use Rattle.p3_theory.specs.ResidueRings.BitLength
@@ -41,6 +44,8 @@ pub use Rattle.p3_theory.specs.Rings.MixedDotProduct
 pub use Rattle.p3_theory.specs.Rings.Multiples
 pub use Rattle.p3_theory.specs.Rings.Operators
 pub use Rattle.p3_theory.specs.Rings.PowerChains
+pub use Rattle.p3_theory.specs.Rings.PowerLaws
+pub use Rattle.p3_theory.specs.Rings.PowerProducts
 pub use Rattle.p3_theory.specs.Rings.Powers
 pub use Rattle.p3_theory.specs.Rings.Ring
 pub use Rattle.p3_theory.specs.Rings.ZeroDivisors

@@ -141,10 +141,8 @@ pub fn vector_ext_of_vector<
     EF: ExtensionField<F>,
     PE: PackedFieldExtension<F, EF>,
     const N: usize,
->(v: Vectorized<F, PE::Base, N>) -> VectorizedExt<F, EF, PE, N>
-    ensures { (d : PE.Base) (e : PE) (k : ℕ) → k < N →
-        ⟦<PE as BasedVectorSpace<PE::Base>>⟧.coefficients (get_or result.items k e)
+>(v: Vectorized<F, PE::Base, N>, w: VectorizedExt<F, EF, PE, N>)
+    ensures { ⟦<VectorizedExt<F, EF, PE, N> as From<Vectorized<F, PE::Base, N>>>⟧.from_gives v w → (d : PE.Base) (e : PE) (k : ℕ) → k < N →
+        ⟦<PE as BasedVectorSpace<PE::Base>>⟧.coefficients (get_or w.items k e)
         ≡ embed PE.Base.ops ⟦<PE as BasedVectorSpace<PE::Base>>⟧.DIMENSION (get_or v.items k d) }
-{
-    VectorizedExt::<F, EF, PE, N>::from(v)
-}
+{}
