@@ -7,7 +7,6 @@ use crate::batch_tables::{
     INVERSES_BABY_BEAR, INVERSES_F17, INVERSES_F17X2, INVERSES_GOLDILOCKS, INVERSES_Z15, Inverses,
     OVER_BABY_BEAR, OVER_F17, OVER_F17X2, OVER_GOLDILOCKS, OVER_Z15, Row,
 };
-use crate::growths::assert_growths;
 use p3_base::field::Field;
 use p3_batch_inverse::batch_inverse::{
     batch_multiplicative_inverse, batch_multiplicative_inverse_general,
@@ -21,6 +20,7 @@ use p3_bench_prime::small::{F17, M15, M17};
 use p3_ext::extension::{BinomialExtensionField, BinomiallyExtendable};
 use p3_ring::ring::PrimeCharacteristicRing;
 use std::alloc::{AllocError, Global};
+use std::cell::Cell;
 use std::process::Abort;
 use std::test::Fail;
 
@@ -52,6 +52,13 @@ fn inverse_or_zero<F: Field>(y: F) -> F {
     }
 }
 
+/// The number of a cell, in which the next one stands afterwards.
+fn next_number<F: Field>(number: &Cell<u64>) -> F {
+    let n = number.get();
+    number.set(n.wrapping_add(1));
+    F::from_u64(n)
+}
+
 /// Whether the call with the row's closure answers what the row says; `Ok(None)` where the row names no
 /// closure.
 fn agrees<F: Field>(alloc: Global, row: Row, generator: F) -> Result<Option<bool>, AllocError> {
@@ -69,6 +76,11 @@ fn agrees<F: Field>(alloc: Global, row: Row, generator: F) -> Result<Option<bool
         "inverse" => {
             batch_multiplicative_inverse_general(&x, &mut res, |y: F| -> F { inverse_or_zero(y) })
         }
+        "counter" => {
+            let number = Cell::new(5);
+            let answer = |_y: F| -> F { next_number(&number) };
+            batch_multiplicative_inverse_general(&x, &mut res, answer)
+        }
         _ => return Ok(None),
     }
     Ok(Some(res.as_slice() == expected.as_slice()))
@@ -85,7 +97,7 @@ fn has_inverse<F: Field>(y: F) -> bool
 }
 
 /// Whether every entry has an inverse.
-pub(crate) fn have_inverses<F: Field>(x: &[F]) -> bool
+fn have_inverses<F: Field>(x: &[F]) -> bool
     ensures { IsTrue result → (d : F) (i : ℕ) → i < length x.now → Invertible F.ops (get_or x.now i d) }
 {
     for i in 0..x.len() {
@@ -149,12 +161,6 @@ trait ExtensionInverses<const D: usize>: Copy {
         rows: &[Row],
         inverses: &[Inverses],
     ) -> Result<(), Fail>;
-
-    /// `assert_growths` at this generator.
-    fn assert_extension_growths(
-        rt: &(impl Abort + AllocGlobal),
-        generator: Self::Value,
-    ) -> Result<(), Fail>;
 }
 
 impl<F: BinomiallyExtendable<D>, const D: usize> ExtensionInverses<D> for F {
@@ -176,13 +182,6 @@ impl<F: BinomiallyExtendable<D>, const D: usize> ExtensionInverses<D> for F {
     ) -> Result<(), Fail> {
         assert_rows(rt, generator, rows, inverses)
     }
-
-    fn assert_extension_growths(
-        rt: &(impl Abort + AllocGlobal),
-        generator: BinomialExtensionField<F, D>,
-    ) -> Result<(), Fail> {
-        assert_growths(rt, generator)
-    }
 }
 
 #[test]
@@ -197,10 +196,4 @@ fn batch_inverses(rt: HostRuntime) -> Result<(), Fail> {
 fn batch_inverses_of_extension_values(rt: HostRuntime) -> Result<(), Fail> {
     let generator = <F17 as ExtensionInverses<2>>::generator();
     <F17 as ExtensionInverses<2>>::assert_extension(&rt, generator, &OVER_F17X2, &INVERSES_F17X2)
-}
-
-#[test]
-fn inverses_of_extension_values_ask_for_memory_once(rt: HostRuntime) -> Result<(), Fail> {
-    let generator = <F17 as ExtensionInverses<2>>::generator();
-    <F17 as ExtensionInverses<2>>::assert_extension_growths(&rt, generator)
 }

@@ -1,15 +1,18 @@
-//! Rows of batch inversion: what the closure answers, the entries and the answers. The first three rows
+//! Rows of batch inversion: what the closure answers, the entries and the answers. The first five rows
 //! over `f17` are worked by hand, all others are outside values.
 
 /// The closure's answer, the entries and the answers. `identity` answers its argument, `zero` zero,
-/// `one` one, and `inverse` the inverse.
+/// `one` one, `inverse` the inverse, and `counter` another value at each call: five, six and so on.
 pub(crate) type Row = (&'static str, &'static str, &'static str);
 
 /// Over `f17`.
-pub(crate) const OVER_F17: [Row; 9] = [
+pub(crate) const OVER_F17: [Row; 12] = [
     ("identity", "2 3", "1 12"),
     ("one", "0 2", "2 0"),
     ("zero", "2 3", "0 0"),
+    ("counter", "2 3", "15 10"),
+    ("counter", "2 3 4", "9 6 13"),
+    ("counter", "", ""),
     ("identity", "", ""),
     ("one", "8 10", "10 8"),
     ("inverse", "16 1 15 1", "16 1 8 1"),

@@ -5,5 +5,3 @@
 mod batch_rows;
 #[cfg(test)]
 mod batch_tables;
-#[cfg(test)]
-mod growths;

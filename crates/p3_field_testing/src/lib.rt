@@ -1,14 +1,11 @@
-//! Tests of rings and prime fields: worked rows and outside values as tables, and calls whose
-//! growths are refused. The allocator that refuses them, and what reads lines of tables, are open to the
-//! tests of other crates.
+//! Tests of rings and prime fields: worked rows and outside values as tables. An allocator that refuses
+//! growths, and what reads lines of tables, are open to the tests of other crates.
 #![tactic(auto)]
 
 #[cfg(test)]
 mod byte_streams;
 #[cfg(test)]
 mod cosets;
-#[cfg(test)]
-mod growths;
 #[cfg(test)]
 mod prime_tables;
 #[cfg(test)]

@@ -78,13 +78,13 @@ bb 8 collect: 31|2|129|0,1,7,8,14,15,16,31,32,63,64,98,99,127,128 = 129|2 62 667
 /// Growths of lists of powers: the base, the start and the lengths; the growths that a list of each length
 /// asks for.
 pub(crate) const POWER_GROWTHS: &str = "
-f17 1 growths of collect: 3|2|0,1,15,16,64,65 = 0,1,1,2,2,2
-f17 4 growths of collect: 3|2|0,1,15,16,64,65 = 0,1,1,2,2,2
-f17 8 growths of collect: 3|2|0,1,15,16,64,65 = 0,1,1,2,2,2
-bb 1 growths of collect: 3|2|0,1,15,16,64,65 = 0,1,1,2,2,2
-bb 4 growths of collect: 3|2|0,1,15,16,64,65 = 0,1,1,2,2,2
-bb 8 growths of collect: 3|2|0,1,15,16,64,65 = 0,1,1,2,2,2
-f17 3 growths of collect: 3|2|0,15,16,17,64,65,100 = 0,1,2,2,2,2,2
-f17 16 growths of collect: 3|2|0,15,16,17,64,65,100 = 0,1,2,2,2,2,2
-gl 4 growths of collect: 7|5|0,15,16,65 = 0,1,2,2
+f17 1 growths of collect: 3|2|0,1,2,9,15,16,17,64,65,100,1025 = 0,1,1,1,1,2,2,2,2,2,2
+f17 4 growths of collect: 3|2|0,1,2,9,15,16,17,64,65,100,1025 = 0,1,1,1,1,2,2,2,2,2,2
+f17 8 growths of collect: 3|2|0,1,2,9,15,16,17,64,65,100,1025 = 0,1,1,1,1,2,2,2,2,2,2
+bb 1 growths of collect: 3|2|0,1,2,9,15,16,17,64,65,100,1025 = 0,1,1,1,1,2,2,2,2,2,2
+bb 4 growths of collect: 3|2|0,1,2,9,15,16,17,64,65,100,1025 = 0,1,1,1,1,2,2,2,2,2,2
+bb 8 growths of collect: 3|2|0,1,2,9,15,16,17,64,65,100,1025 = 0,1,1,1,1,2,2,2,2,2,2
+f17 3 growths of collect: 3|2|0,1,2,9,15,16,17,64,65,100,1025 = 0,1,1,1,1,2,2,2,2,2,2
+f17 16 growths of collect: 3|2|0,1,2,9,15,16,17,64,65,100,1025 = 0,1,1,1,1,2,2,2,2,2,2
+gl 4 growths of collect: 7|5|0,1,2,9,15,16,17,65,100,1025 = 0,1,1,1,1,2,2,2,2,2
 ";

@@ -1,9 +1,6 @@
-//! Tests of limbs and their limits: worked rows and outside values, and calls whose growths are
-//! refused.
+//! Tests of limbs and their limits: worked rows and outside values.
 #![tactic(auto)]
 
-#[cfg(test)]
-mod growths;
 #[cfg(test)]
 mod limb_rows;
 #[cfg(test)]
