@@ -1,0 +1,6 @@
+pub mod ListSteps
+pub mod Indices
+pub mod Steps
+pub mod PartValues
+pub mod PointSquares
+pub mod VectorValues
