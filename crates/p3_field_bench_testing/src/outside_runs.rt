@@ -6,8 +6,8 @@ mod root_runs;
 mod septic_runs;
 mod vector_runs;
 
-use crate::worked_runs::Run;
 use p3_field_bench::{MemSink, MemSource, engine};
+use p3_stream_testing::worked_runs::Run;
 use root_runs::ROOTS;
 use septic_runs::SEPTICS;
 use std::process::Abort;

@@ -8,11 +8,21 @@ use std::test::Fail;
 
 /// Gives its bytes in pieces, and fails at the call of one number and at no other.
 #[derive(Drop)]
-struct FailsOnce<'a> {
+pub struct FailsOnce<'a> {
     bytes: &'a [u8],
     piece: usize,
-    calls: usize,
+    pub calls: usize,
     failing: usize,
+}
+
+/// A reader that gives these bytes, so many at once, and fails at this call.
+pub fn reader(bytes: &[u8], piece: usize, failing: usize) -> FailsOnce<'_> {
+    FailsOnce {
+        bytes,
+        piece,
+        calls: 0,
+        failing,
+    }
 }
 
 impl<'a> Read for FailsOnce<'a> {
@@ -29,21 +39,34 @@ impl<'a> Read for FailsOnce<'a> {
     }
 }
 
-/// Takes bytes in pieces and keeps them, and fails at the call of one number and at no other.
-#[derive(Drop)]
-struct TakesOnce {
-    taken: Vec<u8>,
-    piece: usize,
-    calls: usize,
-    failing: usize,
+/// How a call of a writer refuses bytes.
+#[derive(Clone, Copy, Debug, PartialEq, Eq, Drop)]
+pub enum Refusal {
+    /// It fails.
+    Error,
+    /// It takes none of them.
+    NoBytes,
 }
 
-impl Write for TakesOnce {
+/// Takes bytes in pieces and keeps them, and refuses them at the call of one number and at no other.
+#[derive(Drop)]
+pub struct RefusesOnce {
+    pub taken: Vec<u8>,
+    piece: usize,
+    pub calls: usize,
+    failing: usize,
+    refusal: Refusal,
+}
+
+impl Write for RefusesOnce {
     fn write(&mut self, bytes: &[u8]) -> io::Result<usize> {
         let call = self.calls;
         self.calls = call.saturating_add(1);
         if call == self.failing {
-            return Err(io::ErrorKind::Other.into());
+            return match self.refusal {
+                Refusal::Error => Err(io::ErrorKind::Other.into()),
+                Refusal::NoBytes => Ok(0),
+            };
         }
         let count = self.piece.min(bytes.len());
         self.taken.extend_from_slice(&bytes[..count])?;
@@ -55,13 +78,14 @@ impl Write for TakesOnce {
     }
 }
 
-/// A writer that takes so many bytes at once, and fails at this call.
-fn writer(alloc: Global, piece: usize, failing: usize) -> TakesOnce {
-    TakesOnce {
+/// A writer that takes so many bytes at once, and refuses them at this call.
+pub fn writer(alloc: Global, piece: usize, failing: usize, refusal: Refusal) -> RefusesOnce {
+    RefusesOnce {
         taken: Vec::new(alloc),
         piece,
         calls: 0,
         failing,
+        refusal,
     }
 }
 
@@ -82,13 +106,8 @@ fn no_read_after_a_failed_one(rt: HostRuntime) -> Result<(), Fail> {
         (33, "0\n5\n"),
     ];
     for (failing, text) in rows {
-        let mut reader = FailsOnce {
-            bytes: LINES,
-            piece: 1,
-            calls: 0,
-            failing,
-        };
-        let mut written = writer(rt.alloc(), 1000, usize::MAX);
+        let mut reader = reader(LINES, 1, failing);
+        let mut written = writer(rt.alloc(), 1000, usize::MAX, Refusal::Error);
         let status = engine(
             rt.alloc(),
             &mut StdSource::new(&mut reader),
@@ -110,7 +129,7 @@ fn no_read_after_a_failed_one(rt: HostRuntime) -> Result<(), Fail> {
 fn no_write_after_a_failed_one(rt: HostRuntime) -> Result<(), Fail> {
     let rows = [(0usize, ""), (1, "0"), (2, "0\n"), (3, "0\n5")];
     for (failing, text) in rows {
-        let mut written = writer(rt.alloc(), 1, failing);
+        let mut written = writer(rt.alloc(), 1, failing, Refusal::Error);
         let status = engine(
             rt.alloc(),
             &mut StdSource::new(LINES),
@@ -131,7 +150,7 @@ fn long_input_and_text(rt: HostRuntime) -> Result<(), Fail> {
     for _ in 0..30_000 {
         input.extend_from_slice(b"show 0\n")?;
     }
-    let mut written = writer(rt.alloc(), 1_000_000, usize::MAX);
+    let mut written = writer(rt.alloc(), 1_000_000, usize::MAX, Refusal::Error);
     let status = engine(
         rt.alloc(),
         &mut StdSource::new(input.as_slice()),

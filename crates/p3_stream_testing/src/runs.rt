@@ -2,8 +2,7 @@
 
 use crate::example_runs::EXAMPLE_FILES;
 use crate::worked_runs::{EXAMPLES, FAULTS, INVERSES, LINES, Run, WITHOUT_A_FIELD};
-use p3_field_bench::{MemSink, MemSource, engine, engine_in};
-use p3_field_testing::refusing::Refusing;
+use p3_field_bench::{MemSink, MemSource, engine};
 use std::process::Abort;
 use std::test::Fail;
 
@@ -105,38 +104,5 @@ fn a_write_fails(rt: HostRuntime) -> Result<(), Fail> {
             assert_eq!(rt; sink.text(), text.as_bytes());
         }
     }
-    Ok(())
-}
-
-#[test]
-fn refused_growths(rt: HostRuntime) -> Result<(), Fail> {
-    let input = "field f17x2\nshow 0\n";
-    for passing in 0..9u64 {
-        let heap = Refusing::after(rt.alloc(), passing);
-        let mut source = MemSource::new(input.as_bytes().to_vec(rt.alloc())?, 7, None);
-        let mut sink = MemSink::new(rt.alloc(), 100, true)?;
-        let answer = engine_in(&heap, &mut source, &mut sink);
-        assert_eq!(rt; heap.blocks(), 0);
-        if heap.growths() <= passing {
-            assert_eq!(rt; answer, 0);
-            assert_eq!(rt; sink.text(), b"0\n".as_slice());
-            assert_ne!(rt; passing, 0);
-            return Ok(());
-        }
-        assert_eq!(rt; answer, 1);
-        assert_eq!(rt; sink.text(), b"line 2: fault 8\n".as_slice());
-    }
-    panic!(rt; "a text of one digit takes more than eight growths")
-}
-
-#[test]
-fn a_refused_growth_of_a_prime_field(rt: HostRuntime) -> Result<(), Fail> {
-    let heap = Refusing::after(rt.alloc(), 0);
-    let mut source = MemSource::new(b"field f17\nshow 0\n".to_vec(rt.alloc())?, 7, None);
-    let mut sink = MemSink::new(rt.alloc(), 100, true)?;
-    let answer = engine_in(&heap, &mut source, &mut sink);
-    assert_eq!(rt; answer, 1);
-    assert_eq!(rt; sink.text(), b"line 2: fault 8\n".as_slice());
-    assert_eq!(rt; heap.blocks(), 0);
     Ok(())
 }
