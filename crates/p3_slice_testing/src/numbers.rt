@@ -6,6 +6,15 @@ use std::alloc::{AllocError, Global};
 /// The greatest length that is tried.
 pub(crate) const GREATEST_LENGTH: usize = 17;
 
+/// The order of the field of 17 elements.
+pub(crate) const ORDER_17: u64 = 17;
+
+/// The order of BabyBear.
+pub(crate) const BABY_BEAR_ORDER: u64 = 2_013_265_921;
+
+/// The order of Goldilocks.
+pub(crate) const GOLDILOCKS_ORDER: u64 = 18_446_744_069_414_584_321;
+
 /// `x * y + z` modulo the order.
 pub(crate) fn residue(x: u64, y: u64, z: u64, order: u64) -> u64 {
     let product = (x as u128).wrapping_mul(y as u128);

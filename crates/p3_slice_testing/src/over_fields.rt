@@ -2,6 +2,7 @@
 use crate::blocks::assert_blocks;
 use crate::columns::assert_columns;
 use crate::inverses::{assert_inverses, assert_packed_inverses};
+use crate::numbers::{BABY_BEAR_ORDER, GOLDILOCKS_ORDER, ORDER_17};
 use crate::slices::assert_slices;
 use p3_array::array::FieldArray;
 use p3_base::field::PrimeField64;
@@ -16,13 +17,6 @@ use p3_bench_prime::montgomery::Montgomery;
 use p3_bench_prime::small::M17;
 use std::process::Abort;
 use std::test::Fail;
-
-/// The orders of the fields.
-const ORDER_17: u64 = 17;
-
-const BABY_BEAR_ORDER: u64 = 2_013_265_921;
-
-const GOLDILOCKS_ORDER: u64 = 18_446_744_069_414_584_321;
 
 /// Asserts the calls by packings P, which have so many lanes.
 fn assert_by_packings<F: PrimeField64, P: PackedField<F>>(

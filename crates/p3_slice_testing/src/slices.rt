@@ -1,7 +1,9 @@
 //! Slices that are scaled and added.
 ghost use Rattle.std.specs.Prelude.{◌≡◌, length};
 
-use crate::numbers::{GREATEST_LENGTH, number, residue, values};
+use crate::numbers::{
+    BABY_BEAR_ORDER, GOLDILOCKS_ORDER, GREATEST_LENGTH, ORDER_17, number, residue, values,
+};
 use p3_base::field::{Field, PrimeField64};
 use p3_base::packed_traits::PackedField;
 use p3_tools::helpers::{
@@ -34,9 +36,12 @@ const CALLS: [Call; 6] = [
     Call::AddEntries,
 ];
 
+/// The product of the small orders, whose residue is zero modulo each of them.
+const ORDERS: u64 = ORDER_17 * BABY_BEAR_ORDER;
+
 /// The steps of the slice, of the other slice and of the factor: the greatest residues, small steps, steps
-/// that spread the residues of large orders, and a factor that is zero or one.
-const STEPS: [(u64, u64, u64); 5] = [
+/// that spread the residues of large orders, and factors that are zero or one.
+const STEPS: [(u64, u64, u64); 6] = [
     (0, 0, 0),
     (5, 11, 3),
     (
@@ -44,7 +49,8 @@ const STEPS: [(u64, u64, u64); 5] = [
         0xC2B2_AE3D_27D4_EB4F,
         0x1656_67B1_9E37_79F9,
     ),
-    (3, 0, 0xFFFF_FFFF_0000_0001),
+    (3, 0, ORDERS),
+    (3, 0, GOLDILOCKS_ORDER),
     (3, 0, 1),
 ];
 
