@@ -158,13 +158,12 @@ fn assert_scales<F: PrimeField64, P: PackedField<F>, const N: usize>(
     Ok(())
 }
 
-/// Asserts that products with one, two, three and four scales are added column by column.
+/// Asserts that products with one, two and three scales are added column by column.
 pub(crate) fn assert_columns<F: PrimeField64, P: PackedField<F>>(
     rt: &(impl Abort + AllocGlobal),
     order: u64,
 ) -> Result<(), Fail> {
     assert_scales::<F, P, 1>(rt, order)?;
     assert_scales::<F, P, 2>(rt, order)?;
-    assert_scales::<F, P, 3>(rt, order)?;
-    assert_scales::<F, P, 4>(rt, order)
+    assert_scales::<F, P, 3>(rt, order)
 }
