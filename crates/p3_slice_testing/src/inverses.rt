@@ -1,0 +1,151 @@
+//! Lists that are inverted at once, of values and of packings.
+ghost use Rattle.std.specs.Prelude.{◌<◌, ℕ, length, get_or, IsTrue};
+ghost use Rattle.p3_theory.specs.Rings.Ring.{Invertible};
+
+use crate::numbers::{GREATEST_LENGTH, number, place, residue};
+use p3_base::field::{Field, PrimeField64};
+use p3_base::packed_traits::{PackedField, PackedValue};
+use p3_batch_inverse::batch_inverse::{
+    batch_multiplicative_inverse, batch_multiplicative_inverse_general,
+};
+use p3_ring::ring::PrimeCharacteristicRing;
+use std::alloc::{AllocError, Global};
+use std::process::Abort;
+use std::test::Fail;
+
+/// The number from one to the order less one at an index of the list to be inverted.
+fn unit(i: usize, order: u64) -> u64 {
+    number(i, 1_000_003, order.wrapping_sub(1)).wrapping_add(1)
+}
+
+/// Whether a value times the number at an index is one.
+fn is_inverse<F: PrimeField64>(value: F, i: usize, order: u64) -> bool {
+    residue(value.as_canonical_u64(), unit(i, order), 0, order) == 1
+}
+
+/// Whether a value has an inverse.
+fn has_inverse<F: Field>(y: F) -> bool
+    ensures { IsTrue result → Invertible F.ops y }
+{
+    match y.try_inverse() {
+        Some(_) => true,
+        None => false,
+    }
+}
+
+/// Whether every entry has an inverse.
+fn have_inverses<F: Field>(x: &[F]) -> bool
+    ensures { IsTrue result → (d : F) (i : ℕ) → i < length x.now → Invertible F.ops (get_or x.now i d) }
+{
+    for i in 0..x.len() {
+        if !has_inverse(x[i]) {
+            return false;
+        }
+    }
+    true
+}
+
+/// Whether a list of so many values is inverted.
+fn inverts<F: PrimeField64>(alloc: Global, length: usize, order: u64) -> Result<bool, AllocError> {
+    let mut x: Vec<F> = Vec::new(alloc);
+    for i in 0..length {
+        x.push(F::from_u64(unit(i, order)))?;
+    }
+    if !have_inverses(&x) {
+        return Ok(false);
+    }
+    let inverses = batch_multiplicative_inverse(alloc, &x)?;
+    for i in 0..inverses.len() {
+        if !is_inverse(inverses[i], i, order) {
+            return Ok(false);
+        }
+    }
+    Ok(inverses.len() == length)
+}
+
+/// The packing of the inverses of the lanes, zero where a lane has none.
+fn lane_inverses<F: Field, P: PackedField<F>>(packing: P) -> P {
+    P::from_fn(
+        |lane: usize| -> F
+            requires { lane < P.WIDTH }
+        {
+            let value = packing.extract(lane);
+            value.try_inverse().unwrap_or(F::zero())
+        },
+    )
+}
+
+/// The packings of the list to be inverted.
+fn units<F: PrimeField64, P: PackedField<F>>(
+    alloc: Global,
+    length: usize,
+    order: u64,
+) -> Result<Vec<P>, AllocError> {
+    let mut x = Vec::new(alloc);
+    for i in 0..length {
+        x.push(P::from_fn(|lane: usize| -> F {
+            F::from_u64(unit(place(i, lane, P::WIDTH), order))
+        }))?;
+    }
+    Ok(x)
+}
+
+/// Whether each lane of the packing at an index has its inverse.
+fn are_inverses<F: PrimeField64, P: PackedField<F>>(packing: P, i: usize, order: u64) -> bool {
+    for lane in 0..P::WIDTH {
+        if !is_inverse(packing.extract(lane), place(i, lane, P::WIDTH), order) {
+            return false;
+        }
+    }
+    true
+}
+
+/// Whether a list of so many packings is inverted, lane by lane, by the inverses of one packing.
+fn inverts_packings<F: PrimeField64, P: PackedField<F>>(
+    alloc: Global,
+    length: usize,
+    order: u64,
+) -> Result<bool, AllocError> {
+    let x: Vec<P> = units::<F, P>(alloc, length, order)?;
+    let mut inverses = P::zero_vec(alloc, length)?;
+    if x.len() != length || inverses.len() != x.len() {
+        return Ok(false);
+    }
+    batch_multiplicative_inverse_general(&x, &mut inverses, |y: P| -> P {
+        lane_inverses::<F, P>(y)
+    });
+    for i in 0..inverses.len() {
+        if !are_inverses::<F, P>(inverses[i], i, order) {
+            return Ok(false);
+        }
+    }
+    Ok(true)
+}
+
+/// Asserts that lists of values of every length are inverted.
+pub(crate) fn assert_inverses<F: PrimeField64>(
+    rt: &(impl Abort + AllocGlobal),
+    order: u64,
+) -> Result<(), Fail> {
+    for length in 0..=GREATEST_LENGTH {
+        assert!(rt;
+            inverts::<F>(rt.alloc(), length, order)?,
+            "{length} {order}"
+        );
+    }
+    Ok(())
+}
+
+/// Asserts that lists of packings of every length are inverted.
+pub(crate) fn assert_packed_inverses<F: PrimeField64, P: PackedField<F>>(
+    rt: &(impl Abort + AllocGlobal),
+    order: u64,
+) -> Result<(), Fail> {
+    for length in 0..=GREATEST_LENGTH {
+        assert!(rt;
+            inverts_packings::<F, P>(rt.alloc(), length, order)?,
+            "{length} {order}"
+        );
+    }
+    Ok(())
+}

@@ -1,0 +1,120 @@
+//! Slices that are scaled and added.
+ghost use Rattle.std.specs.Prelude.{◌≡◌, length};
+
+use crate::numbers::{
+    BABY_BEAR_ORDER, GOLDILOCKS_ORDER, GREATEST_LENGTH, ORDER_17, number, residue, values,
+};
+use p3_base::field::{Field, PrimeField64};
+use p3_base::packed_traits::PackedField;
+use p3_tools::helpers::{
+    add_scaled_slice_in_place, add_slices, par_add_scaled_slice_in_place, par_scale_slice_in_place,
+    scale_slice_in_place_single_core,
+};
+use std::alloc::{AllocError, Global};
+use std::process::Abort;
+use std::test::Fail;
+
+/// A call that changes a slice.
+#[derive(Clone, Copy, Debug)]
+enum Call {
+    Scale,
+    ParScale,
+    AddScaled,
+    ParAddScaled,
+    Add,
+    /// The method of the field, which goes entry by entry.
+    AddEntries,
+}
+
+/// The calls.
+const CALLS: [Call; 6] = [
+    Call::Scale,
+    Call::ParScale,
+    Call::AddScaled,
+    Call::ParAddScaled,
+    Call::Add,
+    Call::AddEntries,
+];
+
+/// The product of the small orders, whose residue is zero modulo each of them.
+const ORDERS: u64 = ORDER_17 * BABY_BEAR_ORDER;
+
+/// The steps of the slice, of the other slice and of the factor: the greatest residues, small steps, steps
+/// that spread the residues of large orders, and factors that are zero or one.
+const STEPS: [(u64, u64, u64); 6] = [
+    (0, 0, 0),
+    (5, 11, 3),
+    (
+        0x9E37_79B9_7F4A_7C15,
+        0xC2B2_AE3D_27D4_EB4F,
+        0x1656_67B1_9E37_79F9,
+    ),
+    (3, 0, ORDERS),
+    (3, 0, GOLDILOCKS_ORDER),
+    (3, 0, 1),
+];
+
+/// Changes the slice by a call.
+fn change<F: Field, P: PackedField<F>>(call: Call, slice: &mut [F], other: &[F], factor: F)
+    requires { length slice.old ≡ length other.now }
+{
+    match call {
+        Call::Scale => scale_slice_in_place_single_core::<F, P>(slice, factor),
+        Call::ParScale => par_scale_slice_in_place::<F, P>(slice, factor),
+        Call::AddScaled => add_scaled_slice_in_place::<F, P>(slice, other, factor),
+        Call::ParAddScaled => par_add_scaled_slice_in_place::<F, P>(slice, other, factor),
+        Call::Add => add_slices::<F, P>(slice, other),
+        Call::AddEntries => F::add_slices(slice, other),
+    }
+}
+
+/// What a call makes of a number beside one of the other slice.
+fn changed(call: Call, x: u64, y: u64, factor: u64, order: u64) -> u64 {
+    match call {
+        Call::Scale | Call::ParScale => residue(x, factor, 0, order),
+        Call::AddScaled | Call::ParAddScaled => residue(y, factor, x, order),
+        Call::Add | Call::AddEntries => residue(x, 1, y, order),
+    }
+}
+
+/// Whether a call makes of a slice of so many entries what it makes of their numbers.
+fn agrees<F: PrimeField64, P: PackedField<F>>(
+    alloc: Global,
+    call: Call,
+    length: usize,
+    steps: (u64, u64, u64),
+    order: u64,
+) -> Result<bool, AllocError> {
+    let factor = number(0, steps.2, order);
+    let mut slice: Vec<F> = values(alloc, length, steps.0, order)?;
+    let other: Vec<F> = values(alloc, length, steps.1, order)?;
+    if slice.len() != length || other.len() != slice.len() {
+        return Ok(false);
+    }
+    change::<F, P>(call, &mut slice, &other, F::from_u64(factor));
+    for i in 0..slice.len() {
+        let (x, y) = (number(i, steps.0, order), number(i, steps.1, order));
+        if slice[i].as_canonical_u64() != changed(call, x, y, factor, order) {
+            return Ok(false);
+        }
+    }
+    Ok(slice.len() == length)
+}
+
+/// Asserts that each call changes slices of every length as plain loops on numbers do.
+pub(crate) fn assert_slices<F: PrimeField64, P: PackedField<F>>(
+    rt: &(impl Abort + AllocGlobal),
+    order: u64,
+) -> Result<(), Fail> {
+    for call in CALLS {
+        for length in 0..=GREATEST_LENGTH {
+            for steps in STEPS {
+                assert!(rt;
+                    agrees::<F, P>(rt.alloc(), call, length, steps, order)?,
+                    "{call:?} {length} {order}"
+                );
+            }
+        }
+    }
+    Ok(())
+}
