@@ -2,6 +2,16 @@
 //! have no inverse.
 #![tactic(auto)]
 
+#[cfg(test)]
+mod extensions;
+#[cfg(test)]
+mod markers;
+#[cfg(test)]
+mod polynomials;
 pub mod residues;
 #[cfg(test)]
 mod searches;
+#[cfg(test)]
+mod tables;
+#[cfg(test)]
+mod values;
