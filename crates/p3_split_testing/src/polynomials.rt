@@ -3,6 +3,7 @@
 
 /// The product of `X - root` over D residues modulo an order.
 pub(crate) struct SplitPolynomial<const D: usize> {
+    /// The order of the residues.
     pub order: u64,
     /// The coefficients of the remainder of X^D.
     pub remainder: [u64; D],
@@ -119,10 +120,12 @@ pub(crate) fn row_of<const D: usize>(number: u64) -> [u64; D] {
 /// Numbers that look random: a linear congruence modulo 2^64, of which the upper half is read.
 #[derive(Drop)]
 pub(crate) struct Samples {
+    /// The number that was drawn last, or the one to begin with.
     pub state: u64,
 }
 
 impl Samples {
+    /// The upper half of the next number.
     fn next(&mut self) -> u64 {
         self.state = self
             .state

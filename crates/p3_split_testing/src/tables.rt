@@ -4,6 +4,7 @@ use crate::polynomials::SplitPolynomial;
 
 /// What is asserted of one extension.
 pub(crate) struct Table<const D: usize> {
+    /// The polynomial, and the order of the residues.
     pub polynomial: SplitPolynomial<D>,
     /// A value and its inverse, if it has one.
     pub inverses: &'static [([u64; D], Option<[u64; D]>)],

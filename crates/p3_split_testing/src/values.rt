@@ -1,4 +1,6 @@
 //! Extension values by rows of canonical coefficients, from X^0 upward, and the calls that take inverses.
+ghost use Rattle.p3_runs.specs.FieldRuns.{OrdersGiven};
+
 use p3_base::field::{Field, PrimeField64};
 use p3_bench_prime::form::{Form, Word};
 use p3_bench_prime::fp::Fp;
@@ -8,6 +10,7 @@ use p3_runs::steps::{FieldStep, StepRefused, run_field_steps, steps_fit};
 /// A residue's canonical number alone: `PrimeField64` has all integer maps among its bounds, which each call
 /// at a type's own name would pass.
 pub trait Canonical: Copy {
+    /// The canonical number.
     fn canonical(self) -> u64;
 }
 
@@ -40,7 +43,7 @@ pub trait Value: Copy {
     /// The quotient, where the divisor has an inverse.
     fn quotient(self, divisor: Self) -> Option<Self>;
 
-    /// Runs the steps, and tells which is refused; none where they don't fit the registers.
+    /// What the run of `STEPS` answers; none where they don't fit the registers.
     fn run(registers: &mut [Self]) -> Option<Result<(), StepRefused>>;
 }
 
@@ -52,6 +55,17 @@ const STEPS: [FieldStep; 4] = [
     FieldStep::Inv { d: 0, a: 2 },
     FieldStep::Square { d: 2, a: 2 },
 ];
+
+/// What a run answers, where its steps fit the registers.
+fn field_run<F: Field>(registers: &mut [F], steps: &[FieldStep]) -> Option<Result<(), StepRefused>>
+    requires { OrdersGiven F.size steps.now }
+{
+    if steps_fit(steps, registers.len()) {
+        Some(run_field_steps(registers, steps))
+    } else {
+        None
+    }
+}
 
 impl<F: FrobeniusExtendable<D, S> + Canonical, const D: usize, S: ExtensionShape> Value
     for ExtField<F, D, S, F> {
@@ -97,10 +111,6 @@ impl<F: FrobeniusExtendable<D, S> + Canonical, const D: usize, S: ExtensionShape
     }
 
     fn run(registers: &mut [Self]) -> Option<Result<(), StepRefused>> {
-        if steps_fit(&STEPS, registers.len()) {
-            Some(run_field_steps(registers, &STEPS))
-        } else {
-            None
-        }
+        field_run(registers, &STEPS)
     }
 }
