@@ -45,16 +45,23 @@ fn have_inverses<F: Field>(x: &[F]) -> bool
     true
 }
 
+/// The inverses of a list; `Ok(None)` where an entry has none.
+fn inverses<F: Field>(alloc: Global, x: &[F]) -> Result<Option<Vec<F>>, AllocError> {
+    if !have_inverses(x) {
+        return Ok(None);
+    }
+    Ok(Some(batch_multiplicative_inverse(alloc, x)?))
+}
+
 /// Whether a list of so many values is inverted.
 fn inverts<F: PrimeField64>(alloc: Global, length: usize, order: u64) -> Result<bool, AllocError> {
     let mut x: Vec<F> = Vec::new(alloc);
     for i in 0..length {
         x.push(F::from_u64(unit(i, order)))?;
     }
-    if !have_inverses(&x) {
+    let Some(inverses) = inverses::<F>(alloc, &x)? else {
         return Ok(false);
-    }
-    let inverses = batch_multiplicative_inverse(alloc, &x)?;
+    };
     for i in 0..inverses.len() {
         if !is_inverse(inverses[i], i, order) {
             return Ok(false);
@@ -73,6 +80,22 @@ fn lane_inverses<F: Field, P: PackedField<F>>(packing: P) -> P {
             value.try_inverse().unwrap_or(F::zero())
         },
     )
+}
+
+/// The product of all entries.
+fn product<R: PrimeCharacteristicRing>(x: &[R]) -> R {
+    let mut product = R::one();
+    for i in 0..x.len() {
+        product *= x[i];
+    }
+    product
+}
+
+/// Writes the inverses of a list, told that of its product; nothing where the lists differ in length.
+fn write_inverses<R: PrimeCharacteristicRing>(x: &[R], inverses: &mut [R], of_product: R) {
+    if inverses.len() == x.len() {
+        batch_multiplicative_inverse_general(x, inverses, |_y: R| -> R { of_product });
+    }
 }
 
 /// The packings of the list to be inverted.
@@ -108,18 +131,14 @@ fn inverts_packings<F: PrimeField64, P: PackedField<F>>(
 ) -> Result<bool, AllocError> {
     let x: Vec<P> = units::<F, P>(alloc, length, order)?;
     let mut inverses = P::zero_vec(alloc, length)?;
-    if x.len() != length || inverses.len() != x.len() {
-        return Ok(false);
-    }
-    batch_multiplicative_inverse_general(&x, &mut inverses, |y: P| -> P {
-        lane_inverses::<F, P>(y)
-    });
+    let of_product = lane_inverses::<F, P>(product(&x));
+    write_inverses(&x, &mut inverses, of_product);
     for i in 0..inverses.len() {
         if !are_inverses::<F, P>(inverses[i], i, order) {
             return Ok(false);
         }
     }
-    Ok(true)
+    Ok(inverses.len() == length)
 }
 
 /// Asserts that lists of values of every length are inverted.
