@@ -4,13 +4,13 @@
 #![tactic(auto)]
 
 pub mod example_runs;
+#[cfg(test)]
+mod failing_streams;
 pub mod lines;
 #[cfg(test)]
 mod reads;
 #[cfg(test)]
 mod runs;
-#[cfg(test)]
-mod standard_streams;
 pub mod worked_runs;
 #[cfg(test)]
 mod writes;

@@ -4,10 +4,10 @@
 ghost use Rattle.std.specs.Prelude.{◌<◌};
 
 use crate::example_runs::EXAMPLE_FILES;
+use crate::failing_streams::reader;
 use crate::lines::{cut_text, ended_lines, fault_line, line_end, shows};
-use crate::standard_streams::reader;
 use crate::worked_runs::{EXAMPLES, FAULTS, INVERSES, LINES, Run, WITHOUT_A_FIELD};
-use p3_field_bench::{MemSink, StdSource, engine};
+use p3_field_bench::{MemSink, MemSource, StdSource, engine};
 use std::alloc::{AllocError, Global};
 use std::process::Abort;
 use std::test::Fail;
@@ -108,6 +108,49 @@ fn spaces_before_a_failed_read(rt: HostRuntime) -> Result<(), Fail> {
             let reads = if is_long { given } else { given + 1 };
             assert_run(&rt, &bytes[..count], piece, given, (text, 1, reads))?;
         }
+    }
+    Ok(())
+}
+
+/// A read that fails ends the run, though the reader would go on.
+#[test]
+fn no_read_after_a_failed_one(rt: HostRuntime) -> Result<(), Fail> {
+    let input = b"field f17\nshow 0\nput 1 5\nshow 1\n";
+    let rows = [
+        (0usize, "line 1: fault 9\n"),
+        (9, "line 1: fault 9\n"),
+        (10, "line 2: fault 9\n"),
+        (17, "0\nline 3: fault 9\n"),
+        (31, "0\nline 4: fault 9\n"),
+        (32, "0\n5\nline 5: fault 9\n"),
+    ];
+    for (failing, text) in rows {
+        assert_run(&rt, input, 1, failing, (text, 1, failing + 1))?;
+    }
+    assert_run(&rt, input, 1, 33, ("0\n5\n", 0, 33))
+}
+
+/// A source in memory that fails after so many reads.
+#[test]
+fn a_source_in_memory_fails(rt: HostRuntime) -> Result<(), Fail> {
+    let inverse_of_zero = "field f17x2\nshow 0\ninv 0 0\n";
+    let ends_in_a_line = "field f17\nput 0 3\nshow 0\nput 1";
+    let rows = [
+        (inverse_of_zero, 6usize, 0usize, "line 1: fault 9\n"),
+        (inverse_of_zero, 6, 1, "line 1: fault 9\n"),
+        (inverse_of_zero, 6, 2, "line 2: fault 9\n"),
+        (inverse_of_zero, 6, 4, "0\nline 3: fault 9\n"),
+        (inverse_of_zero, 6, 5, "0\nline 3: fault 5\n"),
+        (ends_in_a_line, 30, 1, "3\nline 4: fault 9\n"),
+        (ends_in_a_line, 6, 5, "3\nline 4: fault 9\n"),
+        (ends_in_a_line, 1, 30, "3\nline 4: fault 9\n"),
+    ];
+    for (input, piece, reads, text) in rows {
+        let mut source = MemSource::new(input.as_bytes().to_vec(rt.alloc())?, piece, Some(reads));
+        let mut sink = MemSink::new(rt.alloc(), 100, true)?;
+        let answer = engine(rt.alloc(), &mut source, &mut sink);
+        assert_eq!(rt; answer, 1, "{text}");
+        assert_eq!(rt; sink.text(), text.as_bytes());
     }
     Ok(())
 }
