@@ -1,7 +1,7 @@
 //! Packings that are read from the groups of a slice and written there.
 ghost use Rattle.std.specs.Prelude.{◌≤◌, ◌+◌, ◌*◌, IfSome};
 
-use crate::numbers::{GREATEST_LENGTH, number, place, values};
+use crate::numbers::{GREATEST_LENGTH, number, packing, place, values};
 use p3_base::field::{Field, PrimeField64};
 use p3_base::packed_traits::{PackedField, PackedValue};
 use std::alloc::{AllocError, Global};
@@ -66,14 +66,14 @@ fn agrees<F: PrimeField64, P: PackedField<F>>(
     group: usize,
     order: u64,
 ) -> Result<bool, AllocError> {
-    let packing = P::from_fn(|lane: usize| -> F { F::from_u64(number(lane, PACKING, order)) });
+    let block: P = packing::<F, P>(0, PACKING, order);
     let mut slice: Vec<F> = values(alloc, length, SLICE, order)?;
     let Some(i) = group_within::<F, P>(slice.len(), group) else {
         return Ok(false);
     };
     let start = place(i, 0, P::WIDTH);
     let before = P::load_block(&slice, i);
-    packing.store_block(&mut slice, i);
+    block.store_block(&mut slice, i);
     Ok(
         slice.len() == length
             && has_lanes::<F, P>(&before, start, SLICE, order)

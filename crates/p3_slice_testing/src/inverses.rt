@@ -1,14 +1,10 @@
-//! Lists that are inverted at once, of values and of packings.
+//! Lists that are inverted at once.
 ghost use Rattle.std.specs.Prelude.{◌<◌, ℕ, length, get_or, IsTrue};
 ghost use Rattle.p3_theory.specs.Rings.Ring.{Invertible};
 
-use crate::numbers::{GREATEST_LENGTH, number, place, residue};
+use crate::numbers::{GREATEST_LENGTH, number, residue};
 use p3_base::field::{Field, PrimeField64};
-use p3_base::packed_traits::{PackedField, PackedValue};
-use p3_batch_inverse::batch_inverse::{
-    batch_multiplicative_inverse, batch_multiplicative_inverse_general,
-};
-use p3_ring::ring::PrimeCharacteristicRing;
+use p3_batch_inverse::batch_inverse::batch_multiplicative_inverse;
 use std::alloc::{AllocError, Global};
 use std::process::Abort;
 use std::test::Fail;
@@ -70,78 +66,7 @@ fn inverts<F: PrimeField64>(alloc: Global, length: usize, order: u64) -> Result<
     Ok(inverses.len() == length)
 }
 
-/// The packing of the inverses of the lanes, zero where a lane has none.
-fn lane_inverses<F: Field, P: PackedField<F>>(packing: P) -> P {
-    P::from_fn(
-        |lane: usize| -> F
-            requires { lane < P.WIDTH }
-        {
-            let value = packing.extract(lane);
-            value.try_inverse().unwrap_or(F::zero())
-        },
-    )
-}
-
-/// The product of all entries.
-fn product<R: PrimeCharacteristicRing>(x: &[R]) -> R {
-    let mut product = R::one();
-    for i in 0..x.len() {
-        product *= x[i];
-    }
-    product
-}
-
-/// Writes the inverses of a list, told that of its product; nothing where the lists differ in length.
-fn write_inverses<R: PrimeCharacteristicRing>(x: &[R], inverses: &mut [R], of_product: R) {
-    if inverses.len() == x.len() {
-        batch_multiplicative_inverse_general(x, inverses, |_y: R| -> R { of_product });
-    }
-}
-
-/// The packings of the list to be inverted.
-fn units<F: PrimeField64, P: PackedField<F>>(
-    alloc: Global,
-    length: usize,
-    order: u64,
-) -> Result<Vec<P>, AllocError> {
-    let mut x = Vec::new(alloc);
-    for i in 0..length {
-        x.push(P::from_fn(|lane: usize| -> F {
-            F::from_u64(unit(place(i, lane, P::WIDTH), order))
-        }))?;
-    }
-    Ok(x)
-}
-
-/// Whether each lane of the packing at an index has its inverse.
-fn are_inverses<F: PrimeField64, P: PackedField<F>>(packing: P, i: usize, order: u64) -> bool {
-    for lane in 0..P::WIDTH {
-        if !is_inverse(packing.extract(lane), place(i, lane, P::WIDTH), order) {
-            return false;
-        }
-    }
-    true
-}
-
-/// Whether a list of so many packings is inverted, lane by lane, by the inverses of one packing.
-fn inverts_packings<F: PrimeField64, P: PackedField<F>>(
-    alloc: Global,
-    length: usize,
-    order: u64,
-) -> Result<bool, AllocError> {
-    let x: Vec<P> = units::<F, P>(alloc, length, order)?;
-    let mut inverses = P::zero_vec(alloc, length)?;
-    let of_product = lane_inverses::<F, P>(product(&x));
-    write_inverses(&x, &mut inverses, of_product);
-    for i in 0..inverses.len() {
-        if !are_inverses::<F, P>(inverses[i], i, order) {
-            return Ok(false);
-        }
-    }
-    Ok(inverses.len() == length)
-}
-
-/// Asserts that lists of values of every length are inverted.
+/// Asserts that lists of every length are inverted.
 pub(crate) fn assert_inverses<F: PrimeField64>(
     rt: &(impl Abort + AllocGlobal),
     order: u64,
@@ -149,20 +74,6 @@ pub(crate) fn assert_inverses<F: PrimeField64>(
     for length in 0..=GREATEST_LENGTH {
         assert!(rt;
             inverts::<F>(rt.alloc(), length, order)?,
-            "{length} {order}"
-        );
-    }
-    Ok(())
-}
-
-/// Asserts that lists of packings of every length are inverted.
-pub(crate) fn assert_packed_inverses<F: PrimeField64, P: PackedField<F>>(
-    rt: &(impl Abort + AllocGlobal),
-    order: u64,
-) -> Result<(), Fail> {
-    for length in 0..=GREATEST_LENGTH {
-        assert!(rt;
-            inverts_packings::<F, P>(rt.alloc(), length, order)?,
             "{length} {order}"
         );
     }

@@ -52,7 +52,12 @@ pub(crate) fn values<F: PrimeField64>(
     Ok(values)
 }
 
-/// The first values of a list, packing after packing.
+/// The packing at an index of a list.
+pub(crate) fn packing<F: PrimeField64, P: PackedField<F>>(i: usize, step: u64, order: u64) -> P {
+    P::from_fn(|lane: usize| -> F { F::from_u64(number(place(i, lane, P::WIDTH), step, order)) })
+}
+
+/// The first packings of a list.
 pub(crate) fn packings<F: PrimeField64, P: PackedField<F>>(
     alloc: Global,
     length: usize,
@@ -61,10 +66,7 @@ pub(crate) fn packings<F: PrimeField64, P: PackedField<F>>(
 ) -> Result<Vec<P>, AllocError> {
     let mut packings = Vec::new(alloc);
     for i in 0..length {
-        let packing = P::from_fn(|lane: usize| -> F {
-            F::from_u64(number(place(i, lane, P::WIDTH), step, order))
-        });
-        packings.push(packing)?;
+        packings.push(packing::<F, P>(i, step, order))?;
     }
     Ok(packings)
 }

@@ -1,7 +1,7 @@
 //! The tests, over prime fields by their markers: a check passes what a field owes once for all of them.
 use crate::blocks::assert_blocks;
 use crate::columns::assert_columns;
-use crate::inverses::{assert_inverses, assert_packed_inverses};
+use crate::inverses::assert_inverses;
 use crate::numbers::{BABY_BEAR_ORDER, GOLDILOCKS_ORDER, ORDER_17};
 use crate::slices::assert_slices;
 use p3_array::array::FieldArray;
@@ -28,7 +28,6 @@ fn assert_by_packings<F: PrimeField64, P: PackedField<F>>(
     assert_eq!(rt; P::WIDTH, lanes);
     assert_slices::<F, P>(rt, order)?;
     assert_blocks::<F, P>(rt, order)?;
-    assert_packed_inverses::<F, P>(rt, order)?;
     assert_columns::<F, P>(rt, order)
 }
 
@@ -42,16 +41,18 @@ fn assert_array<F: PrimeField64 + Lanes<N>, const N: usize>(
     assert_by_packings::<F, FieldArray<F, N>>(rt, order, N)
 }
 
-/// Asserts the calls by the field itself, and by arrays of 4 and 8 values.
+/// Asserts inverses, and the calls by the field itself and by arrays of 4 and 8 values. Nothing is read of
+/// `four` and `eight`.
 fn assert_arrays<F: PrimeField64 + Packable>(
     rt: &(impl Abort + AllocGlobal),
     order: u64,
-    _array: Option<FieldArray<F, 8>>,
+    four: Option<FieldArray<F, 4>>,
+    eight: Option<FieldArray<F, 8>>,
 ) -> Result<(), Fail> {
     assert_inverses::<F>(rt, order)?;
     assert_by_packings::<F, F>(rt, order, 1)?;
-    assert_array::<F, 4>(rt, order, None)?;
-    assert_array::<F, 8>(rt, order, None)
+    assert_array::<F, 4>(rt, order, four)?;
+    assert_array::<F, 8>(rt, order, eight)
 }
 
 /// The calls by packings of this type, implemented once for all fields in words of 32 bits and all numbers of
@@ -84,14 +85,14 @@ fn assert_lanes<W: Form<u32>>(rt: &(impl Abort + AllocGlobal), order: u64) -> Re
 
 /// `assert_arrays` at the marker of a field in words of 32 bits.
 fn assert_over<W: Form<u32>>(rt: &(impl Abort + AllocGlobal), order: u64) -> Result<(), Fail> {
-    assert_arrays::<Fp<W>>(rt, order, None)
+    assert_arrays::<Fp<W>>(rt, order, None, None)
 }
 
 #[test]
 fn slices_by_arrays(rt: HostRuntime) -> Result<(), Fail> {
     assert_over::<Plain<M17>>(&rt, ORDER_17)?;
     assert_over::<Montgomery<BabyBearModulus>>(&rt, BABY_BEAR_ORDER)?;
-    assert_arrays::<Goldilocks>(&rt, GOLDILOCKS_ORDER, None)
+    assert_arrays::<Goldilocks>(&rt, GOLDILOCKS_ORDER, None, None)
 }
 
 #[test]

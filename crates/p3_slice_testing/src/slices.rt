@@ -15,7 +15,7 @@ use std::process::Abort;
 use std::test::Fail;
 
 /// A call that changes a slice.
-#[derive(Clone, Copy, Debug)]
+#[derive(Clone, Copy)]
 enum Call {
     Scale,
     ParScale,
@@ -26,14 +26,14 @@ enum Call {
     AddEntries,
 }
 
-/// The calls.
-const CALLS: [Call; 6] = [
-    Call::Scale,
-    Call::ParScale,
-    Call::AddScaled,
-    Call::ParAddScaled,
-    Call::Add,
-    Call::AddEntries,
+/// The calls by their names.
+const CALLS: [(&str, Call); 6] = [
+    ("scale_slice_in_place_single_core", Call::Scale),
+    ("par_scale_slice_in_place", Call::ParScale),
+    ("add_scaled_slice_in_place", Call::AddScaled),
+    ("par_add_scaled_slice_in_place", Call::ParAddScaled),
+    ("add_slices", Call::Add),
+    ("Field::add_slices", Call::AddEntries),
 ];
 
 /// The product of the small orders, whose residue is zero modulo each of them.
@@ -106,12 +106,12 @@ pub(crate) fn assert_slices<F: PrimeField64, P: PackedField<F>>(
     rt: &(impl Abort + AllocGlobal),
     order: u64,
 ) -> Result<(), Fail> {
-    for call in CALLS {
+    for (name, call) in CALLS {
         for length in 0..=GREATEST_LENGTH {
             for steps in STEPS {
                 assert!(rt;
                     agrees::<F, P>(rt.alloc(), call, length, steps, order)?,
-                    "{call:?} {length} {order}"
+                    "{name} {length} {order}"
                 );
             }
         }
