@@ -1,13 +1,20 @@
 //! Runs of steps over vectors of packed extension values, and beside each the same run over the values
 //! of every lane alone, told by the rows of tables.
+ghost use Rattle.std.specs.Prelude.{◌≡◌, ◌<◌, ◌*◌, ℕ, length, map};
+ghost use Rattle.p3_theory.specs.Lanes.VectorLanes.{vector_lane};
+ghost use Rattle.p3_theory.specs.Polynomials.Polynomial.{quotient_ops};
+ghost use Rattle.p3_ext.specs.Values.{ext_ops};
+ghost use Rattle.p3_runs.specs.Runs.{Fit, run};
+
 use p3_base::field::Field;
+use p3_ext::extension::{ExtField, ExtensionShape, FrobeniusExtendable};
 use p3_packed_testing::rows::{Row, word};
 use p3_packed_testing::texts::values;
 use p3_packings::extension_lanes::PackedExtensionRing;
 use p3_ring::ring::PrimeCharacteristicRing;
+use p3_run_laws::laws::run_lane_steps_by_coefficients;
 use p3_runs::steps::{Step, run_steps, steps_fit};
 use p3_spaces::basis::BasedVectorSpace;
-use p3_vectorized::steps::run_lane_steps;
 use p3_vectorized::vectorized_ext::VectorizedExt;
 use std::alloc::{AllocError, Global};
 
@@ -23,20 +30,20 @@ pub(crate) type Vectors<F, EF, PE> = (
 
 /// `run_agrees` at the number of packings of a vector, the call's second word. Nothing is read of
 /// `_vectors`.
-pub(crate) fn counted_runs_agree<F, EF, PE>(
+pub(crate) fn counted_runs_agree<F, PE, S, const D: usize>(
     alloc: Global,
-    _vectors: Option<Vectors<F, EF, PE>>,
+    _vectors: Option<Vectors<F, ExtField<F, D, S, F>, PE>>,
     row: Row<'_>,
 ) -> Result<Option<bool>, AllocError>
 where
-    F: Field,
-    EF: Field + BasedVectorSpace<F>,
-    PE: PackedExtensionRing<F, EF>,
+    F: FrobeniusExtendable<D, S>,
+    PE: PackedExtensionRing<F, ExtField<F, D, S, F>>,
+    S: ExtensionShape,
 {
     match word(row.call, 1) {
-        "1" => run_agrees::<F, EF, PE, 1>(alloc, None, row),
-        "2" => run_agrees::<F, EF, PE, 2>(alloc, None, row),
-        "3" => run_agrees::<F, EF, PE, 3>(alloc, None, row),
+        "1" => run_agrees::<F, PE, S, D, 1>(alloc, None, row),
+        "2" => run_agrees::<F, PE, S, D, 2>(alloc, None, row),
+        "3" => run_agrees::<F, PE, S, D, 3>(alloc, None, row),
         _ => Ok(None),
     }
 }
@@ -44,9 +51,53 @@ where
 /// Whether the row's steps make the registers after of the registers before, over vectors of N packings
 /// and over the values of each lane alone; `Ok(None)` where the steps can't be read or don't fit. That a
 /// vector is named tells that it has room; nothing is read of it.
-fn run_agrees<F, EF, PE, const N: usize>(
+fn run_agrees<F, PE, S, const D: usize, const N: usize>(
     alloc: Global,
-    _vector: Option<VectorizedExt<F, EF, PE, N>>,
+    _vector: Option<VectorizedExt<F, ExtField<F, D, S, F>, PE, N>>,
+    row: Row<'_>,
+) -> Result<Option<bool>, AllocError>
+where
+    F: FrobeniusExtendable<D, S>,
+    PE: PackedExtensionRing<F, ExtField<F, D, S, F>>,
+    S: ExtensionShape,
+{
+    let Some(list) = list_of(row.argument(1)) else {
+        return Ok(None);
+    };
+    let steps = &list[..];
+    let mut registers = registers::<F, ExtField<F, D, S, F>, PE, N>(alloc, row.argument(0))?;
+    if !steps_fit(steps, registers.len()) {
+        return Ok(None);
+    }
+    run_by_coefficients::<F, PE, S, D, N>(&mut registers, steps);
+    registers_agree::<F, ExtField<F, D, S, F>, PE, N>(alloc, &registers, steps, row)
+}
+
+/// The theorem that the library is for: after the run, each register read at lane i, as a list of D
+/// coefficients, is what the steps make of the registers read at that lane before, modulo the extension's
+/// polynomial. So it is at every field that has the extension and at every packing of its values.
+pub(crate) fn run_by_coefficients<F, PE, S, const D: usize, const N: usize>(
+    registers: &mut [VectorizedExt<F, ExtField<F, D, S, F>, PE, N>],
+    steps: &[Step],
+)
+where
+    F: FrobeniusExtendable<D, S>,
+    PE: PackedExtensionRing<F, ExtField<F, D, S, F>>,
+    S: ExtensionShape,
+    requires { Fit (length registers.old) steps.now }
+    ensures { (i : ℕ) → i < PE.LANES * N →
+        map (λ v. (vector_lane PE.ops (ext_ops F.ops F.modulus) PE.ext_lanes PE.LANES i v).value) registers.new
+        ≡ run (quotient_ops F.ops D F.modulus) steps.now (map (λ v. (vector_lane PE.ops (ext_ops F.ops F.modulus) PE.ext_lanes PE.LANES i v).value) registers.old) }
+{
+    run_lane_steps_by_coefficients::<F, PE, D, S, N>(registers, steps)
+}
+
+/// Whether the registers hold the row's answer, and the steps make the same of the values of each lane
+/// alone.
+fn registers_agree<F, EF, PE, const N: usize>(
+    alloc: Global,
+    registers: &[VectorizedExt<F, EF, PE, N>],
+    steps: &[Step],
     row: Row<'_>,
 ) -> Result<Option<bool>, AllocError>
 where
@@ -54,17 +105,10 @@ where
     EF: Field + BasedVectorSpace<F>,
     PE: PackedExtensionRing<F, EF>,
 {
-    let Some(list) = list_of(row.argument(1)) else {
-        return Ok(None);
-    };
-    let steps = &list[..];
     let start = values::<F, EF>(alloc, row.argument(0))?;
     let wanted = values::<F, EF>(alloc, row.answer)?;
     let mut read = values::<F, EF>(alloc, row.argument(0))?;
-    let mut registers: Vec<VectorizedExt<F, EF, PE, N>> = Vec::new(alloc);
-    if !run_vectors(&mut registers, &mut read, steps)? {
-        return Ok(None);
-    }
+    read_values(registers, &mut read);
     if read.as_slice() != wanted.as_slice() {
         return Ok(Some(false));
     }
@@ -81,25 +125,20 @@ where
     Ok(Some(true))
 }
 
-/// Puts the values into registers, carries out the steps by `run_lane_steps` and reads the values back;
-/// whether the steps fit.
-fn run_vectors<
-    F: Copy,
-    EF: PrimeCharacteristicRing,
+/// The registers with the values of a text, a vector's lanes at a time.
+fn registers<F, EF, PE, const N: usize>(
+    alloc: Global,
+    text: &str,
+) -> Result<Vec<VectorizedExt<F, EF, PE, N>>, AllocError>
+where
+    F: Field,
+    EF: Field + BasedVectorSpace<F>,
     PE: PackedExtensionRing<F, EF>,
-    const N: usize,
->(
-    registers: &mut Vec<VectorizedExt<F, EF, PE, N>>,
-    values: &mut [EF],
-    steps: &[Step],
-) -> Result<bool, AllocError> {
-    put_values(registers, values)?;
-    if !steps_fit(steps, registers.len()) {
-        return Ok(false);
-    }
-    run_lane_steps(registers, steps);
-    read_values(registers, values);
-    Ok(true)
+{
+    let mut registers = Vec::new(alloc);
+    let values = values::<F, EF>(alloc, text)?;
+    put_values(&mut registers, &values)?;
+    Ok(registers)
 }
 
 /// Puts the values into registers, a vector's lanes at a time.

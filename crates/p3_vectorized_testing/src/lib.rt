@@ -2,6 +2,8 @@
 #![tactic(auto)]
 
 #[cfg(test)]
+mod four_lanes;
+#[cfg(test)]
 mod lane_run_tables;
 #[cfg(test)]
 mod lane_runs;

@@ -53,9 +53,7 @@ impl<
         vectors: Option<Vectors<F, ExtField<F, D, S, F>, PackedExtField<F, D, S, P>>>,
         row: Row<'_>,
     ) -> Result<Option<bool>, AllocError> {
-        counted_runs_agree::<F, ExtField<F, D, S, F>, PackedExtField<F, D, S, P>>(
-            alloc, vectors, row,
-        )
+        counted_runs_agree::<F, PackedExtField<F, D, S, P>, S, D>(alloc, vectors, row)
     }
 }
 
