@@ -35,11 +35,12 @@ fn assert_refused_growths(rt: &(impl Abort + AllocGlobal), run: &Run) -> Result<
         }
         assert_eq!(rt; heap.growths(), passing + 1, "{input}");
         assert_eq!(rt; answer, 1, "{input}");
-        if sink.text() == text_up_to(rt.alloc(), run, refused)?.as_bytes() {
+        let at_next = text_up_to(rt.alloc(), run, refused)?;
+        if sink.text() == at_next.as_bytes() {
             refused = refused.saturating_add(1);
         } else {
-            let expected = text_up_to(rt.alloc(), run, refused.saturating_sub(1))?;
-            assert_eq!(rt; sink.text(), expected.as_bytes(), "{input}");
+            let at_same = text_up_to(rt.alloc(), run, refused.saturating_sub(1))?;
+            assert_eq!(rt; sink.text(), at_same.as_bytes(), "{input}");
         }
     }
     panic!(rt; "a run takes more than a hundred growths")
