@@ -2,7 +2,7 @@
 ghost use Rattle.std.specs.Prelude.{◌<◌, ℕ, length, get_or, IsTrue};
 ghost use Rattle.p3_theory.specs.Rings.Ring.{Invertible};
 
-use crate::numbers::{Pair, coefficient, coefficients, terms};
+use crate::numbers::{Pair, Sequence, coefficient, coefficients, terms};
 use crate::table::Call;
 use p3_base::field::{Field, PrimeField, PrimeField32, PrimeField64};
 use p3_base::packed_traits::Packable;
@@ -99,23 +99,34 @@ fn have_inverses<F: Field>(x: &[F]) -> bool
 }
 
 /// Whether entries that are lent have these inverses, and are the same afterwards.
-fn inverts<F: PrimeField64 + InMemory, T: Field + BasedVectorSpace<F>, A: Allocator + Copy>(
+fn lent_inverts<F: PrimeField64 + InMemory, T: Field + BasedVectorSpace<F>, A: Allocator + Copy>(
     alloc: A,
-    ample: A,
-    x: T,
+    lent: &[T],
     entries: &[Pair],
     inverses: &[Pair],
 ) -> Result<bool, AllocError> {
-    let given = values(ample, x, entries)?;
-    if !have_inverses(&given) {
+    if !have_inverses(lent) {
         return Ok(false);
     }
-    let answer = batch_multiplicative_inverse_in(alloc, &given);
-    if !are_values::<F, T>(&given, entries) {
+    let answer = batch_multiplicative_inverse_in(alloc, lent);
+    if !are_values::<F, T>(lent, entries) {
         return Ok(false);
     }
     let found = answer?;
     Ok(are_values::<F, T>(&found, inverses))
+}
+
+/// Whether the entries that are the first terms of a sequence have these inverses.
+fn inverts<F: PrimeField64 + InMemory, T: Field + BasedVectorSpace<F>, A: Allocator + Copy>(
+    alloc: A,
+    ample: A,
+    x: T,
+    sequence: Sequence,
+    inverses: &[Pair],
+) -> Result<bool, AllocError> {
+    let entries = terms(ample, sequence, inverses.len())?;
+    let given = values(ample, x, &entries)?;
+    lent_inverts::<F, T, A>(alloc, &given, &entries, inverses)
 }
 
 /// Whether values are flattened to their coefficients.
@@ -166,8 +177,7 @@ fn values_answer<
         Call::FlattenToBase(_) => return flattens::<F, T, A>(alloc, ample, x, items),
         Call::ReconstituteFromBase(_) => return reconstitutes::<F, T, A>(alloc, ample, x, items),
         Call::BatchInverse { entries, .. } => {
-            let entries = terms(ample, entries, items.len())?;
-            return inverts::<F, T, A>(alloc, ample, x, &entries, items);
+            return inverts::<F, T, A>(alloc, ample, x, entries, items);
         }
         Call::AlgebraId(name) => {
             let found = <T as AlgebraIdentity<F>>::algebra_id_in(alloc)?;
