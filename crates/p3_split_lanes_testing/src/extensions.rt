@@ -406,8 +406,7 @@ fn products_by_hand(rt: HostRuntime) {
     }
 }
 
-/// In every lane that a run has, two nonzero values have the product zero, and just one of both lists of each
-/// polynomial is one that has an inverse.
+/// In every lane of the runs, registers 0 and 1 hold nonzero values whose product is zero.
 #[test]
 fn zero_products_of_nonzero_values(rt: HostRuntime) {
     for extension in EXTENSIONS {
