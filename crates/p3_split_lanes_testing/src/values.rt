@@ -1,0 +1,50 @@
+//! Extension values by their coefficient lists.
+use crate::plain::{List, MOST, ZERO, at};
+use p3_base::field::PrimeField64;
+use p3_bench_prime::form::{Form, Word};
+use p3_bench_prime::fp::Fp;
+use p3_ext::extension::ExtField;
+use p3_ring::ring::PrimeCharacteristicRing;
+
+/// The canonical number of a residue, and no more of a prime field.
+pub(crate) trait Canonical: Copy {
+    /// The number, which is below the order.
+    fn canonical(self) -> u64;
+}
+
+impl<W: Form<T>, T: Word> Canonical for Fp<W, T> {
+    fn canonical(self) -> u64 {
+        self.as_canonical_u64()
+    }
+}
+
+/// Values that coefficient lists tell.
+pub(crate) trait Listed: Copy {
+    /// The value with these coefficients.
+    fn of_list(list: &List) -> Self;
+
+    /// The canonical numbers of the coefficients.
+    fn list(&self) -> List;
+}
+
+impl<F: PrimeCharacteristicRing + Canonical, const D: usize, S: Copy> Listed
+    for ExtField<F, D, S, F> {
+    fn of_list(list: &List) -> Self {
+        let mut value = [F::zero(); D];
+        for i in 0..D {
+            value[i] = F::from_u64(at(list, i));
+        }
+        ExtField::<F, D, S, F>::new(value)
+    }
+
+    fn list(&self) -> List {
+        let mut list = ZERO;
+        for i in 0..D {
+            if i < MOST {
+                let coefficient = self.value[i];
+                list[i] = coefficient.canonical();
+            }
+        }
+        list
+    }
+}
