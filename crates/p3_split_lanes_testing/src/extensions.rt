@@ -367,13 +367,8 @@ fn assert_calls(rt: &(impl Abort + AllocGlobal), call: Call, seeds: u64) -> Resu
 }
 
 #[test]
-fn runs_over_vectors_of_two(rt: HostRuntime) -> Result<(), Fail> {
-    assert_calls(&rt, Call::RunOverTwo, 2)
-}
-
-#[test]
-fn runs_over_vectors_of_three(rt: HostRuntime) -> Result<(), Fail> {
-    assert_calls(&rt, Call::RunOverThree, 2)
+fn runs_over_vectors(rt: HostRuntime) -> Result<(), Fail> {
+    assert_calls(&rt, Call::Run, 2)
 }
 
 #[test]
@@ -411,7 +406,7 @@ fn products_by_hand(rt: HostRuntime) {
 fn zero_products_of_nonzero_values(rt: HostRuntime) {
     for extension in EXTENSIONS {
         let split = extension.split();
-        for lane in 0..24 {
+        for lane in 0..16 {
             assert!(rt; split.has_zero_product(0, lane), "{extension:?} {lane}");
         }
     }
@@ -423,7 +418,7 @@ fn another_polynomial_is_seen(rt: HostRuntime) -> Result<(), Fail> {
     for extension in EXTENSIONS {
         let mut split = extension.split();
         split.folded[0] = split.reduced(split.folded[0].wrapping_add(1));
-        for call in [Call::RunOverTwo, Call::RunOverThree, Call::Invert] {
+        for call in [Call::Run, Call::Invert] {
             for lanes in LANES {
                 let case = Case {
                     call,

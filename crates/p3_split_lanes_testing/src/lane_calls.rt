@@ -19,9 +19,7 @@ use std::alloc::{AllocError, Global};
 #[derive(Clone, Copy)]
 pub(crate) enum Call {
     /// A run over vectors of two packings.
-    RunOverTwo,
-    /// A run over vectors of three packings.
-    RunOverThree,
+    Run,
     /// The inverse of every lane.
     Invert,
 }
@@ -34,8 +32,8 @@ pub(crate) struct Case {
     pub(crate) seed: u64,
 }
 
-/// A value, and vectors of two and of three packings: what the calls make values of.
-pub(crate) type Rooms<F, EF, PE> = (EF, VectorizedExt<F, EF, PE, 2>, VectorizedExt<F, EF, PE, 3>);
+/// A value, and vectors of two packings: what the calls make values of.
+pub(crate) type Rooms<F, EF, PE> = (EF, VectorizedExt<F, EF, PE, 2>);
 
 /// Whether the lanes hold what the plain numbers say. Nothing is read of `_rooms`.
 pub(crate) fn lanes_agree<F, EF, PE>(
@@ -49,8 +47,7 @@ where
     PE: PackedExtensionRing<F, EF>,
 {
     match case.call {
-        Call::RunOverTwo => run_agrees::<F, EF, PE, 2>(alloc, None, case),
-        Call::RunOverThree => run_agrees::<F, EF, PE, 3>(alloc, None, case),
+        Call::Run => run_agrees::<F, EF, PE, 2>(alloc, None, case),
         Call::Invert => Ok(inverses_agree::<F, EF, PE>(case)),
     }
 }
