@@ -1,11 +1,11 @@
 //! Each growth of each call refused in turn, at many lengths.
 use crate::calls::{Callee, Scalars, Splits};
 use crate::numbers::Pair;
-use crate::refusing::Refusing;
 use crate::table::{Call, LIMBS, PAIRS, Row, SCALARS, answered, growths_at};
 use p3_bench_prime::extensions::F17x2;
 use p3_bench_prime::goldilocks::Goldilocks;
 use p3_bench_prime::small::F17;
+use p3_field_testing::refusing::Refusing;
 use std::alloc::Global;
 use std::process::Abort;
 use std::test::Fail;

@@ -8,6 +8,4 @@ mod growths;
 #[cfg(test)]
 mod numbers;
 #[cfg(test)]
-mod refusing;
-#[cfg(test)]
 mod table;
