@@ -1,6 +1,7 @@
 //! The tests, over prime fields by their markers: a check passes what a field owes once for all of them.
 use crate::entries::{Arrays, assert_arrays};
 use crate::hashes::are_apart;
+use crate::interleaves::assert_interleaves;
 use crate::quotients::assert_all_quotients;
 use crate::totals::assert_all_totals;
 use p3_base::field::PrimeField64;
@@ -24,6 +25,7 @@ fn assert_values<F: PrimeField64 + Packable + fmt::Debug + Hash>(
 ) -> Result<(), Fail> {
     assert!(rt; are_apart::<F>(rt.alloc(), order.min(31))?, "{order}");
     assert_arrays::<F>(rt, arrays)?;
+    assert_interleaves::<F>(rt, arrays);
     assert_all_totals::<F>(rt, order, arrays);
     if order == 17 {
         assert_all_quotients::<F>(rt, arrays);

@@ -19,12 +19,14 @@ const QUOTIENTS: [u64; 8] = [6, 14, 15, 8, 2, 7, 5, 9];
 const HALVES: [u64; 8] = [9, 1, 10, 2, 11, 3, 12, 4];
 
 /// The array of the first N numbers.
-fn array<F: PrimeField64 + Packable, const N: usize>(numbers: &[u64; 8]) -> FieldArray<F, N> {
+pub(crate) fn array<F: PrimeField64 + Packable, const N: usize>(
+    numbers: &[u64; 8],
+) -> FieldArray<F, N> {
     FieldArray::<F, N>::from_fn(|i: usize| -> F { F::from_u64(number(numbers, i)) })
 }
 
 /// The number at an index.
-fn number(numbers: &[u64; 8], i: usize) -> u64 {
+pub(crate) fn number(numbers: &[u64; 8], i: usize) -> u64 {
     match numbers.get(i) {
         Some(number) => *number,
         None => 0,
@@ -32,7 +34,7 @@ fn number(numbers: &[u64; 8], i: usize) -> u64 {
 }
 
 /// Whether the entries are the first N numbers.
-fn holds<F: PrimeField64 + Packable, const N: usize>(
+pub(crate) fn holds<F: PrimeField64 + Packable, const N: usize>(
     array: FieldArray<F, N>,
     numbers: &[u64; 8],
 ) -> bool {
