@@ -4,5 +4,6 @@ pub mod LongLanes
 pub mod PairReductions
 pub mod Recasts
 pub mod Reductions
+pub mod Rows
 pub mod StoredBlocks
 pub mod WordLanes
