@@ -2,7 +2,7 @@
 use Rattle.std.proofs.Common.{get_or, ◌≡◌, ℕ, ◌+◌, ◌*◌, ◌<◌, ◌≤◌, List, [], ◌∷◌, length, map, arith, zero, suc, ap, ap₂, refl}
 use Rattle.std.specs.Prelude.{All, slice_index}
 use denote.Ref.{Bor}
-use Rattle.std.proofs.lemmas.Simd.{get_or-chunk}
+use Rattle.p3_kernels.proofs.StoredBlocks.{block-below, block-products}
 use Rattle.p3_theory.specs.ResidueRings.SumsOfProducts.{sum_of_products}
 use Rattle.p3_kernels.specs.Words.{RowsAreBelow, block_at, dot_at, rows_of}
 
@@ -30,19 +30,16 @@ dot-of_slices (x ∷ xs) [] k = refl
 dot-of_slices (x ∷ xs) (y ∷ ys) k = ap (λ s. get_or x.now k 0 * get_or y.now k 0 + s) (dot-of_slices xs ys k)
 
 -- the words at an index of blocks are those of the rows so much further on
-module _ (i n : ℕ) where
-  pub dot-of_blocks : (k : ℕ) → k < n → (xs ys : List (Bor (List ℕ)))
-      → dot_at (map (λ x. block_at i n x.now) xs) (map (λ x. block_at i n x.now) ys) k ≡ dot_at (rows_of xs) (rows_of ys) (i + k)
-  dot-of_blocks k l [] ys = refl
-  dot-of_blocks k l (x ∷ xs) [] = refl
-  dot-of_blocks k l (x ∷ xs) (y ∷ ys) =
-      ap₂ (λ a b. a + b) (λ ι. get_or-chunk i n x.now k 0 l ι * get_or-chunk i n y.now k 0 l ι) (dot-of_blocks k l xs ys)
+pub dot-of_blocks : (i n k : ℕ) → k < n → (xs ys : List (List ℕ)) → dot_at (map (block_at i n) xs) (map (block_at i n) ys) k ≡ dot_at xs ys (i + k)
+dot-of_blocks i n k l [] ys = refl
+dot-of_blocks i n k l (x ∷ xs) [] = refl
+dot-of_blocks i n k l (x ∷ xs) (y ∷ ys) = ap₂ (λ a b. a + b) (block-products i n x y k l) (dot-of_blocks i n k l xs ys)
 
-  -- blocks of rows whose first m words are below p
-  pub blocks-below : (p m : ℕ) → i + n ≤ m → (xs : List (Bor (List ℕ))) → RowsAreBelow m p (rows_of xs) → RowsAreBelow n p (map (λ x. block_at i n x.now) xs)
-  blocks-below p m h [] below j d l = absurd (omega (arith, l))
-  blocks-below p m h (x ∷ xs) below zero d l = λ k lk. rw (get_or-chunk i n x.now k 0 lk) (below 0 d (omega arith) (i + k) (omega (arith, h, lk)))
-  blocks-below p m h (x ∷ xs) below (suc j) d l = blocks-below p m h xs (λ q e lq. below (suc q) e (omega (arith, lq))) j d (omega (arith, l))
+-- blocks of rows whose first m words are below p
+pub blocks-below : (i n p m : ℕ) → i + n ≤ m → (xs : List (List ℕ)) → RowsAreBelow m p xs → RowsAreBelow n p (map (block_at i n) xs)
+blocks-below i n p m h [] below j d l = absurd (omega (arith, l))
+blocks-below i n p m h (x ∷ xs) below zero d l = block-below p i n m x h (below 0 d (omega arith))
+blocks-below i n p m h (x ∷ xs) below (suc j) d l = blocks-below i n p m h xs (λ q e lq. below (suc q) e (omega (arith, lq))) j d (omega (arith, l))
 
 -- the words at an index of such rows
 pub words-below : (p m i : ℕ) → i < m → (xs : List (Bor (List ℕ))) → RowsAreBelow m p (rows_of xs) → All (λ x. slice_index x.now i < p) xs

@@ -29,7 +29,7 @@ fn load_8(row: &[u32], start: usize) -> u32x8
 #[inline(always)]
 fn load_rows_4(rows: [&[u32]; 4], start: usize) -> [u32x4; 4]
     requires { All (λ row. start + 4 ≤ length row.now) rows }
-    ensures { result ≡ map (λ row. block_at start 4 row.now) rows.entry }
+    ensures { result ≡ map (block_at start 4) (rows_of rows.entry) }
 {
     let [a, b, c, d] = rows;
     [
@@ -44,7 +44,7 @@ fn load_rows_4(rows: [&[u32]; 4], start: usize) -> [u32x4; 4]
 #[inline(always)]
 fn load_rows_8(rows: [&[u32]; 4], start: usize) -> [u32x8; 4]
     requires { All (λ row. start + 8 ≤ length row.now) rows }
-    ensures { result ≡ map (λ row. block_at start 8 row.now) rows.entry }
+    ensures { result ≡ map (block_at start 8) (rows_of rows.entry) }
 {
     let [a, b, c, d] = rows;
     [

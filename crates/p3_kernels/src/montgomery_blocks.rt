@@ -3,7 +3,7 @@
 ghost use Rattle.std.specs.Prelude.{◌≡◌, ℕ, ◌*◌, ◌%◌, ◌^◌, ◌<◌, length};
 ghost use Rattle.p3_kernels.specs.Words.{AreBelow, AreReduced, product_at};
 
-use crate::halves::{halves_of_16, join_halves};
+use crate::halves::{high_half, join_halves, low_half};
 use crate::lane_reductions::{reduce_4, reduce_8};
 use crate::wide_products::{wide_products_4, wide_products_8};
 use std::simd::prelude::*;
@@ -47,9 +47,7 @@ pub fn montgomery_products_16(left: u32x16, right: u32x16, order: u32, inverse: 
     ensures below { AreBelow 16 order result }
     ensures value { AreReduced 16 order (product_at left right) result }
 {
-    let x = halves_of_16(left);
-    let y = halves_of_16(right);
-    let low = montgomery_products_8(x.0, y.0, order, inverse);
-    let high = montgomery_products_8(x.1, y.1, order, inverse);
+    let low = montgomery_products_8(low_half(left), low_half(right), order, inverse);
+    let high = montgomery_products_8(high_half(left), high_half(right), order, inverse);
     join_halves(low, high)
 }

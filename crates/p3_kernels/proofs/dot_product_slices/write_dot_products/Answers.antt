@@ -10,12 +10,12 @@ use Rattle.p3_kernels.proofs.dot_product_slices.write_dot_products.Goals as goal
 pub montgomery_dot_products_8-sums-requires-clause-left : goal.montgomery_dot_products_8-sums-requires-clause-left
 montgomery_dot_products_8-sums-requires-clause-left c =
     subst (RowsAreBelow 8 c.args.order) (sym c.load_rows_8-x.ensures)
-    (blocks-below (8 * c.loop-block.block) 8 c.args.order (length c.args.out.now) (omega arith) c.args.left c.requires.left)
+    (blocks-below (8 * c.loop-block.block) 8 c.args.order (length c.args.out.now) (omega arith) (rows_of c.args.left) c.requires.left)
 
 pub montgomery_dot_products_8-sums-requires-clause-right : goal.montgomery_dot_products_8-sums-requires-clause-right
 montgomery_dot_products_8-sums-requires-clause-right c =
     subst (RowsAreBelow 8 c.args.order) (sym c.load_rows_8-y.ensures)
-    (blocks-below (8 * c.loop-block.block) 8 c.args.order (length c.args.out.now) (omega arith) c.args.right c.requires.right)
+    (blocks-below (8 * c.loop-block.block) 8 c.args.order (length c.args.out.now) (omega arith) (rows_of c.args.right) c.requires.right)
 
 pub loop-block-preserved : goal.loop-block-preserved
 loop-block-preserved c =
@@ -33,19 +33,19 @@ loop-block-preserved c =
       length-put_chunk i vs zs ∙ held.0,
       subst (Hold (IsReduced p number) (put_chunk i vs zs)) next
           (block-stored (IsReduced p number) i 8 vs zs said.width room held.1
-          (reduced-block p i 8 number zs said.below (λ k l.
-          said.value k l ∙ ap (λ z. z % p) ((λ ι. dot_at (c.load_rows_8-x.ensures ι) (c.load_rows_8-y.ensures ι) k) ∙ dot-of_blocks i 8 k l left right)))),
+          (reduced-block p i 8 number (dot_at c.load_rows_8-x.result c.load_rows_8-y.result) zs said.below said.value
+          (λ k l. (λ ι. dot_at (c.load_rows_8-x.ensures ι) (c.load_rows_8-y.ensures ι) k) ∙ dot-of_blocks i 8 k l (rows_of left) (rows_of right)))),
     )
 
 pub montgomery_dot_products_4-last_sums-requires-clause-left : goal.montgomery_dot_products_4-last_sums-requires-clause-left
 montgomery_dot_products_4-last_sums-requires-clause-left c =
     subst (RowsAreBelow 4 c.args.order) (sym c.load_rows_4-x.ensures)
-    (blocks-below (8 * (length c.args.out.now / 8) + 4 * c.loop-four.four) 4 c.args.order (length c.args.out.now) (omega arith) c.args.left c.requires.left)
+    (blocks-below (8 * (length c.args.out.now / 8) + 4 * c.loop-four.four) 4 c.args.order (length c.args.out.now) (omega arith) (rows_of c.args.left) c.requires.left)
 
 pub montgomery_dot_products_4-last_sums-requires-clause-right : goal.montgomery_dot_products_4-last_sums-requires-clause-right
 montgomery_dot_products_4-last_sums-requires-clause-right c =
     subst (RowsAreBelow 4 c.args.order) (sym c.load_rows_4-y.ensures)
-    (blocks-below (8 * (length c.args.out.now / 8) + 4 * c.loop-four.four) 4 c.args.order (length c.args.out.now) (omega arith) c.args.right c.requires.right)
+    (blocks-below (8 * (length c.args.out.now / 8) + 4 * c.loop-four.four) 4 c.args.order (length c.args.out.now) (omega arith) (rows_of c.args.right) c.requires.right)
 
 pub loop-four-preserved : goal.loop-four-preserved
 loop-four-preserved c =
@@ -63,8 +63,8 @@ loop-four-preserved c =
       length-put_chunk i vs zs ∙ held.0,
       subst (Hold (IsReduced p number) (put_chunk i vs zs)) next
           (block-stored (IsReduced p number) i 4 vs zs said.width room held.1
-          (reduced-block p i 4 number zs said.below (λ k l.
-          said.value k l ∙ ap (λ z. z % p) ((λ ι. dot_at (c.load_rows_4-x.ensures ι) (c.load_rows_4-y.ensures ι) k) ∙ dot-of_blocks i 4 k l left right)))),
+          (reduced-block p i 4 number (dot_at c.load_rows_4-x.result c.load_rows_4-y.result) zs said.below said.value
+          (λ k l. (λ ι. dot_at (c.load_rows_4-x.ensures ι) (c.load_rows_4-y.ensures ι) k) ∙ dot-of_blocks i 4 k l (rows_of left) (rows_of right)))),
     )
 
 pub dot_product_at-sum-requires-clause-left : goal.dot_product_at-sum-requires-clause-left
