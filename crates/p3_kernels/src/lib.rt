@@ -1,0 +1,12 @@
+//! Arithmetic of words on the lanes of vectors, over no field: products in Montgomery's form and sums of
+//! four products, for blocks of 4, 8 and 16 words and for slices of every length.
+#![tactic(auto)]
+
+pub mod dot_product_blocks;
+pub mod dot_product_slices;
+mod halves;
+mod lane_reductions;
+pub mod montgomery_blocks;
+pub mod montgomery_slices;
+mod wide_products;
+mod word_pairs;
