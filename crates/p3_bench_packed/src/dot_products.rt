@@ -8,6 +8,7 @@ ghost use Rattle.p3_bench_packed.specs.Values.{packed_rows};
 use crate::lane_loops::{add_lanes, mul_lanes};
 use crate::packed::Packed;
 use crate::wide_products::WideProducts;
+use p3_bench_prime::lane_products::LaneProducts;
 use p3_ring::ring::PrimeCharacteristicRing;
 
 /// The values of K packings at a lane.
@@ -94,7 +95,7 @@ fn short_dot<F: PrimeCharacteristicRing + WideProducts, const N: usize, const K:
 
 /// The sum so far and the products of the positions from `start` on, one after the other.
 #[inline]
-fn add_products<F: PrimeCharacteristicRing, const N: usize>(
+fn add_products<F: PrimeCharacteristicRing + LaneProducts<N>, const N: usize>(
     sum: Packed<F, N>,
     u: &[Packed<F, N>],
     v: &[Packed<F, N>],
@@ -114,7 +115,7 @@ fn add_products<F: PrimeCharacteristicRing, const N: usize>(
 /// The dot product of two slices of packings, four positions at a time, and the rest one product after the
 /// other.
 #[inline]
-fn dot_by_blocks<F: PrimeCharacteristicRing, const N: usize>(
+fn dot_by_blocks<F: PrimeCharacteristicRing + LaneProducts<N>, const N: usize>(
     u: &[Packed<F, N>],
     v: &[Packed<F, N>],
 ) -> Packed<F, N>
@@ -135,10 +136,10 @@ fn dot_by_blocks<F: PrimeCharacteristicRing, const N: usize>(
 /// type reduces the sum of their products once, and so it does at each lane. It is taken into each caller,
 /// where the number of positions is known.
 #[inline(always)]
-pub(crate) fn packed_dot_product<F: PrimeCharacteristicRing + WideProducts, const N: usize>(
-    u: &[Packed<F, N>],
-    v: &[Packed<F, N>],
-) -> Packed<F, N>
+pub(crate) fn packed_dot_product<
+    F: PrimeCharacteristicRing + WideProducts + LaneProducts<N>,
+    const N: usize,
+>(u: &[Packed<F, N>], v: &[Packed<F, N>]) -> Packed<F, N>
     requires { length u.now ≡ length v.now }
     ensures { result ≡ dot (row_ops packed_rows F.ops) u.now v.now }
 {

@@ -9,6 +9,7 @@ ghost use Rattle.p3_theory.specs.Lanes.RowRing.{row_ops};
 ghost use Rattle.p3_bench_packed.specs.Values.{packed_rows};
 
 use crate::packed::Packed;
+use p3_bench_prime::lane_products::LaneProducts;
 use p3_ring::ring::PrimeCharacteristicRing;
 use std::ops::{Add, Div, Mul, Neg, Sub};
 
@@ -46,18 +47,15 @@ pub(crate) fn sub_lanes<F: Copy + Sub<Output = F>, const N: usize>(
 
 /// The product at each lane.
 #[inline(always)]
-pub(crate) fn mul_lanes<F: Copy + Mul<Output = F>, const N: usize>(
+pub(crate) fn mul_lanes<F: LaneProducts<N>, const N: usize>(
     x: Packed<F, N>,
     y: Packed<F, N>,
 ) -> Packed<F, N>
     requires { (d : F) (k : ℕ) → k < N → F.can_mul (get_or x.value k d) (get_or y.value k d) }
     ensures { (d : F) (k : ℕ) → k < N → F.mul_gives (get_or x.value k d) (get_or y.value k d) (get_or result.value k d) }
 {
-    let mut value = x.value;
-    for i in 0..N {
-        value[i] = x.value[i] * y.value[i];
-    }
-    Packed::new(value)
+    let products = F::lane_products(&x.value, &y.value);
+    Packed::new(products)
 }
 
 /// The quotient at each lane.

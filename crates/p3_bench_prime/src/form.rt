@@ -1,9 +1,10 @@
-ghost use Rattle.std.specs.Prelude.{◌≡◌, ◌≤◌, ◌<◌, ◌+◌, ◌-◌, ◌*◌, ◌%◌, ◌^◌, ℕ, length, ⊤};
+ghost use Rattle.std.specs.Prelude.{◌≡◌, ◌≤◌, ◌<◌, ◌+◌, ◌-◌, ◌*◌, ◌%◌, ◌^◌, ℕ, length, get_or, ⊤};
 ghost use Rattle.p3_bench_residues.specs.Forms.{IsForm};
 
 use crate::fp::Fp;
 use crate::short_sums::{ShortWord, sum_products, sum_small_products};
-use p3_bench_residues::remainder::{remainder_by_reciprocal, remainder_of_sum};
+use crate::word_products::{multiply_short_words, short_product};
+use p3_bench_residues::remainder::remainder_of_sum;
 use p3_bench_residues::short_words::{add_words, halve_word, negate_word, subtract_words};
 use std::alloc::AllocError;
 use std::marker::PhantomData;
@@ -139,6 +140,15 @@ pub trait Form<T: Word>: Copy {
         requires { length u.now ≡ length v.now }
         ensures below { number result < ORDER }
         ensures value { canon result ≡ sum_of_products (λ x. canon x.word) u.now v.now % ORDER };
+
+    /// Multiplies each residue by the factor at its index, on their words.
+    fn multiply_words(words: &mut [T], factors: &[T])
+        requires lengths { length words.old ≡ length factors.now }
+        requires left { (d : T) (k : ℕ) → k < length words.old → number (get_or words.old k d) < ORDER }
+        requires right { (d : T) (k : ℕ) → k < length words.old → number (get_or factors.now k d) < ORDER }
+        ensures length { length words.new ≡ length words.old }
+        ensures below { (d : T) (k : ℕ) → k < length words.old → number (get_or words.new k d) < ORDER }
+        ensures value { (d : T) (k : ℕ) → k < length words.old → canon (get_or words.new k d) ≡ (canon (get_or words.old k d) * canon (get_or factors.now k d)) % ORDER };
 }
 
 /// Adds a word of 32 bits to a number of two words, where the low word has room for it.
@@ -268,14 +278,9 @@ impl<M: Modulus> Form<u32> for Plain<M> {
         negate_word(stored, M::ORDER)
     }
 
-    /// Where products fit 32 bits, their remainder there is the cheapest.
     #[inline]
     fn product(left: u32, right: u32) -> u32 {
-        if M::ORDER < 0x1_0000 {
-            left * right % M::ORDER
-        } else {
-            remainder_by_reciprocal(left as u64 * right as u64, M::ORDER)
-        }
+        short_product(left, right, M::ORDER)
     }
 
     #[inline]
@@ -303,6 +308,11 @@ impl<M: Modulus> Form<u32> for Plain<M> {
             let sum = sum_products(u, v);
             remainder_of_sum(sum, M::ORDER)
         }
+    }
+
+    #[inline(always)]
+    fn multiply_words(words: &mut [u32], factors: &[u32]) {
+        multiply_short_words(words, factors, M::ORDER);
     }
 }
 

@@ -7,6 +7,7 @@ use crate::form::{Form, Order, OverModulus};
 use crate::fp::Fp;
 use crate::monomials::MonomialConstants;
 use crate::two_adic::{TopPowerConstants, TwoAdicConstants};
+use crate::word_products::multiply_long_words;
 use p3_bench_residues::goldilocks_words::{
     P, add_residues, reduce_halves, reduce128, subtract_residues,
 };
@@ -135,6 +136,11 @@ impl Form<u64> for GoldilocksForm {
     fn dot_product(u: &[Goldilocks], v: &[Goldilocks]) -> u64 {
         let (low, carries) = sum_with_carries(u, v);
         reduce_halves(low, carries as u128 * 0x1_0000_0000_0000_0000)
+    }
+
+    #[inline(always)]
+    fn multiply_words(words: &mut [u64], factors: &[u64]) {
+        multiply_long_words(words, factors);
     }
 }
 

@@ -9,6 +9,7 @@ use p3_bench_residues::montgomery::{
 };
 use p3_bench_residues::remainder::remainder_of_sum;
 use p3_bench_residues::short_words::{add_words, halve_word, negate_word, subtract_words};
+use p3_kernels::montgomery_slices::multiply_slice;
 use std::alloc::AllocError;
 use std::marker::PhantomData;
 
@@ -201,6 +202,11 @@ impl<M: MontgomeryModulus> Form<u32> for Montgomery<M> {
             let sum = sum_products(u, v);
             reduced_sum::<M>(sum)
         }
+    }
+
+    #[inline(always)]
+    fn multiply_words(words: &mut [u32], factors: &[u32]) {
+        multiply_slice(words, factors, M::ORDER, M::INVERSE);
     }
 }
 
