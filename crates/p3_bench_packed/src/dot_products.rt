@@ -66,14 +66,14 @@ fn dot_by_lanes<F: PrimeCharacteristicRing, const N: usize, const K: usize>(
 /// The same, in a function that isn't taken into its callers (see `WideProducts`).
 #[inline(never)]
 fn dot_by_lanes_apart<F: PrimeCharacteristicRing, const N: usize, const K: usize>(
-    u: &[Packed<F, N>],
-    v: &[Packed<F, N>],
+    left: &[Packed<F, N>],
+    right: &[Packed<F, N>],
 ) -> Packed<F, N>
-    requires left { length u.now ≡ K }
-    requires right { length v.now ≡ K }
-    ensures { result ≡ dot (row_ops packed_rows F.ops) u.now v.now }
+    requires left { length left.now ≡ K }
+    requires right { length right.now ≡ K }
+    ensures { result ≡ dot (row_ops packed_rows F.ops) left.now right.now }
 {
-    dot_by_lanes::<F, N, K>(u, v)
+    dot_by_lanes::<F, N, K>(left, right)
 }
 
 /// The dot product of K packings and K others, by a call where a product takes more than 32 bits.
