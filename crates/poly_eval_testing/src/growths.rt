@@ -41,4 +41,7 @@ fn a_growth_is_refused(rt: HostRuntime) {
     assert_eq!(rt; numbers(&coeffs), Some([1, 2, 3, 5]));
     assert_eq!(rt; after(rt.alloc(), 1, &coeffs), (values, 1, 0));
     assert_eq!(rt; after(rt.alloc(), 2, &coeffs), (values, 1, 0));
+    let zeros = Some(Some([0, 0, 0, 0]));
+    assert_eq!(rt; after(rt.alloc(), 0, &[]), (None, 1, 0));
+    assert_eq!(rt; after(rt.alloc(), 1, &[]), (zeros, 1, 0));
 }
