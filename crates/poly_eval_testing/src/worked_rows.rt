@@ -7,7 +7,7 @@ use std::alloc::{AllocError, Global};
 use std::test::Fail;
 
 /// The canonical numbers of four values.
-fn numbers(values: &[F17]) -> Option<[u64; 4]> {
+pub(crate) fn numbers(values: &[F17]) -> Option<[u64; 4]> {
     match values {
         [a, b, c, d] => Some([
             a.as_canonical_u64(),
