@@ -9,9 +9,9 @@ pub use p3_ext::laws::{
     order_is_lexicographic, product_is_remainder,
 };
 pub use p3_run_laws::laws::{
-    packed_extension_has_a_lane, run_lane_steps_by_coefficients, run_packed_steps_by_coefficients,
-    run_steps_by_coefficients, run_steps_by_lanes, vector_default_is_zero,
-    vector_ext_default_is_zero, vector_ext_lanes_keep_operations, vector_ext_of_vector,
-    vector_lanes_keep_operations,
+    packed_ext_of_packing, packed_extension_has_a_lane, run_lane_steps_by_coefficients,
+    run_packed_steps_by_coefficients, run_steps_by_coefficients, run_steps_by_lanes,
+    vector_default_is_zero, vector_ext_default_is_zero, vector_ext_lanes_keep_operations,
+    vector_ext_of_vector, vector_lanes_keep_operations,
 };
 pub use p3_runs::laws::{field_step_fits_where_its_registers_do, step_fits_where_its_registers_do};

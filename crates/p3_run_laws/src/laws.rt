@@ -13,7 +13,7 @@ use p3_ext::extension::{ExtField, ExtensionAlgebra, ExtensionShape, FrobeniusExt
 use p3_packings::extension_lanes::PackedExtensionRing;
 use p3_packings::packed_field_extension::PackedFieldExtension;
 use p3_ring::packed_ring::PackedRing;
-use p3_ring::ring::PrimeCharacteristicRing;
+use p3_ring::ring::{Algebra, PrimeCharacteristicRing};
 use p3_runs::steps::{Step, run_steps};
 use p3_spaces::basis::BasedVectorSpace;
 use p3_spaces::extension_field::ExtensionField;
@@ -134,15 +134,24 @@ pub fn packed_extension_has_a_lane<
     ensures { 0 < PE.LANES }
 {}
 
-/// A vector of packings of field values as one of extension values: the coefficients of each part are p, 0,
-/// .., 0.
+/// A packing of field values as one of extension values: its coefficients are p, 0, .., 0.
+pub fn packed_ext_of_packing<F: Field, EF: ExtensionField<F>, PE: PackedFieldExtension<F, EF>>(
+    p: PE::Base,
+    x: PE,
+)
+    ensures { ⟦<PE as From<PE::Base>>⟧.from_gives p x →
+        ⟦<PE as BasedVectorSpace<PE::Base>>⟧.coefficients x
+        ≡ embed PE.Base.ops ⟦<PE as BasedVectorSpace<PE::Base>>⟧.DIMENSION p }
+{}
+
+/// A vector of packings of field values as one of extension values: each part is the packing's image.
 pub fn vector_ext_of_vector<
-    F: Field,
-    EF: ExtensionField<F>,
-    PE: PackedFieldExtension<F, EF>,
+    F: Copy,
+    EF: Copy,
+    P: PrimeCharacteristicRing + Inhabited,
+    PE: Algebra<P> + Inhabited,
     const N: usize,
->(v: Vectorized<F, PE::Base, N>, w: VectorizedExt<F, EF, PE, N>)
-    ensures { ⟦<VectorizedExt<F, EF, PE, N> as From<Vectorized<F, PE::Base, N>>>⟧.from_gives v w → (d : PE.Base) (e : PE) (k : ℕ) → k < N →
-        ⟦<PE as BasedVectorSpace<PE::Base>>⟧.coefficients (get_or w.items k e)
-        ≡ embed PE.Base.ops ⟦<PE as BasedVectorSpace<PE::Base>>⟧.DIMENSION (get_or v.items k d) }
+>(v: Vectorized<F, P, N>, w: VectorizedExt<F, EF, PE, N>)
+    ensures { ⟦<VectorizedExt<F, EF, PE, N> as From<Vectorized<F, P, N>>>⟧.from_gives v w → (d : P) (e : PE) (k : ℕ) → k < N →
+        get_or w.items k e ≡ ⟦<PE as Algebra<P>>⟧.embed (get_or v.items k d) }
 {}
