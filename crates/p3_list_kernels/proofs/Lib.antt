@@ -1,0 +1,4 @@
+pub mod PolynomialSteps
+pub mod PowerSteps
+pub mod Recasts
+pub mod SmallProducts

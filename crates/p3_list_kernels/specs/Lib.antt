@@ -1,0 +1,3 @@
+pub mod PolynomialValues
+pub mod Powers
+pub mod Residues

@@ -1,0 +1,8 @@
+//! Lists of words on the lanes of vectors, over no field: lists of powers and values of polynomials in
+//! Montgomery's form, and products modulo small orders.
+#![tactic(auto)]
+
+mod halfwords;
+pub mod polynomial_values;
+pub mod powers;
+pub mod small_products;
