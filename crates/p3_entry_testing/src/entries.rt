@@ -7,8 +7,15 @@ use std::fmt;
 use std::process::Abort;
 use std::test::Fail;
 
-/// No arrays, of 1, 4 and 8 entries: a function that names them knows that they have room.
-pub(crate) type Arrays<F> = Option<(FieldArray<F, 1>, FieldArray<F, 4>, FieldArray<F, 8>)>;
+/// No arrays, of 1, 2, 4 and 8 entries: a function that names them knows that they have room.
+pub(crate) type Arrays<F> = Option<
+    (
+        FieldArray<F, 1>,
+        FieldArray<F, 2>,
+        FieldArray<F, 4>,
+        FieldArray<F, 8>,
+    ),
+>;
 
 /// The numbers of an array's entries, from the first on.
 const NUMBERS: [u64; 8] = [3, 5, 7, 9, 11, 13, 15, 16];

@@ -34,18 +34,6 @@ where
     P::agree(alloc, rooms, case)
 }
 
-/// The same over the values themselves, each a packing of one lane. Nothing is read of `rooms`.
-fn binomial_value_agrees<W: OverModulus<u32>, const D: usize>(
-    alloc: Global,
-    rooms: Option<BinomialRooms<W, Fp<W>, D>>,
-    case: &Case,
-) -> Result<bool, AllocError>
-where
-    W::Modulus: BinomialConstants<D>,
-{
-    binomial_agrees::<W, Fp<W>, D>(alloc, rooms, case)
-}
-
 /// The same over packings of N values. That packings are named tells that they have room; nothing is read of
 /// them.
 fn binomial_lanes_agree<W: OverModulus<u32> + LaneCount<N>, const D: usize, const N: usize>(
@@ -75,18 +63,6 @@ where
     P::agree(alloc, rooms, case)
 }
 
-/// The same over the values themselves. Nothing is read of `rooms`.
-fn cubic_value_agrees<W: OverModulus<u32>>(
-    alloc: Global,
-    rooms: Option<CubicRooms<W, Fp<W>>>,
-    case: &Case,
-) -> Result<bool, AllocError>
-where
-    W::Modulus: PolynomialConstants<3, Cubic>,
-{
-    cubic_agrees::<W, Fp<W>>(alloc, rooms, case)
-}
-
 /// The same over packings of N values. Nothing is read of `_packing` and `rooms`.
 fn cubic_lanes_agree<W: OverModulus<u32> + LaneCount<N>, const N: usize>(
     alloc: Global,
@@ -100,15 +76,7 @@ where
     cubic_agrees::<W, Packed<Fp<W>, N>>(alloc, rooms, case)
 }
 
-/// The calls over values of the extension by `X^2 = W`, each a packing of one lane.
-fn values_at_degree_2<W: OverModulus<u32>>(alloc: Global, case: &Case) -> Result<bool, AllocError>
-where
-    W::Modulus: BinomialConstants<2>,
-{
-    binomial_value_agrees::<W, 2>(alloc, None, case)
-}
-
-/// The same over packings of 1, 4 or 8 values.
+/// The calls over packings of 1, 4 or 8 values of the extension by `X^2 = W`.
 fn at_degree_2<W: OverModulus<u32>>(
     alloc: Global,
     lanes: usize,
@@ -118,22 +86,14 @@ where
     W::Modulus: BinomialConstants<2>,
 {
     match lanes {
-        1 => values_at_degree_2::<W>(alloc, case),
+        1 => binomial_lanes_agree::<W, 2, 1>(alloc, None, None, case),
         4 => binomial_lanes_agree::<W, 2, 4>(alloc, None, None, case),
         8 => binomial_lanes_agree::<W, 2, 8>(alloc, None, None, case),
         _ => Ok(false),
     }
 }
 
-/// The calls over values of the extension by `X^3 = W`.
-fn values_at_degree_3<W: OverModulus<u32>>(alloc: Global, case: &Case) -> Result<bool, AllocError>
-where
-    W::Modulus: BinomialConstants<3>,
-{
-    binomial_value_agrees::<W, 3>(alloc, None, case)
-}
-
-/// The same over packings of 1, 4 or 8 values.
+/// The calls over packings of 1, 4 or 8 values of the extension by `X^3 = W`.
 fn at_degree_3<W: OverModulus<u32>>(
     alloc: Global,
     lanes: usize,
@@ -143,22 +103,14 @@ where
     W::Modulus: BinomialConstants<3>,
 {
     match lanes {
-        1 => values_at_degree_3::<W>(alloc, case),
+        1 => binomial_lanes_agree::<W, 3, 1>(alloc, None, None, case),
         4 => binomial_lanes_agree::<W, 3, 4>(alloc, None, None, case),
         8 => binomial_lanes_agree::<W, 3, 8>(alloc, None, None, case),
         _ => Ok(false),
     }
 }
 
-/// The calls over values of the extension by `X^4 = W`.
-fn values_at_degree_4<W: OverModulus<u32>>(alloc: Global, case: &Case) -> Result<bool, AllocError>
-where
-    W::Modulus: BinomialConstants<4>,
-{
-    binomial_value_agrees::<W, 4>(alloc, None, case)
-}
-
-/// The same over packings of 1, 4 or 8 values.
+/// The calls over packings of 1, 4 or 8 values of the extension by `X^4 = W`.
 fn at_degree_4<W: OverModulus<u32>>(
     alloc: Global,
     lanes: usize,
@@ -168,22 +120,14 @@ where
     W::Modulus: BinomialConstants<4>,
 {
     match lanes {
-        1 => values_at_degree_4::<W>(alloc, case),
+        1 => binomial_lanes_agree::<W, 4, 1>(alloc, None, None, case),
         4 => binomial_lanes_agree::<W, 4, 4>(alloc, None, None, case),
         8 => binomial_lanes_agree::<W, 4, 8>(alloc, None, None, case),
         _ => Ok(false),
     }
 }
 
-/// The calls over values of the extension by `X^5 = W`.
-fn values_at_degree_5<W: OverModulus<u32>>(alloc: Global, case: &Case) -> Result<bool, AllocError>
-where
-    W::Modulus: BinomialConstants<5>,
-{
-    binomial_value_agrees::<W, 5>(alloc, None, case)
-}
-
-/// The same over packings of 1, 4 or 8 values.
+/// The calls over packings of 1, 4 or 8 values of the extension by `X^5 = W`.
 fn at_degree_5<W: OverModulus<u32>>(
     alloc: Global,
     lanes: usize,
@@ -193,22 +137,14 @@ where
     W::Modulus: BinomialConstants<5>,
 {
     match lanes {
-        1 => values_at_degree_5::<W>(alloc, case),
+        1 => binomial_lanes_agree::<W, 5, 1>(alloc, None, None, case),
         4 => binomial_lanes_agree::<W, 5, 4>(alloc, None, None, case),
         8 => binomial_lanes_agree::<W, 5, 8>(alloc, None, None, case),
         _ => Ok(false),
     }
 }
 
-/// The calls over values of the extension by `X^6 = W`.
-fn values_at_degree_6<W: OverModulus<u32>>(alloc: Global, case: &Case) -> Result<bool, AllocError>
-where
-    W::Modulus: BinomialConstants<6>,
-{
-    binomial_value_agrees::<W, 6>(alloc, None, case)
-}
-
-/// The same over packings of 1, 4 or 8 values.
+/// The calls over packings of 1, 4 or 8 values of the extension by `X^6 = W`.
 fn at_degree_6<W: OverModulus<u32>>(
     alloc: Global,
     lanes: usize,
@@ -218,22 +154,14 @@ where
     W::Modulus: BinomialConstants<6>,
 {
     match lanes {
-        1 => values_at_degree_6::<W>(alloc, case),
+        1 => binomial_lanes_agree::<W, 6, 1>(alloc, None, None, case),
         4 => binomial_lanes_agree::<W, 6, 4>(alloc, None, None, case),
         8 => binomial_lanes_agree::<W, 6, 8>(alloc, None, None, case),
         _ => Ok(false),
     }
 }
 
-/// The calls over values of the extension by `X^8 = W`.
-fn values_at_degree_8<W: OverModulus<u32>>(alloc: Global, case: &Case) -> Result<bool, AllocError>
-where
-    W::Modulus: BinomialConstants<8>,
-{
-    binomial_value_agrees::<W, 8>(alloc, None, case)
-}
-
-/// The same over packings of 1, 4 or 8 values.
+/// The calls over packings of 1, 4 or 8 values of the extension by `X^8 = W`.
 fn at_degree_8<W: OverModulus<u32>>(
     alloc: Global,
     lanes: usize,
@@ -243,22 +171,14 @@ where
     W::Modulus: BinomialConstants<8>,
 {
     match lanes {
-        1 => values_at_degree_8::<W>(alloc, case),
+        1 => binomial_lanes_agree::<W, 8, 1>(alloc, None, None, case),
         4 => binomial_lanes_agree::<W, 8, 4>(alloc, None, None, case),
         8 => binomial_lanes_agree::<W, 8, 8>(alloc, None, None, case),
         _ => Ok(false),
     }
 }
 
-/// The calls over values of the extension by `X^3 = X + 1`.
-fn cubic_values<W: OverModulus<u32>>(alloc: Global, case: &Case) -> Result<bool, AllocError>
-where
-    W::Modulus: PolynomialConstants<3, Cubic>,
-{
-    cubic_value_agrees::<W>(alloc, None, case)
-}
-
-/// The same over packings of 1, 4 or 8 values.
+/// The calls over packings of 1, 4 or 8 values of the extension by `X^3 = X + 1`.
 fn over_cubic<W: OverModulus<u32>>(
     alloc: Global,
     lanes: usize,
@@ -268,7 +188,7 @@ where
     W::Modulus: PolynomialConstants<3, Cubic>,
 {
     match lanes {
-        1 => cubic_values::<W>(alloc, case),
+        1 => cubic_lanes_agree::<W, 1>(alloc, None, None, case),
         4 => cubic_lanes_agree::<W, 4>(alloc, None, None, case),
         8 => cubic_lanes_agree::<W, 8>(alloc, None, None, case),
         _ => Ok(false),
