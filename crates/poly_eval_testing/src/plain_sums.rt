@@ -7,14 +7,6 @@ pub(crate) const GREATEST_COUNT: usize = 40;
 /// What the squares of the indices are multiplied by.
 const STEP: u64 = 0x9E37_79B9_7F4A_7C1C;
 
-/// The members of a coset: so many powers of the generator, from one on, times the shift.
-#[derive(Drop)]
-pub(crate) struct Members<const D: usize> {
-    pub shift: [u64; D],
-    pub generator: [u64; D],
-    pub size: usize,
-}
-
 /// Rows of D residues modulo an order, of which each is a value modulo a polynomial of degree D. A row of one
 /// residue is a value of a prime type.
 pub(crate) struct Rows<const D: usize> {

@@ -1,7 +1,7 @@
 //! Values over cosets against plain sums, for every number of coefficients from 0 to 40 and every log size
 //! from 0 to 6 that a field has cosets of.
 use crate::coset_values::Value;
-use crate::plain_sums::{GREATEST_COUNT, Members, Rows};
+use crate::plain_sums::{GREATEST_COUNT, Rows};
 use p3_bench_prime::baby_bear::BabyBearModulus;
 use p3_bench_prime::form::{Form, OverModulus, Plain, Word};
 use p3_bench_prime::fp::Fp;
@@ -104,19 +104,22 @@ fn difference_at<T: Value<Row = [u64; D]>, const D: usize>(
     None
 }
 
-/// The index of an item that isn't the plain sum at its member, and the number of coefficients, if there is
-/// one.
+/// The index of an item that isn't the plain sum, and the number of coefficients, if there is one. So many items
+/// are at the powers of the generator times the shift.
 fn difference<T: Value<Row = [u64; D]>, const D: usize>(
     rows: &Rows<D>,
-    members: &Members<D>,
+    shift: T,
+    generator: T,
+    size: usize,
     lists: &[T],
 ) -> Option<(usize, usize)> {
-    let mut x = members.shift;
-    for index in 0..members.size {
-        if let Some(count) = difference_at(rows, &x, members.size, index, lists) {
+    let step = generator.row();
+    let mut x = shift.row();
+    for index in 0..size {
+        if let Some(count) = difference_at(rows, &x, size, index, lists) {
             return Some((index, count));
         }
-        x = rows.product(&x, &members.generator);
+        x = rows.product(&x, &step);
     }
     None
 }
@@ -125,13 +128,18 @@ fn difference<T: Value<Row = [u64; D]>, const D: usize>(
 fn assert_lists<T: Value<Row = [u64; D]>, const D: usize>(
     rt: &impl Abort,
     rows: &Rows<D>,
-    members: &Members<D>,
+    shift: T,
+    generator: T,
+    size: usize,
     lists: &[T],
 ) {
-    let size = members.size;
     let counts = GREATEST_COUNT + 1;
     assert!(rt; lists.len() == size.wrapping_mul(counts), "{size}");
-    assert_eq!(rt; difference(rows, members, lists), None, "{size}");
+    assert_eq!(rt;
+        difference(rows, shift, generator, size, lists),
+        None,
+        "{size}"
+    );
 }
 
 /// Asserts that both calls give the plain sums over the coset of a shift, which has so many items, or that there
@@ -152,15 +160,10 @@ fn assert_coset<T: Value<Row = [u64; D]>, const D: usize>(
         return Ok(());
     };
     let rows = &cosets.rows;
-    let members = Members {
-        shift: shift.row(),
-        generator: generator.row(),
-        size,
-    };
     let listed = listed(rt.alloc(), rows, shift, log_size)?;
-    assert_lists(rt, rows, &members, &listed);
+    assert_lists(rt, rows, shift, generator, size, &listed);
     let written = written(rt.alloc(), rows, shift, log_size, size)?;
-    assert_lists(rt, rows, &members, &written);
+    assert_lists(rt, rows, shift, generator, size, &written);
     Ok(())
 }
 
