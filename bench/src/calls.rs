@@ -27,5 +27,6 @@ unsafe extern "C" {
     pub fn p3_speed_packed_products(extension: u32, lanes: u32, value: *const u64, length: usize, factor: *const u64, factor_length: usize, count: u64) -> u64;
     pub fn p3_speed_packed_inverses(extension: u32, lanes: u32, value: *const u64, length: usize, factor: *const u64, factor_length: usize, count: u64) -> u64;
     pub fn p3_speed_inversions(field: u32, numbers: *const u64, length: usize, rounds: u64) -> u64;
+    pub fn p3_speed_coset_values(field: u32, numbers: *const u64, length: usize, shift: u64, log_size: usize, rounds: u64) -> u64;
     pub fn p3_speed_calculator(input: *const u8, input_length: usize, output: *mut u8, output_length: usize) -> usize;
 }

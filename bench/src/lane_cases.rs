@@ -12,7 +12,7 @@ use std::hint::black_box;
 const LENGTH: usize = 1000;
 
 /// Numbers from one to one less than the order, by a linear congruence.
-fn units(order: u64, seed: u64, length: usize) -> &'static [u64] {
+pub fn units(order: u64, seed: u64, length: usize) -> &'static [u64] {
     let mut state = black_box(seed);
     let mut next = || {
         state = state.wrapping_mul(6364136223846793005).wrapping_add(1442695040888963407);

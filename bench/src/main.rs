@@ -3,6 +3,9 @@ mod baby_bear;
 mod calculator;
 mod calculator_cases;
 mod calls;
+mod coset_cases;
+mod coset_sizes;
+mod cosets;
 mod extension_cases;
 mod extensions;
 mod lane_cases;
@@ -20,8 +23,13 @@ fn main() {
     let mut cases = prime_cases::cases();
     cases.extend(extension_cases::cases());
     cases.extend(lane_cases::cases());
+    cases.extend(coset_cases::cases());
     cases.extend(calculator_cases::cases());
-    if !table::print(&cases, &word) {
+    let mut agree = table::print(&cases, &word);
+    if coset_sizes::NAME.contains(&word) {
+        agree &= coset_sizes::print();
+    }
+    if !agree {
         std::process::exit(1);
     }
 }

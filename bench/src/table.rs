@@ -33,6 +33,10 @@ impl Case {
 const RUNS: usize = 75;
 const NANOSECONDS_A_RUN: u64 = 3_000_000;
 
+/// How many runs there are at least, however long they take, and what they may take where there are more.
+const FEWEST_RUNS: usize = 9;
+const NANOSECONDS_A_ROW: f64 = 1.5e9;
+
 /// Nanoseconds that the call takes, and its answer.
 fn time(call: &Call, rounds: u64) -> (f64, u64) {
     let start = Instant::now();
@@ -40,14 +44,15 @@ fn time(call: &Call, rounds: u64) -> (f64, u64) {
     (start.elapsed().as_nanos() as f64, answer)
 }
 
-/// Rounds that take some milliseconds, by the best of three runs.
-fn rounds_of(case: &Case) -> u64 {
+/// Rounds that take some milliseconds, by the best of three runs, and how many runs of them there are.
+fn rounds_and_runs(case: &Case) -> (u64, usize) {
     let mut rounds = 1;
     loop {
         let runs = (0..3).map(|_| time(&case.plain[0], rounds).0);
         let taken = runs.fold(f64::INFINITY, f64::min);
         if taken > NANOSECONDS_A_RUN as f64 / 2.0 || rounds > 1 << 40 {
-            return rounds;
+            let runs = (NANOSECONDS_A_ROW / taken) as usize;
+            return (rounds, runs.clamp(FEWEST_RUNS, RUNS));
         }
         rounds *= 2;
     }
@@ -73,8 +78,8 @@ impl Least {
     };
 
     /// Takes the times of one more place, each of so many operations.
-    fn take(&mut self, mut times: [f64; RUNS], operations: f64) {
-        let middle = median(&mut times);
+    fn take(&mut self, times: &mut [f64], operations: f64) {
+        let middle = median(times);
         self.best = self.best.min(times[0] / operations);
         self.median = self.median.min(middle / operations);
     }
@@ -84,16 +89,16 @@ impl Least {
 /// prints the row: the best of each side and their ratio, the median of each, both of the place where
 /// they are least, and the median of the ratios of all runs next to each other.
 fn print_row(case: &Case) -> bool {
-    let rounds = rounds_of(case);
+    let (rounds, runs) = rounds_and_runs(case);
     let operations = (rounds * case.operations) as f64;
     let (mut library, mut plain) = (Least::NONE, Least::NONE);
     // no memory is asked for between the runs, so that lists lie at the same addresses in all of them
-    let mut ratios = Vec::with_capacity(RUNS * case.plain.len());
+    let mut ratios = Vec::with_capacity(runs * case.plain.len());
     let mut agree = true;
     for (place, copy) in case.plain.iter().enumerate() {
         let held = places::held_blocks(place);
         let (mut proved, mut written) = ([0.0; RUNS], [0.0; RUNS]);
-        for run in 0..RUNS {
+        for run in 0..runs {
             let (answer, wanted);
             (proved[run], answer) = time(&case.library, rounds);
             (written[run], wanted) = time(copy, rounds);
@@ -101,8 +106,8 @@ fn print_row(case: &Case) -> bool {
             agree &= answer == wanted;
         }
         drop(held);
-        library.take(proved, operations);
-        plain.take(written, operations);
+        library.take(&mut proved[..runs], operations);
+        plain.take(&mut written[..runs], operations);
     }
     println!(
         "| {:<38} | {:>9.3} | {:>9.3} | {:>5.2} | {:>9.3} | {:>9.3} | {:>5.2} |{}",

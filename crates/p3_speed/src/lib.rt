@@ -3,6 +3,7 @@
 #![tactic(auto)]
 
 pub mod calculator_call;
+pub mod coset_calls;
 pub mod extension_calls;
 pub mod lane_calls;
 pub mod prime_calls;
