@@ -1,5 +1,5 @@
 //! The lanes of a vector of packings: those of its packings, one packing after the other.
-ghost use Rattle.std.specs.Prelude.{◌≡◌, ◌<◌, Some, length, get_or, slice_get, slice_set};
+ghost use Rattle.std.specs.Prelude.{◌≡◌, ◌<◌, ◌*◌, ◌/◌, Some, length, get_or, slice_get, slice_set};
 ghost use Rattle.std.specs.Array.{IsFromFnResult};
 ghost use Rattle.p3_theory.specs.Bases.Coordinates.{CallableBelow};
 ghost use Rattle.p3_theory.specs.Lists.TabulatedPlaces.{HoldsBelow};
@@ -75,6 +75,38 @@ impl<F: PrimeCharacteristicRing, P: PackedRing<F> + Inhabited, const N: usize> V
         vector
     }
 
+    /// The vector whose first packings have the groups that lie whole in a slice, which has a value for
+    /// each lane. The other packings are zero.
+    #[inline]
+    fn load_groups(slice: &[F]) -> Self
+        requires all { length slice.now ≡ lane_count P.WIDTH N }
+        ensures { HoldsBelow (at F.ops slice.now) F.ops.zero (vector_lanes P.ops F.ops P.lanes P.WIDTH result) (length slice.now / P.WIDTH * P.WIDTH) }
+    {
+        let width = P::WIDTH;
+        let whole = slice.len() / width;
+        let mut items = [P::zero(); N];
+        for i in 0..whole {
+            items[i] = P::load_block(slice, i);
+        }
+        Self::new(items)
+    }
+
+    /// Writes the lanes of the packings whose groups lie whole in a slice, which has a place for each
+    /// lane.
+    #[inline]
+    fn store_groups(&self, out: &mut [F])
+        requires all { length out.old ≡ lane_count P.WIDTH N }
+        ensures kept { length out.new ≡ length out.old }
+        ensures written { HoldsBelow (lane_at P.ops F.ops P.lanes P.WIDTH self.now.items) F.ops.zero out.new (length out.old / P.WIDTH * P.WIDTH) }
+    {
+        let width = P::WIDTH;
+        let whole = out.len() / width;
+        for i in 0..whole {
+            let part = self.part(i);
+            part.store_block(out, i);
+        }
+    }
+
     /// Writes the lanes from `start` on from a slice that has a value for each lane. The lanes before
     /// hold theirs.
     #[inline]
@@ -139,25 +171,17 @@ impl<
     #[inline]
     fn from_slice(slice: &[F]) -> Self {
         let width = P::WIDTH;
-        let whole = slice.len() / width;
-        let mut items = [P::zero(); N];
-        for i in 0..whole {
-            items[i] = P::load_block(slice, i);
-        }
-        let mut vector = Self::new(items);
-        vector.load_from(whole * width, slice);
+        let mut vector = Self::load_groups(slice);
+        vector.load_from(slice.len() / width * width, slice);
         vector
     }
 
     #[inline]
     fn to_slice(&self, out: &mut [F]) {
         let width = P::WIDTH;
-        let whole = out.len() / width;
-        for i in 0..whole {
-            let part = self.part(i);
-            part.store_block(out, i);
-        }
-        self.store_from(whole * width, out);
+        let loaded = out.len() / width * width;
+        self.store_groups(out);
+        self.store_from(loaded, out);
     }
 
     #[inline]

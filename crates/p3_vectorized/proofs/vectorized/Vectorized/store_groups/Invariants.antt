@@ -1,7 +1,7 @@
 use Rattle.std.proofs.Common.{◌≡◌, ◌*◌, length}
 use Rattle.p3_theory.specs.Lists.TabulatedPlaces.{HoldsBelow}
 use Rattle.p3_vectorized.specs.VectorLists.{lane_at, lane_count}
-use Rattle.p3_vectorized.proofs.vectorized.lanes.VectorizedPackedValue.to_slice.Given as goal
+use Rattle.p3_vectorized.proofs.vectorized.Vectorized.store_groups.Given as goal
 
 abbrev pub invariant-loop-i : goal.invariant-loop-i
 invariant-loop-i g l =

@@ -1,5 +1,5 @@
 use Rattle.std.proofs.Common.{◌≡◌, ◌<◌, ◌+◌, ◌*◌, ℕ, length, get_or, slice_range}
-use Rattle.p3_vectorized.proofs.vectorized.lanes.VectorizedPackedValue.from_slice.Given as goal
+use Rattle.p3_vectorized.proofs.vectorized.Vectorized.load_groups.Given as goal
 
 abbrev pub invariant-loop-i : goal.invariant-loop-i
 invariant-loop-i g l =
