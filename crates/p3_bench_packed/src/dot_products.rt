@@ -1,6 +1,6 @@
-//! Dot products of packings: of two to four positions at each lane one of the values there, of more four
-//! positions at a time.
-ghost use Rattle.std.specs.Prelude.{◌≡◌, ◌<◌, length, map, drop};
+//! Dot products of packings: of two to four positions at all lanes at once, or at each lane one of the values
+//! there; of more four positions at a time.
+ghost use Rattle.std.specs.Prelude.{◌≡◌, ◌≤◌, ◌<◌, IfSome, length, map, drop};
 ghost use Rattle.p3_theory.specs.Rings.DotProduct.{dot};
 ghost use Rattle.p3_theory.specs.Lanes.RowRing.{item, row_ops};
 ghost use Rattle.p3_bench_packed.specs.Values.{packed_rows};
@@ -8,7 +8,8 @@ ghost use Rattle.p3_bench_packed.specs.Values.{packed_rows};
 use crate::lane_loops::{add_lanes, mul_lanes};
 use crate::packed::Packed;
 use crate::wide_products::WideProducts;
-use p3_bench_prime::lane_products::LaneProducts;
+use p3_bench_prime::lane_arithmetic::LaneArithmetic;
+use p3_bench_prime::lane_dot_products::LaneDotProducts;
 use p3_ring::ring::PrimeCharacteristicRing;
 
 /// The values of K packings at a lane.
@@ -63,39 +64,112 @@ fn dot_by_lanes<F: PrimeCharacteristicRing, const N: usize, const K: usize>(
     Packed::new(value)
 }
 
+/// The values of K packings, packing by packing.
+#[inline(always)]
+fn rows_of<F: PrimeCharacteristicRing, const N: usize, const K: usize>(
+    packings: &[Packed<F, N>],
+) -> [[F; N]; K]
+    requires { length packings.now ≡ K }
+    ensures { result ≡ map (λ packing. packing.value) packings.now }
+{
+    let mut rows = [[F::zero(); N]; K];
+    for i in 0..K {
+        let packing = &packings[i];
+        rows[i] = packing.value;
+    }
+    rows
+}
+
+/// The dot product of K packings and K others at all lanes at once, where the type has it.
+#[inline(always)]
+fn dot_at_once<F: LaneDotProducts<N>, const N: usize, const K: usize>(
+    u: &[Packed<F, N>],
+    v: &[Packed<F, N>],
+) -> Option<Packed<F, N>>
+    requires few { K ≤ 4 }
+    requires left { length u.now ≡ K }
+    requires right { length v.now ≡ K }
+    ensures { IfSome result (λ sum. sum ≡ dot (row_ops packed_rows F.ops) u.now v.now) }
+{
+    let left = rows_of::<F, N, K>(u);
+    let right = rows_of::<F, N, K>(v);
+    let sums = F::lane_dot_products(&left[..], &right[..])?;
+    Some(Packed::new(sums))
+}
+
+/// The dot product of K packings and K others: at all lanes at once, or lane by lane.
+#[inline(always)]
+fn dot_of_few<F: LaneDotProducts<N>, const N: usize, const K: usize>(
+    u: &[Packed<F, N>],
+    v: &[Packed<F, N>],
+) -> Packed<F, N>
+    requires few { K ≤ 4 }
+    requires left { length u.now ≡ K }
+    requires right { length v.now ≡ K }
+    ensures { result ≡ dot (row_ops packed_rows F.ops) u.now v.now }
+{
+    match dot_at_once::<F, N, K>(u, v) {
+        Some(sum) => sum,
+        None => dot_by_lanes::<F, N, K>(u, v),
+    }
+}
+
 /// The same, in a function that isn't taken into its callers (see `WideProducts`).
 #[inline(never)]
-fn dot_by_lanes_apart<F: PrimeCharacteristicRing, const N: usize, const K: usize>(
+fn dot_apart<F: LaneDotProducts<N>, const N: usize, const K: usize>(
     left: &[Packed<F, N>],
     right: &[Packed<F, N>],
 ) -> Packed<F, N>
+    requires few { K ≤ 4 }
     requires left { length left.now ≡ K }
     requires right { length right.now ≡ K }
     ensures { result ≡ dot (row_ops packed_rows F.ops) left.now right.now }
 {
-    dot_by_lanes::<F, N, K>(left, right)
+    dot_of_few::<F, N, K>(left, right)
 }
 
 /// The dot product of K packings and K others, by a call where a product takes more than 32 bits.
-#[inline]
-fn short_dot<F: PrimeCharacteristicRing + WideProducts, const N: usize, const K: usize>(
+#[inline(always)]
+fn apart_if_wide<F: LaneDotProducts<N> + WideProducts, const N: usize, const K: usize>(
     u: &[Packed<F, N>],
     v: &[Packed<F, N>],
 ) -> Packed<F, N>
+    requires few { K ≤ 4 }
     requires left { length u.now ≡ K }
     requires right { length v.now ≡ K }
     ensures { result ≡ dot (row_ops packed_rows F.ops) u.now v.now }
 {
     if F::WIDE {
-        dot_by_lanes_apart::<F, N, K>(u, v)
+        dot_apart::<F, N, K>(u, v)
     } else {
-        dot_by_lanes::<F, N, K>(u, v)
+        dot_of_few::<F, N, K>(u, v)
+    }
+}
+
+/// The dot product of K packings and K others. Up to eight lanes at once are taken into the caller; else it is
+/// a call where a product takes more than 32 bits.
+#[inline(always)]
+fn short_dot<F: LaneDotProducts<N> + WideProducts, const N: usize, const K: usize>(
+    u: &[Packed<F, N>],
+    v: &[Packed<F, N>],
+) -> Packed<F, N>
+    requires few { K ≤ 4 }
+    requires left { length u.now ≡ K }
+    requires right { length v.now ≡ K }
+    ensures { result ≡ dot (row_ops packed_rows F.ops) u.now v.now }
+{
+    if N > 8 {
+        return apart_if_wide::<F, N, K>(u, v);
+    }
+    match dot_at_once::<F, N, K>(u, v) {
+        Some(sum) => sum,
+        None => apart_if_wide::<F, N, K>(u, v),
     }
 }
 
 /// The sum so far and the products of the positions from `start` on, one after the other.
 #[inline]
-fn add_products<F: PrimeCharacteristicRing + LaneProducts<N>, const N: usize>(
+fn add_products<F: LaneDotProducts<N> + LaneArithmetic<N>, const N: usize>(
     sum: Packed<F, N>,
     u: &[Packed<F, N>],
     v: &[Packed<F, N>],
@@ -115,7 +189,7 @@ fn add_products<F: PrimeCharacteristicRing + LaneProducts<N>, const N: usize>(
 /// The dot product of two slices of packings, four positions at a time, and the rest one product after the
 /// other.
 #[inline]
-fn dot_by_blocks<F: PrimeCharacteristicRing + LaneProducts<N>, const N: usize>(
+fn dot_by_blocks<F: LaneDotProducts<N> + LaneArithmetic<N>, const N: usize>(
     u: &[Packed<F, N>],
     v: &[Packed<F, N>],
 ) -> Packed<F, N>
@@ -125,7 +199,7 @@ fn dot_by_blocks<F: PrimeCharacteristicRing + LaneProducts<N>, const N: usize>(
     let mut sum = Packed::new([F::zero(); N]);
     let mut start = 0;
     while u.len() - start >= 4 {
-        let block = dot_by_lanes::<F, N, 4>(&u[start..start + 4], &v[start..start + 4]);
+        let block = dot_of_few::<F, N, 4>(&u[start..start + 4], &v[start..start + 4]);
         sum = add_lanes(sum, block);
         start += 4;
     }
@@ -137,7 +211,7 @@ fn dot_by_blocks<F: PrimeCharacteristicRing + LaneProducts<N>, const N: usize>(
 /// where the number of positions is known.
 #[inline(always)]
 pub(crate) fn packed_dot_product<
-    F: PrimeCharacteristicRing + WideProducts + LaneProducts<N>,
+    F: LaneDotProducts<N> + LaneArithmetic<N> + WideProducts,
     const N: usize,
 >(u: &[Packed<F, N>], v: &[Packed<F, N>]) -> Packed<F, N>
     requires { length u.now ≡ length v.now }

@@ -1,6 +1,6 @@
-//! Loops over the lanes of packings: an operator of the values at each lane, of two packings and of a packing
-//! and one value. They are generic over the value under its operator alone; `operators` and
-//! `scalar_operators` call them at the bench's residues.
+//! The lanes of packings, one after the other or as vectors: an operator of the values at each lane, of two
+//! packings and of a packing and one value. Loops are generic over the value under its operator alone;
+//! `operators` and `scalar_operators` call them at the bench's residues.
 ghost use Rattle.std.specs.Prelude.{◌≡◌, ◌<◌, ◌%◌, ◌^◌, ℕ, get_or};
 ghost use Rattle.p3_theory.specs.Rings.Ring.{Invertible};
 ghost use Rattle.p3_theory.specs.Rings.Multiples.{two};
@@ -9,49 +9,40 @@ ghost use Rattle.p3_theory.specs.Lanes.RowRing.{row_ops};
 ghost use Rattle.p3_bench_packed.specs.Values.{packed_rows};
 
 use crate::packed::Packed;
-use p3_bench_prime::lane_products::LaneProducts;
+use p3_bench_prime::lane_arithmetic::LaneArithmetic;
 use p3_ring::ring::PrimeCharacteristicRing;
 use std::ops::{Add, Div, Mul, Neg, Sub};
 
 /// The sum at each lane.
-#[inline]
-pub(crate) fn add_lanes<F: Copy + Add<Output = F>, const N: usize>(
+#[inline(always)]
+pub(crate) fn add_lanes<F: LaneArithmetic<N>, const N: usize>(
     x: Packed<F, N>,
     y: Packed<F, N>,
 ) -> Packed<F, N>
-    requires { (d : F) (k : ℕ) → k < N → F.can_add (get_or x.value k d) (get_or y.value k d) }
     ensures { (d : F) (k : ℕ) → k < N → F.add_gives (get_or x.value k d) (get_or y.value k d) (get_or result.value k d) }
 {
-    let mut value = x.value;
-    for i in 0..N {
-        value[i] = x.value[i] + y.value[i];
-    }
-    Packed::new(value)
+    let sums = F::lane_sums(&x.value, &y.value);
+    Packed::new(sums)
 }
 
 /// The difference at each lane.
-#[inline]
-pub(crate) fn sub_lanes<F: Copy + Sub<Output = F>, const N: usize>(
+#[inline(always)]
+pub(crate) fn sub_lanes<F: LaneArithmetic<N>, const N: usize>(
     x: Packed<F, N>,
     y: Packed<F, N>,
 ) -> Packed<F, N>
-    requires { (d : F) (k : ℕ) → k < N → F.can_sub (get_or x.value k d) (get_or y.value k d) }
     ensures { (d : F) (k : ℕ) → k < N → F.sub_gives (get_or x.value k d) (get_or y.value k d) (get_or result.value k d) }
 {
-    let mut value = x.value;
-    for i in 0..N {
-        value[i] = x.value[i] - y.value[i];
-    }
-    Packed::new(value)
+    let differences = F::lane_differences(&x.value, &y.value);
+    Packed::new(differences)
 }
 
 /// The product at each lane.
 #[inline(always)]
-pub(crate) fn mul_lanes<F: LaneProducts<N>, const N: usize>(
+pub(crate) fn mul_lanes<F: LaneArithmetic<N>, const N: usize>(
     x: Packed<F, N>,
     y: Packed<F, N>,
 ) -> Packed<F, N>
-    requires { (d : F) (k : ℕ) → k < N → F.can_mul (get_or x.value k d) (get_or y.value k d) }
     ensures { (d : F) (k : ℕ) → k < N → F.mul_gives (get_or x.value k d) (get_or y.value k d) (get_or result.value k d) }
 {
     let products = F::lane_products(&x.value, &y.value);

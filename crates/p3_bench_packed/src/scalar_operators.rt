@@ -8,7 +8,7 @@ use crate::packed::Packed;
 use crate::wide_products::WideProducts;
 use p3_bench_prime::form::{Form, Word};
 use p3_bench_prime::fp::Fp;
-use p3_bench_prime::lane_products::LaneProducts;
+use p3_bench_prime::lane_arithmetic::LaneArithmetic;
 use std::ops::{Add, AddAssign, Div, DivAssign, Mul, MulAssign, Sub, SubAssign};
 
 impl<W: Form<T>, T: Word, const N: usize> Add<Fp<W, T>> for Packed<Fp<W, T>, N> {
@@ -53,11 +53,10 @@ impl<W: Form<T>, T: Word, const N: usize> SubAssign<Fp<W, T>> for Packed<Fp<W, T
 
 /// The product at each lane, in a function that isn't taken into its callers (see `WideProducts`).
 #[inline(never)]
-fn mul_lanes_apart<F: LaneProducts<N>, const N: usize>(
+fn mul_lanes_apart<F: LaneArithmetic<N>, const N: usize>(
     x: Packed<F, N>,
     y: Packed<F, N>,
 ) -> Packed<F, N>
-    requires { (d : F) (k : ℕ) → k < N → F.can_mul (get_or x.value k d) (get_or y.value k d) }
     ensures { (d : F) (k : ℕ) → k < N → F.mul_gives (get_or x.value k d) (get_or y.value k d) (get_or result.value k d) }
 {
     mul_lanes(x, y)

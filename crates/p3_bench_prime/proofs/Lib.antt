@@ -1,3 +1,5 @@
 mod ArrayItems
 mod WordBlocks
 mod WordProducts
+mod LaneValues
+mod PaddedRows

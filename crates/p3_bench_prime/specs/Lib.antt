@@ -1,4 +1,6 @@
-pub mod Elements
+pub mod Columns
 pub mod ComplexNumbers
 pub mod ComplexTower
+pub mod Elements
+pub mod MontgomeryForms
 pub mod WordSums

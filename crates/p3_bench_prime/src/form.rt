@@ -1,9 +1,10 @@
 ghost use Rattle.std.specs.Prelude.{◌≡◌, ◌≤◌, ◌<◌, ◌+◌, ◌-◌, ◌*◌, ◌%◌, ◌^◌, ℕ, length, get_or, ⊤};
 ghost use Rattle.p3_bench_residues.specs.Forms.{IsForm};
+ghost use Rattle.p3_bench_prime.specs.MontgomeryForms.{IsMontgomery};
 
 use crate::fp::Fp;
 use crate::short_sums::{ShortWord, sum_products, sum_small_products};
-use crate::word_products::{multiply_short_words, short_product};
+use crate::word_products::short_product;
 use p3_bench_residues::remainder::remainder_of_sum;
 use p3_bench_residues::short_words::{add_words, halve_word, negate_word, subtract_words};
 use std::alloc::AllocError;
@@ -20,6 +21,10 @@ pub trait Word: Copy {
     /// The number that a word is.
     fn to_u64(self) -> u64
         ensures { result ≡ number self };
+
+    /// The word of a number of 32 bits.
+    fn from_u32(value: u32) -> Self
+        ensures { number result ≡ value };
 }
 
 impl Word for u32 {
@@ -30,6 +35,11 @@ impl Word for u32 {
     #[inline]
     fn to_u64(self) -> u64 {
         self as u64
+    }
+
+    #[inline]
+    fn from_u32(value: u32) -> u32 {
+        value
     }
 }
 
@@ -42,6 +52,11 @@ impl Word for u64 {
     fn to_u64(self) -> u64 {
         self
     }
+
+    #[inline]
+    fn from_u32(value: u32) -> u64 {
+        value as u64
+    }
 }
 
 /// How words of a type stand for the residues modulo an order, and the operations on words. A type
@@ -53,6 +68,8 @@ pub trait Form<T: Word>: Copy {
 
     /// The number that a word is.
     ghost number: { T → ℕ };
+
+    ghost same_number: { (w : T) → number w ≡ T.number w };
 
     /// The residue that a word stands for.
     ghost canon: { T → ℕ };
@@ -69,11 +86,20 @@ pub trait Form<T: Word>: Copy {
 
     ghost scaled: { (w : T) → number w < ORDER → canon w ≡ (number w * scale) % ORDER };
 
+    /// The inverse of the order modulo 2^32 where a word holds its residue times 2^32, and zero elsewhere.
+    ghost INVERSE: { ℕ };
+
+    ghost montgomery: { 0 < INVERSE → IsMontgomery ORDER INVERSE scale };
+
     /// The order: how many residues there are. It is two or more.
     const ORDER: u64;
 
     /// The residue that the field's `generator` answers.
     const GENERATOR: u64;
+
+    /// The inverse of the order modulo 2^32 where a word holds its residue times 2^32 and the order is below
+    /// 2^31: lanes are multiplied by vectors there. It is zero elsewhere.
+    const INVERSE: u32;
 
     /// The residue that a word stands for.
     fn decode(stored: T) -> u64
@@ -140,15 +166,6 @@ pub trait Form<T: Word>: Copy {
         requires { length u.now ≡ length v.now }
         ensures below { number result < ORDER }
         ensures value { canon result ≡ sum_of_products (λ x. canon x.word) u.now v.now % ORDER };
-
-    /// Multiplies each residue by the factor at its index, on their words.
-    fn multiply_words(words: &mut [T], factors: &[T])
-        requires lengths { length words.old ≡ length factors.now }
-        requires left { (d : T) (k : ℕ) → k < length words.old → number (get_or words.old k d) < ORDER }
-        requires right { (d : T) (k : ℕ) → k < length words.old → number (get_or factors.now k d) < ORDER }
-        ensures length { length words.new ≡ length words.old }
-        ensures below { (d : T) (k : ℕ) → k < length words.old → number (get_or words.new k d) < ORDER }
-        ensures value { (d : T) (k : ℕ) → k < length words.old → canon (get_or words.new k d) ≡ (canon (get_or words.old k d) * canon (get_or factors.now k d)) % ORDER };
 }
 
 /// Adds a word of 32 bits to a number of two words, where the low word has room for it.
@@ -225,7 +242,9 @@ impl<M> Clone for Plain<M> {
 impl<M> Copy for Plain<M> {}
 
 impl<M: Modulus> Form<u32> for Plain<M> {
+    ghost use Rattle.std.specs.Prelude.{refl};
     ghost use Rattle.p3_bench_residues.specs.Forms.{plain, order_below};
+    ghost use Rattle.p3_bench_prime.specs.MontgomeryForms.{no_inverse};
     ghost use Rattle.p3_bench_prime.specs.WordSums.{scaled_by_one};
 
     ghost ORDER = { M.ORDER };
@@ -240,13 +259,21 @@ impl<M: Modulus> Form<u32> for Plain<M> {
 
     ghost is_form = { plain M.ORDER M.above_one (order_below M.ORDER M.fits) };
 
+    ghost same_number = { λ w. refl };
+
     ghost scale = { 1 };
 
     ghost scaled = { scaled_by_one };
 
+    ghost INVERSE = { 0 };
+
+    ghost montgomery = { no_inverse };
+
     const ORDER: u64 = M::ORDER as u64;
 
     const GENERATOR: u64 = M::GENERATOR as u64;
+
+    const INVERSE: u32 = 0;
 
     #[inline]
     fn decode(stored: u32) -> u64 {
@@ -308,11 +335,6 @@ impl<M: Modulus> Form<u32> for Plain<M> {
             let sum = sum_products(u, v);
             remainder_of_sum(sum, M::ORDER)
         }
-    }
-
-    #[inline(always)]
-    fn multiply_words(words: &mut [u32], factors: &[u32]) {
-        multiply_short_words(words, factors, M::ORDER);
     }
 }
 

@@ -7,7 +7,6 @@ use crate::form::{Form, Order, OverModulus};
 use crate::fp::Fp;
 use crate::monomials::MonomialConstants;
 use crate::two_adic::{TopPowerConstants, TwoAdicConstants};
-use crate::word_products::multiply_long_words;
 use p3_bench_residues::goldilocks_words::{
     P, add_residues, reduce_halves, reduce128, subtract_residues,
 };
@@ -56,6 +55,7 @@ impl Form<u64> for GoldilocksForm {
     ghost use Rattle.std.proofs.Common.{lit<};
     ghost use Rattle.p3_bench_residues.specs.Forms.{plain};
     ghost use Rattle.p3_bench_residues.specs.declared.goldilocks_words.TheConstants.{P};
+    ghost use Rattle.p3_bench_prime.specs.MontgomeryForms.{no_inverse};
     ghost use Rattle.p3_bench_prime.specs.WordSums.{scaled_by_one};
 
     ghost ORDER = { P };
@@ -70,13 +70,21 @@ impl Form<u64> for GoldilocksForm {
 
     ghost is_form = { plain P (lit< tt) (lit< tt) };
 
+    ghost same_number = { λ w. refl };
+
     ghost scale = { 1 };
 
     ghost scaled = { scaled_by_one };
 
+    ghost INVERSE = { 0 };
+
+    ghost montgomery = { no_inverse };
+
     const ORDER: u64 = P;
 
     const GENERATOR: u64 = 7;
+
+    const INVERSE: u32 = 0;
 
     #[inline]
     fn decode(stored: u64) -> u64 {
@@ -136,11 +144,6 @@ impl Form<u64> for GoldilocksForm {
     fn dot_product(u: &[Goldilocks], v: &[Goldilocks]) -> u64 {
         let (low, carries) = sum_with_carries(u, v);
         reduce_halves(low, carries as u128 * 0x1_0000_0000_0000_0000)
-    }
-
-    #[inline(always)]
-    fn multiply_words(words: &mut [u64], factors: &[u64]) {
-        multiply_long_words(words, factors);
     }
 }
 

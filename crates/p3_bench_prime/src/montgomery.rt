@@ -9,7 +9,6 @@ use p3_bench_residues::montgomery::{
 };
 use p3_bench_residues::remainder::remainder_of_sum;
 use p3_bench_residues::short_words::{add_words, halve_word, negate_word, subtract_words};
-use p3_kernels::montgomery_slices::multiply_slice;
 use std::alloc::AllocError;
 use std::marker::PhantomData;
 
@@ -129,13 +128,21 @@ impl<M: MontgomeryModulus> Form<u32> for Montgomery<M> {
 
     ghost is_form = { montgomery M.ORDER (2 ^ 32) M.SCALE_INVERSE M.undoes_scale M.above_one (order_below M.ORDER M.fits) };
 
+    ghost same_number = { λ w. refl };
+
     ghost scale = { M.SCALE_INVERSE };
 
     ghost scaled = { λ w h. refl };
 
+    ghost INVERSE = { M.INVERSE };
+
+    ghost montgomery = { λ h. record { short = M.fits; inverts_order = M.inverts_order; undoes_scale = M.undoes_scale } };
+
     const ORDER: u64 = M::ORDER as u64;
 
     const GENERATOR: u64 = M::GENERATOR as u64;
+
+    const INVERSE: u32 = M::INVERSE;
 
     #[inline]
     fn decode(stored: u32) -> u64 {
@@ -202,11 +209,6 @@ impl<M: MontgomeryModulus> Form<u32> for Montgomery<M> {
             let sum = sum_products(u, v);
             reduced_sum::<M>(sum)
         }
-    }
-
-    #[inline(always)]
-    fn multiply_words(words: &mut [u32], factors: &[u32]) {
-        multiply_slice(words, factors, M::ORDER, M::INVERSE);
     }
 }
 

@@ -16,6 +16,37 @@ module _ (p r i : ℕ) where
   abbrev pub montgomery_word : ℕ → ℕ
   montgomery_word n = (n * r) % p
 
+  -- words add up as their residues do
+  pub sum_of_words : (t w v : ℕ) → t ≡ (w + v) % p → montgomery_canon t ≡ (montgomery_canon w + montgomery_canon v) % p
+  sum_of_words t w v e =
+      ap montgomery_canon e ∙ mul-mod_first (w + v) i p ∙ ap (λ z. z % p) (add-mul w v i) ∙ sym (add-mod_first (w * i) (montgomery_canon v) p ∙ add-mod_second (w * i) (v * i) p)
+
+  joined : (w v k : ℕ) → k + v ≡ p → (w + k) * i + v * i ≡ w * i + p * i
+  joined w v k e = (let regrouped : (w + k) * i + v * i ≡ w * i + (k + v) * i = omega arith in regrouped) ∙ ap (λ z. w * i + z * i) e
+
+  lessened : (w v : ℕ) → v < p → ((w + (p - v)) * i) % p ≡ (montgomery_canon w + (p - montgomery_canon v)) % p
+  lessened w v h =
+      let x = (w + (p - v)) * i in
+      let b = (v * i) % p in
+      let below : b < p = mod-lt (v * i) (omega (arith, h)) in
+      let restored : x + p * 1 ≡ (x + b) + (p - b) = omega (arith, below) in
+      let same : (x + b) % p ≡ (w * i) % p =
+      add-mod_second x (v * i) p ∙ ap (λ z. z % p) (joined w v (p - v) (omega (arith, h))) ∙ add-mul-mod_self_left (w * i) p i in
+      sym (add-mul-mod_self_left x p 1) ∙ ap (λ z. z % p) restored ∙ sym (add-mod_first (x + b) (p - b) p) ∙ ap (λ z. (z + (p - b)) % p) same
+
+  pub difference_of_words : (t w v : ℕ) → v < p → t ≡ (w + (p - v)) % p → montgomery_canon t ≡ (montgomery_canon w + (p - montgomery_canon v)) % p
+  difference_of_words t w v h e = ap montgomery_canon e ∙ mul-mod_first (w + (p - v)) i p ∙ lessened w v h
+
+  pub negation_of_word : (t w : ℕ) → w < p → t ≡ (p - w) % p → montgomery_canon t ≡ (p - montgomery_canon w) % p
+  negation_of_word t w h e =
+      let none : montgomery_canon 0 ≡ 0 = ap (λ z. z % p) (let f : 0 * i ≡ 0 = omega arith in f) ∙ zero-mod p in
+      let less : p - w ≡ 0 + (p - w) = omega arith in
+      difference_of_words t 0 w h (e ∙ ap (λ z. z % p) less) ∙ ap (λ z. (z + (p - montgomery_canon w)) % p) none
+      ∙ ap (λ z. z % p) (let f : 0 + (p - montgomery_canon w) ≡ p - montgomery_canon w = omega arith in f)
+
+  pub half_of_word : (t w : ℕ) → (t + t) % p ≡ w → (montgomery_canon t + montgomery_canon t) % p ≡ montgomery_canon w
+  half_of_word t w e = sym (sum_of_words w t t (sym e))
+
 -- the square of r is taken modulo p
 pub square_below : (p s r : ℕ) → 1 < p → s ≡ (r * r) % p → s < p
 square_below p s r above e = let h = remainder_below p (r * r) above in omega (arith, e, h)
@@ -70,37 +101,6 @@ module _ (p r i : ℕ) (unit : (r * i) % p ≡ 1) where
       let regrouped : w * v * i * i ≡ w * i * (v * i) = omega arith in
       ap canon (divided t (w * v) h e) ∙ mul-mod_first (w * v * i) i p ∙ ap (λ z. z % p) regrouped
       ∙ sym (mul-mod_first (w * i) (canon v) p ∙ mul-mod_second (w * i) (v * i) p)
-
-  -- words add up as their residues do
-  pub sum_of_words : (t w v : ℕ) → t ≡ (w + v) % p → canon t ≡ (canon w + canon v) % p
-  sum_of_words t w v e =
-      ap canon e ∙ mul-mod_first (w + v) i p ∙ ap (λ z. z % p) (add-mul w v i) ∙ sym (add-mod_first (w * i) (canon v) p ∙ add-mod_second (w * i) (v * i) p)
-
-  joined : (w v k : ℕ) → k + v ≡ p → (w + k) * i + v * i ≡ w * i + p * i
-  joined w v k e = (let regrouped : (w + k) * i + v * i ≡ w * i + (k + v) * i = omega arith in regrouped) ∙ ap (λ z. w * i + z * i) e
-
-  lessened : (w v : ℕ) → v < p → ((w + (p - v)) * i) % p ≡ (canon w + (p - canon v)) % p
-  lessened w v h =
-      let x = (w + (p - v)) * i in
-      let b = (v * i) % p in
-      let below : b < p = mod-lt (v * i) (omega (arith, h)) in
-      let restored : x + p * 1 ≡ (x + b) + (p - b) = omega (arith, below) in
-      let same : (x + b) % p ≡ (w * i) % p =
-      add-mod_second x (v * i) p ∙ ap (λ z. z % p) (joined w v (p - v) (omega (arith, h))) ∙ add-mul-mod_self_left (w * i) p i in
-      sym (add-mul-mod_self_left x p 1) ∙ ap (λ z. z % p) restored ∙ sym (add-mod_first (x + b) (p - b) p) ∙ ap (λ z. (z + (p - b)) % p) same
-
-  pub difference_of_words : (t w v : ℕ) → v < p → t ≡ (w + (p - v)) % p → canon t ≡ (canon w + (p - canon v)) % p
-  difference_of_words t w v h e = ap canon e ∙ mul-mod_first (w + (p - v)) i p ∙ lessened w v h
-
-  pub negation_of_word : (t w : ℕ) → w < p → t ≡ (p - w) % p → canon t ≡ (p - canon w) % p
-  negation_of_word t w h e =
-      let none : canon 0 ≡ 0 = ap (λ z. z % p) (let f : 0 * i ≡ 0 = omega arith in f) ∙ zero-mod p in
-      let less : p - w ≡ 0 + (p - w) = omega arith in
-      difference_of_words t 0 w h (e ∙ ap (λ z. z % p) less) ∙ ap (λ z. (z + (p - canon w)) % p) none
-      ∙ ap (λ z. z % p) (let f : 0 + (p - canon w) ≡ p - canon w = omega arith in f)
-
-  pub half_of_word : (t w : ℕ) → (t + t) % p ≡ w → (canon t + canon t) % p ≡ canon w
-  half_of_word t w e = sym (sum_of_words w t t (sym e))
 
   -- the sum of the products of words is that of their residues times r^2
   module _ {A : Type 0} (word : A → ℕ) where

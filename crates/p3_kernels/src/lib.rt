@@ -1,5 +1,6 @@
 //! Arithmetic of words on the lanes of vectors, over no field: products in Montgomery's form and sums of
-//! four products, for blocks of 4, 8 and 16 words and for slices of every length.
+//! four products, for blocks of 4, 8 and 16 words and for slices of every length, and sums and differences of
+//! arrays.
 #![tactic(auto)]
 
 pub mod dot_product_blocks;
@@ -8,5 +9,6 @@ mod halves;
 mod lane_reductions;
 pub mod montgomery_blocks;
 pub mod montgomery_slices;
+pub mod residue_arrays;
 mod wide_products;
 mod word_pairs;

@@ -127,7 +127,8 @@ pub fn packed_mod_add<const WIDTH: usize, S: Fn(u32, u32) -> u32>(
     requires right { (k : ℕ) → k < WIDTH → slice_index b.now k < p }
     requires callable { (x y : ℕ) → x < p → y < p → S.pre scalar_add x y }
     requires adds { (x y r : ℕ) → x < p → y < p → S.post scalar_add x y r → r ≡ (x + y) % p }
-    ensures { (k : ℕ) → k < WIDTH → slice_index res.new k ≡ (slice_index a.now k + slice_index b.now k) % p }
+    ensures length { length res.new ≡ WIDTH }
+    ensures lanes { (k : ℕ) → k < WIDTH → slice_index res.new k ≡ (slice_index a.now k + slice_index b.now k) % p }
 {
     let (a, b, res) = (&a[..], &b[..], &mut res[..]);
     let mut i = 0;
@@ -167,7 +168,8 @@ pub fn packed_mod_sub<const WIDTH: usize, S: Fn(u32, u32) -> u32>(
     requires right { (k : ℕ) → k < WIDTH → slice_index b.now k < p }
     requires callable { (x y : ℕ) → x < p → y < p → S.pre scalar_sub x y }
     requires subtracts { (x y r : ℕ) → x < p → y < p → S.post scalar_sub x y r → r ≡ (x + (p - y)) % p }
-    ensures { (k : ℕ) → k < WIDTH → slice_index res.new k ≡ (slice_index a.now k + (p - slice_index b.now k)) % p }
+    ensures length { length res.new ≡ WIDTH }
+    ensures lanes { (k : ℕ) → k < WIDTH → slice_index res.new k ≡ (slice_index a.now k + (p - slice_index b.now k)) % p }
 {
     let (a, b, res) = (&a[..], &b[..], &mut res[..]);
     let mut i = 0;

@@ -4,5 +4,5 @@ use Rattle.p3_bench_prime.proofs.montgomery.MontgomeryFormU32.difference.Goals a
 
 pub returns-clause-value : goal.returns-clause-value
 returns-clause-value g c =
-    difference_of_words g.M.MontgomeryModulus.ORDER (2 ^ 32) g.M.MontgomeryModulus.SCALE_INVERSE g.M.MontgomeryModulus.undoes_scale c.subtract_words.result c.args.left c.args.right
+    difference_of_words g.M.MontgomeryModulus.ORDER (2 ^ 32) g.M.MontgomeryModulus.SCALE_INVERSE c.subtract_words.result c.args.left c.args.right
     c.requires.right (rw c.ORDER.ensures at c.subtract_words.ensures.value)

@@ -4,5 +4,5 @@ use Rattle.p3_bench_prime.proofs.montgomery.MontgomeryFormU32.negation.Goals as 
 
 pub returns-clause-value : goal.returns-clause-value
 returns-clause-value g c =
-    negation_of_word g.M.MontgomeryModulus.ORDER (2 ^ 32) g.M.MontgomeryModulus.SCALE_INVERSE g.M.MontgomeryModulus.undoes_scale c.negate_word.result c.args.stored
+    negation_of_word g.M.MontgomeryModulus.ORDER (2 ^ 32) g.M.MontgomeryModulus.SCALE_INVERSE c.negate_word.result c.args.stored
     c.requires (rw c.ORDER.ensures at c.negate_word.ensures.value)

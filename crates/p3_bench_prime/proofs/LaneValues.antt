@@ -1,0 +1,47 @@
+-- The value whose word a lane has, from those of the words that it was computed of.
+use Rattle.std.specs.Prelude.{◌≡◌, ◌<◌, ◌+◌, ◌-◌, ◌*◌, ◌%◌, ◌^◌, ℕ, List}
+use Rattle.std.proofs.Common.{ap, ap₂, arith, ◌∙◌, sym}
+use Rattle.p3_theory.specs.Rings.DotProduct.{dot}
+use Rattle.p3_theory.specs.ResidueRings.SumsOfProducts.{sum_of_products, is_dot}
+use Rattle.p3_bench_residues.specs.Montgomery.{sum_of_words, difference_of_words, product_reduced, sum_reduced}
+use Rattle.p3_bench_prime.specs.Elements.{canon, is, ops}
+use Rattle.p3_bench_prime.specs.declared.fp.Fp.{Fp}
+use Rattle.p3_bench_prime.specs.declared.form.Form as forms
+use Rattle.p3_bench_prime.specs.declared.form.Word as words
+
+module _ {W T : Type 0} (form : forms.Ghosts W T) {bounds : words.Ghosts T} where
+  abbrev number : Fp W T form bounds → ℕ
+  number x = form.number x.word
+
+  -- the canonical value is so many times the word
+  by_number : (x : Fp W T form bounds) → canon form x ≡ (number x * form.scale) % form.ORDER
+  by_number x = form.scaled x.word x.below
+
+  pub value_of_sum : (x y r : Fp W T form bounds) → number r ≡ (number x + number y) % form.ORDER → canon form r ≡ (canon form x + canon form y) % form.ORDER
+  value_of_sum x y r e =
+      by_number r ∙ sum_of_words form.ORDER (2 ^ 32) form.scale (number r) (number x) (number y) e
+      ∙ sym (ap₂ (λ a b. (a + b) % form.ORDER) (by_number x) (by_number y))
+
+  pub value_of_difference : (x y r : Fp W T form bounds) → number r ≡ (number x + (form.ORDER - number y)) % form.ORDER
+      → canon form r ≡ (canon form x + (form.ORDER - canon form y)) % form.ORDER
+  value_of_difference x y r e =
+      by_number r ∙ difference_of_words form.ORDER (2 ^ 32) form.scale (number r) (number x) (number y) y.below e
+      ∙ sym (ap₂ (λ a b. (a + (form.ORDER - b)) % form.ORDER) (by_number x) (by_number y))
+
+  module _ (by_vectors : 0 < form.INVERSE) where
+    pub value_of_product : (x y r : Fp W T form bounds) → (number r * 2 ^ 32) % form.ORDER ≡ (number x * number y) % form.ORDER
+        → canon form r ≡ (canon form x * canon form y) % form.ORDER
+    value_of_product x y r e =
+        by_number r ∙ product_reduced form.ORDER (2 ^ 32) form.scale (form.montgomery by_vectors).undoes_scale (number r) (number x) (number y) r.below e
+        ∙ sym (ap₂ (λ a b. (a * b) % form.ORDER) (by_number x) (by_number y))
+
+    -- a product of residues counts once
+    once : (m : ℕ) → m ≡ m * 1
+    once m = omega arith
+
+    pub value_of_products : (xs ys : List (Fp W T form bounds)) (r : Fp W T form bounds) → (number r * 2 ^ 32) % form.ORDER ≡ sum_of_products number xs ys % form.ORDER
+        → r ≡ dot (ops form) xs ys
+    value_of_products xs ys r e =
+        is_dot (is form) (canon form) 1 (λ x y. ap (λ m. m % form.ORDER) (once (canon form x * canon form y))) xs ys r
+        (by_number r ∙ sum_reduced form.ORDER (2 ^ 32) form.scale (form.montgomery by_vectors).undoes_scale number (number r) xs ys r.below e
+        ∙ (λ ι. sum_of_products (λ x. sym (by_number x) ι) xs ys % form.ORDER) ∙ ap (λ m. m % form.ORDER) (once _))

@@ -1,0 +1,5 @@
+-- The values at an index of rows.
+use Rattle.std.specs.Prelude.{ℕ, List, get_or, map}
+
+abbrev pub column : {A : Type 0} → ℕ → A → List (List A) → List A
+column k d rows = map (λ row. get_or row k d) rows
