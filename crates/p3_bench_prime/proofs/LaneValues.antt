@@ -1,16 +1,23 @@
 -- The value whose word a lane has, from those of the words that it was computed of.
-use Rattle.std.specs.Prelude.{◌≡◌, ◌<◌, ◌+◌, ◌-◌, ◌*◌, ◌%◌, ◌^◌, ℕ, List}
-use Rattle.std.proofs.Common.{ap, ap₂, arith, ◌∙◌, sym}
+use Rattle.std.specs.Prelude.{◌≡◌, ◌<◌, ◌+◌, ◌-◌, ◌*◌, ◌%◌, ◌≤◌, ◌^◌, ℕ, List, [], length, get_or}
+use Rattle.std.proofs.Common.{ap, ap₂, arith, inl, inr, subst, ◌∙◌, sym}
+use Rattle.std.proofs.lemmas.Bool.{cases_lt}
+use Rattle.std.proofs.lemmas.List.{get_or_default}
 use Rattle.p3_theory.specs.Rings.DotProduct.{dot}
 use Rattle.p3_theory.specs.ResidueRings.SumsOfProducts.{sum_of_products, is_dot}
 use Rattle.p3_bench_residues.specs.Montgomery.{sum_of_words, difference_of_words, product_reduced, sum_reduced}
-use Rattle.p3_bench_prime.specs.Elements.{canon, is, ops}
+use Rattle.p3_kernels.specs.Words.{RowsAreBelow}
+use Rattle.p3_bench_prime.specs.Elements.{canon, is, of, ops}
 use Rattle.p3_bench_prime.specs.declared.fp.Fp.{Fp}
 use Rattle.p3_bench_prime.specs.declared.form.Form as forms
 use Rattle.p3_bench_prime.specs.declared.form.Word as words
 
+-- a product of residues counts once
+once : (m : ℕ) → m ≡ m * 1
+once m = omega arith
+
 module _ {W T : Type 0} (form : forms.Ghosts W T) {bounds : words.Ghosts T} where
-  abbrev number : Fp W T form bounds → ℕ
+  abbrev pub number : Fp W T form bounds → ℕ
   number x = form.number x.word
 
   -- the canonical value is so many times the word
@@ -35,13 +42,27 @@ module _ {W T : Type 0} (form : forms.Ghosts W T) {bounds : words.Ghosts T} wher
         by_number r ∙ product_reduced form.ORDER (2 ^ 32) form.scale (form.montgomery by_vectors).undoes_scale (number r) (number x) (number y) r.below e
         ∙ sym (ap₂ (λ a b. (a * b) % form.ORDER) (by_number x) (by_number y))
 
-    -- a product of residues counts once
-    once : (m : ℕ) → m ≡ m * 1
-    once m = omega arith
-
     pub value_of_products : (xs ys : List (Fp W T form bounds)) (r : Fp W T form bounds) → (number r * 2 ^ 32) % form.ORDER ≡ sum_of_products number xs ys % form.ORDER
         → r ≡ dot (ops form) xs ys
     value_of_products xs ys r e =
         is_dot (is form) (canon form) 1 (λ x y. ap (λ m. m % form.ORDER) (once (canon form x * canon form y))) xs ys r
         (by_number r ∙ sum_reduced form.ORDER (2 ^ 32) form.scale (form.montgomery by_vectors).undoes_scale number (number r) xs ys r.below e
         ∙ (λ ι. sum_of_products (λ x. sym (by_number x) ι) xs ys % form.ORDER) ∙ ap (λ m. m % form.ORDER) (once _))
+
+  -- words of values are below the order
+  pub words_below : (n : ℕ) (ws : List ℕ) (xs : List (Fp W T form bounds)) → ((d : ℕ) (x : Fp W T form bounds) (k : ℕ) → k < n → get_or ws k d ≡ number (get_or xs k x))
+      → (d k : ℕ) → k < n → get_or ws k d < form.ORDER
+  words_below n ws xs h d k l = let x = of form {bounds = bounds} 0 in subst (λ v. v < form.ORDER) (sym (h d x k l)) (get_or xs k x).below
+
+  -- and so are those of rows of values, after which there may be rows of zeros
+  pub rows_below : (n : ℕ) (ws : List (List ℕ)) (xs : List (List (Fp W T form bounds)))
+      → ((x : Fp W T form bounds) (i k : ℕ) → i < length xs → k < n → get_or (get_or ws i []) k 0 ≡ number (get_or (get_or xs i []) k x))
+      → ((i k : ℕ) → length xs ≤ i → i < length ws → k < n → get_or (get_or ws i []) k 0 ≡ 0) → RowsAreBelow n form.ORDER ws
+  rows_below n ws xs h z i d l k m =
+      let x = of form {bounds = bounds} 0 in
+      let above = form.is_form.above_one in
+      subst (λ row. get_or row k 0 < form.ORDER) (get_or_default ws i [] d l)
+      (elim (cases_lt i (length xs)) [
+        | inl lt ↦ subst (λ v. v < form.ORDER) (sym (h x i k lt m)) (get_or (get_or xs i []) k x).below
+        | inr ge ↦ subst (λ v. v < form.ORDER) (sym (z i k ge l m)) (omega (arith, above))
+      ])

@@ -14,7 +14,7 @@ module _ (k : ℕ) where
   of_zeros [] vs h = omega arith
   of_zeros (w ∷ ws) [] h = omega arith
   of_zeros (w ∷ ws) (v ∷ vs) h =
-      ap₂ (λ a b. a * at v + b) (h 0 (omega arith)) (of_zeros ws vs (λ i l. h (suc i) (omega (arith, l))))
+      ap₂ (λ a b. a * at v + b) (h 0 (omega arith)) (of_zeros ws vs (λ i l. h (suc i) (omega (arith, l)))) ∙ (let e : 0 * at v + 0 ≡ 0 = omega arith in e)
 
   -- the words of the first rows are those of values
   module _ {A : Type 0} (word : A → ℕ) (d : A) where

@@ -21,10 +21,6 @@ pub trait Word: Copy {
     /// The number that a word is.
     fn to_u64(self) -> u64
         ensures { result ≡ number self };
-
-    /// The word of a number of 32 bits.
-    fn from_u32(value: u32) -> Self
-        ensures { number result ≡ value };
 }
 
 impl Word for u32 {
@@ -35,11 +31,6 @@ impl Word for u32 {
     #[inline]
     fn to_u64(self) -> u64 {
         self as u64
-    }
-
-    #[inline]
-    fn from_u32(value: u32) -> u32 {
-        value
     }
 }
 
@@ -52,11 +43,6 @@ impl Word for u64 {
     fn to_u64(self) -> u64 {
         self
     }
-
-    #[inline]
-    fn from_u32(value: u32) -> u64 {
-        value as u64
-    }
 }
 
 /// How words of a type stand for the residues modulo an order, and the operations on words. A type
@@ -68,8 +54,6 @@ pub trait Form<T: Word>: Copy {
 
     /// The number that a word is.
     ghost number: { T → ℕ };
-
-    ghost same_number: { (w : T) → number w ≡ T.number w };
 
     /// The residue that a word stands for.
     ghost canon: { T → ℕ };
@@ -110,6 +94,17 @@ pub trait Form<T: Word>: Copy {
     fn encode(residue: u64) -> T
         requires { residue < ORDER }
         ensures { result ≡ word residue };
+
+    /// The number that a word is, where 32 bits hold it.
+    fn to_u32(stored: T) -> u32
+        requires below { number stored < ORDER }
+        requires fits { ORDER ≤ 2 ^ 32 }
+        ensures { result ≡ number stored };
+
+    /// The word that is a number below the order.
+    fn from_u32(value: u32) -> T
+        requires { value < ORDER }
+        ensures { number result ≡ value };
 
     /// The word of the residue of the number that a word is.
     fn reduce(value: T) -> T
@@ -242,7 +237,6 @@ impl<M> Clone for Plain<M> {
 impl<M> Copy for Plain<M> {}
 
 impl<M: Modulus> Form<u32> for Plain<M> {
-    ghost use Rattle.std.specs.Prelude.{refl};
     ghost use Rattle.p3_bench_residues.specs.Forms.{plain, order_below};
     ghost use Rattle.p3_bench_prime.specs.MontgomeryForms.{no_inverse};
     ghost use Rattle.p3_bench_prime.specs.WordSums.{scaled_by_one};
@@ -258,8 +252,6 @@ impl<M: Modulus> Form<u32> for Plain<M> {
     ghost GENERATOR = { M.GENERATOR };
 
     ghost is_form = { plain M.ORDER M.above_one (order_below M.ORDER M.fits) };
-
-    ghost same_number = { λ w. refl };
 
     ghost scale = { 1 };
 
@@ -283,6 +275,16 @@ impl<M: Modulus> Form<u32> for Plain<M> {
     #[inline]
     fn encode(residue: u64) -> u32 {
         residue as u32
+    }
+
+    #[inline]
+    fn to_u32(stored: u32) -> u32 {
+        stored
+    }
+
+    #[inline]
+    fn from_u32(value: u32) -> u32 {
+        value
     }
 
     #[inline]

@@ -70,8 +70,6 @@ impl Form<u64> for GoldilocksForm {
 
     ghost is_form = { plain P (lit< tt) (lit< tt) };
 
-    ghost same_number = { λ w. refl };
-
     ghost scale = { 1 };
 
     ghost scaled = { scaled_by_one };
@@ -94,6 +92,16 @@ impl Form<u64> for GoldilocksForm {
     #[inline]
     fn encode(residue: u64) -> u64 {
         residue
+    }
+
+    #[inline]
+    fn to_u32(stored: u64) -> u32 {
+        stored as u32
+    }
+
+    #[inline]
+    fn from_u32(value: u32) -> u64 {
+        value as u64
     }
 
     #[inline]

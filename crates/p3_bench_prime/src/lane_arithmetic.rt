@@ -3,7 +3,7 @@ ghost use Rattle.std.specs.Prelude.{◌≡◌, ◌<◌, ℕ, length, get_or};
 
 use crate::form::{Form, Word};
 use crate::fp::Fp;
-use crate::lane_words::{values_of, words_of};
+use crate::lane_words::{MOST_LANES, values_of, words_of};
 use p3_kernels::montgomery_slices::multiply_arrays;
 use p3_kernels::residue_arrays::{add_arrays, subtract_arrays};
 use std::ops::{Add, Mul, Sub};
@@ -32,14 +32,12 @@ pub trait LaneArithmetic<const N: usize>: Copy
         ensures lanes { (d : Self) (k : ℕ) → k < N → Self.mul_gives (get_or left.now k d) (get_or right.now k d) (get_or result k d) };
 }
 
-/// The sums of residues, one after the other.
+/// The sums, one after the other.
 #[inline(always)]
-fn sums_by_index<W: Form<T>, T: Word, const N: usize>(
-    left: &[Fp<W, T>; N],
-    right: &[Fp<W, T>; N],
-) -> [Fp<W, T>; N]
+fn sums_by_index<F: Copy + Add<Output = F>, const N: usize>(left: &[F; N], right: &[F; N]) -> [F; N]
+    requires { (d : F) (k : ℕ) → k < N → F.can_add (get_or left.now k d) (get_or right.now k d) }
     ensures length { length result ≡ N }
-    ensures lanes { (d : Fp W T W.Form T.Word) (k : ℕ) → k < N → canon W.Form (get_or result k d) ≡ (canon W.Form (get_or left.now k d) + canon W.Form (get_or right.now k d)) % W.ORDER }
+    ensures lanes { (d : F) (k : ℕ) → k < N → F.add_gives (get_or left.now k d) (get_or right.now k d) (get_or result k d) }
 {
     let mut sums = *left;
     for i in 0..N {
@@ -48,14 +46,15 @@ fn sums_by_index<W: Form<T>, T: Word, const N: usize>(
     sums
 }
 
-/// The differences of residues, one after the other.
+/// The differences, one after the other.
 #[inline(always)]
-fn differences_by_index<W: Form<T>, T: Word, const N: usize>(
-    left: &[Fp<W, T>; N],
-    right: &[Fp<W, T>; N],
-) -> [Fp<W, T>; N]
+fn differences_by_index<F: Copy + Sub<Output = F>, const N: usize>(
+    left: &[F; N],
+    right: &[F; N],
+) -> [F; N]
+    requires { (d : F) (k : ℕ) → k < N → F.can_sub (get_or left.now k d) (get_or right.now k d) }
     ensures length { length result ≡ N }
-    ensures lanes { (d : Fp W T W.Form T.Word) (k : ℕ) → k < N → canon W.Form (get_or result k d) ≡ (canon W.Form (get_or left.now k d) + (W.ORDER - canon W.Form (get_or right.now k d))) % W.ORDER }
+    ensures lanes { (d : F) (k : ℕ) → k < N → F.sub_gives (get_or left.now k d) (get_or right.now k d) (get_or result k d) }
 {
     let mut differences = *left;
     for i in 0..N {
@@ -64,14 +63,15 @@ fn differences_by_index<W: Form<T>, T: Word, const N: usize>(
     differences
 }
 
-/// The products of residues, one after the other.
+/// The products, one after the other.
 #[inline(always)]
-fn products_by_index<W: Form<T>, T: Word, const N: usize>(
-    left: &[Fp<W, T>; N],
-    right: &[Fp<W, T>; N],
-) -> [Fp<W, T>; N]
+fn products_by_index<F: Copy + Mul<Output = F>, const N: usize>(
+    left: &[F; N],
+    right: &[F; N],
+) -> [F; N]
+    requires { (d : F) (k : ℕ) → k < N → F.can_mul (get_or left.now k d) (get_or right.now k d) }
     ensures length { length result ≡ N }
-    ensures lanes { (d : Fp W T W.Form T.Word) (k : ℕ) → k < N → canon W.Form (get_or result k d) ≡ (canon W.Form (get_or left.now k d) * canon W.Form (get_or right.now k d)) % W.ORDER }
+    ensures lanes { (d : F) (k : ℕ) → k < N → F.mul_gives (get_or left.now k d) (get_or right.now k d) (get_or result k d) }
 {
     let mut products = *left;
     for i in 0..N {
@@ -85,37 +85,38 @@ fn products_by_index<W: Form<T>, T: Word, const N: usize>(
 impl<W: Form<T>, T: Word, const N: usize> LaneArithmetic<N> for Fp<W, T> {
     #[inline(always)]
     fn lane_sums(left: &[Self; N], right: &[Self; N]) -> [Self; N] {
-        if W::ORDER < SHORT_ORDERS {
-            let sums = add_arrays(&words_of(left), &words_of(right), W::ORDER as u32);
-            values_of(&sums)
+        if W::ORDER < SHORT_ORDERS && N <= MOST_LANES {
+            let x = words_of::<W, T, N>(left);
+            let y = words_of::<W, T, N>(right);
+            let sums = add_arrays::<N>(&x, &y, W::ORDER as u32);
+            values_of::<W, T, N>(&sums)
         } else {
-            sums_by_index(left, right)
+            sums_by_index::<Self, N>(left, right)
         }
     }
 
     #[inline(always)]
     fn lane_differences(left: &[Self; N], right: &[Self; N]) -> [Self; N] {
-        if W::ORDER < SHORT_ORDERS {
-            let differences = subtract_arrays(&words_of(left), &words_of(right), W::ORDER as u32);
-            values_of(&differences)
+        if W::ORDER < SHORT_ORDERS && N <= MOST_LANES {
+            let x = words_of::<W, T, N>(left);
+            let y = words_of::<W, T, N>(right);
+            let differences = subtract_arrays::<N>(&x, &y, W::ORDER as u32);
+            values_of::<W, T, N>(&differences)
         } else {
-            differences_by_index(left, right)
+            differences_by_index::<Self, N>(left, right)
         }
     }
 
     /// In Montgomery's form by vectors.
     #[inline(always)]
     fn lane_products(left: &[Self; N], right: &[Self; N]) -> [Self; N] {
-        if W::INVERSE > 0 {
-            let products = multiply_arrays(
-                &words_of(left),
-                &words_of(right),
-                W::ORDER as u32,
-                W::INVERSE,
-            );
-            values_of(&products)
+        if W::INVERSE > 0 && N <= MOST_LANES {
+            let x = words_of::<W, T, N>(left);
+            let y = words_of::<W, T, N>(right);
+            let products = multiply_arrays::<N>(&x, &y, W::ORDER as u32, W::INVERSE);
+            values_of::<W, T, N>(&products)
         } else {
-            products_by_index(left, right)
+            products_by_index::<Self, N>(left, right)
         }
     }
 }

@@ -5,7 +5,7 @@ ghost use Rattle.p3_bench_prime.specs.Columns.{column};
 
 use crate::form::{Form, Word};
 use crate::fp::Fp;
-use crate::lane_words::{values_of, words_of};
+use crate::lane_words::{MOST_LANES, values_of, words_of};
 use p3_kernels::dot_product_slices::array_dot_products;
 use p3_ring::ring::PrimeCharacteristicRing;
 
@@ -32,7 +32,7 @@ fn row_words<W: Form<T>, T: Word, const N: usize>(rows: &[[Fp<W, T>; N]]) -> [[u
     let mut words = [[0; N]; 4];
     for i in 0..rows.len() {
         let row = &rows[i];
-        words[i] = words_of(row);
+        words[i] = words_of::<W, T, N>(row);
     }
     words
 }
@@ -41,12 +41,12 @@ fn row_words<W: Form<T>, T: Word, const N: usize>(rows: &[[Fp<W, T>; N]]) -> [[u
 impl<W: Form<T>, T: Word, const N: usize> LaneDotProducts<N> for Fp<W, T> {
     #[inline(always)]
     fn lane_dot_products(left: &[[Self; N]], right: &[[Self; N]]) -> Option<[Self; N]> {
-        if W::INVERSE == 0 {
+        if W::INVERSE == 0 || N > MOST_LANES {
             return None;
         }
-        let x = row_words(left);
-        let y = row_words(right);
-        let sums = array_dot_products(&x, &y, W::ORDER as u32, W::INVERSE);
-        Some(values_of(&sums))
+        let x = row_words::<W, T, N>(left);
+        let y = row_words::<W, T, N>(right);
+        let sums = array_dot_products::<N>(&x, &y, W::ORDER as u32, W::INVERSE);
+        Some(values_of::<W, T, N>(&sums))
     }
 }

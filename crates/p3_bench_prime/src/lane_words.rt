@@ -4,6 +4,9 @@ ghost use Rattle.std.specs.Prelude.{◌≡◌, ◌≤◌, ◌<◌, ◌^◌, ℕ,
 use crate::form::{Form, Word};
 use crate::fp::Fp;
 
+/// Up to how many values go as vectors.
+pub(crate) const MOST_LANES: usize = 64;
+
 /// The words of N values, which 32 bits hold.
 #[inline(always)]
 pub(crate) fn words_of<W: Form<T>, T: Word, const N: usize>(values: &[Fp<W, T>; N]) -> [u32; N]

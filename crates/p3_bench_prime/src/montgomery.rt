@@ -128,8 +128,6 @@ impl<M: MontgomeryModulus> Form<u32> for Montgomery<M> {
 
     ghost is_form = { montgomery M.ORDER (2 ^ 32) M.SCALE_INVERSE M.undoes_scale M.above_one (order_below M.ORDER M.fits) };
 
-    ghost same_number = { λ w. refl };
-
     ghost scale = { M.SCALE_INVERSE };
 
     ghost scaled = { λ w h. refl };
@@ -152,6 +150,16 @@ impl<M: MontgomeryModulus> Form<u32> for Montgomery<M> {
     #[inline]
     fn encode(residue: u64) -> u32 {
         reduced_product::<M>(M::SQUARE, residue as u32)
+    }
+
+    #[inline]
+    fn to_u32(stored: u32) -> u32 {
+        stored
+    }
+
+    #[inline]
+    fn from_u32(value: u32) -> u32 {
+        value
     }
 
     #[inline]
