@@ -27,7 +27,7 @@ fn load_8(row: &[u32], start: usize) -> u32x8
 
 /// The four words of each of four rows from an index on.
 #[inline(always)]
-fn load_rows_4(rows: [&[u32]; 4], start: usize) -> [u32x4; 4]
+pub fn load_rows_4(rows: [&[u32]; 4], start: usize) -> [u32x4; 4]
     requires { All (λ row. start + 4 ≤ length row.now) rows }
     ensures { result ≡ map (block_at start 4) (rows_of rows.entry) }
 {
@@ -42,7 +42,7 @@ fn load_rows_4(rows: [&[u32]; 4], start: usize) -> [u32x4; 4]
 
 /// The eight words of each of four rows from an index on.
 #[inline(always)]
-fn load_rows_8(rows: [&[u32]; 4], start: usize) -> [u32x8; 4]
+pub fn load_rows_8(rows: [&[u32]; 4], start: usize) -> [u32x8; 4]
     requires { All (λ row. start + 8 ≤ length row.now) rows }
     ensures { result ≡ map (block_at start 8) (rows_of rows.entry) }
 {

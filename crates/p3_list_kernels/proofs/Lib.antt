@@ -1,4 +1,5 @@
 pub mod PolynomialSteps
 pub mod PowerSteps
 pub mod Recasts
+pub mod SmallDotProducts
 pub mod SmallProducts

@@ -35,14 +35,28 @@ product_short p a b h l m =
     let most = mul-le-mul (let f : a ≤ 255 = omega (arith, h, l) in f) (let g : b ≤ 255 = omega (arith, h, m) in g) in
     omega (arith, most)
 
-low_is : (p a x : ℕ) → p ≤ 2 ^ 8 → a < p → x ≡ a % 2 ^ 16 → x ≡ a
+pub low_is : (p a x : ℕ) → p ≤ 2 ^ 8 → a < p → x ≡ a % 2 ^ 16 → x ≡ a
 low_is p a x h l e = omega (arith, h, l, e)
 
-high_is : (p a x : ℕ) → p ≤ 2 ^ 8 → a < p → x ≡ a / 2 ^ 16 → x ≡ 0
+pub high_is : (p a x : ℕ) → p ≤ 2 ^ 8 → a < p → x ≡ a / 2 ^ 16 → x ≡ 0
 high_is p a x h l e = omega (arith, h, l, e)
 
 joined_is : (w x y : ℕ) → w ≡ x + 2 ^ 16 * y → y ≡ 0 → w ≡ x
 joined_is w x y e z = omega (arith, e, z)
+
+-- numbers on halves: those of words on the even ones, and zeros on the odd ones
+module _ (n p : ℕ) (number half : ℕ → ℕ) (even : (k : ℕ) → k < n → half (2 * k) ≡ number k) (odd : (k : ℕ) → k < n → half (2 * k + 1) ≡ 0) where
+  pub halves_fit : ((k : ℕ) → k < n → number k < 2 ^ 16) → (k : ℕ) → k < 2 * n → half k < 2 ^ 16
+  halves_fit fit =
+      by_halves n (λ k. half k < 2 ^ 16)
+      (λ k l. subst (λ z. z < 2 ^ 16) (sym (even k l)) (fit k l))
+      (λ k l. subst (λ z. z < 2 ^ 16) (sym (odd k l)) (omega arith))
+
+  pub joined_residues : (zs ws : List ℕ) → AreResidues (2 * n) p half zs → ((k : ℕ) → k < n → get_or ws k 0 ≡ get_or zs (2 * k) 0 + 2 ^ 16 * get_or zs (2 * k + 1) 0)
+      → AreResidues n p number ws
+  joined_residues zs ws e w k l =
+      joined_is (get_or ws k 0) (get_or zs (2 * k) 0) (get_or zs (2 * k + 1) 0) (w k l) (e (2 * k + 1) (omega (arith, l)) ∙ ap (λ z. z % p) (odd k l) ∙ zero-mod p)
+      ∙ e (2 * k) (omega (arith, l)) ∙ ap (λ z. z % p) (even k l)
 
 -- of words below p and their halves
 module _ (n p : ℕ) (left right xs ys : List ℕ) (fits : p ≤ 2 ^ 8) (a : AreBelow n p left) (b : AreBelow n p right)
@@ -63,13 +77,8 @@ module _ (n p : ℕ) (left right xs ys : List ℕ) (fits : p ≤ 2 ^ 8) (a : Are
       λ ι. x ι * y ι
 
   pub halves_short : (k : ℕ) → k < 2 * n → product_at xs ys k < 2 ^ 16
-  halves_short =
-      by_halves n (λ k. product_at xs ys k < 2 ^ 16)
-      (λ k l. subst (λ z. z < 2 ^ 16) (sym (even_product k l)) (product_short p (get_or left k 0) (get_or right k 0) fits (a k l) (b k l)))
-      (λ k l. subst (λ z. z < 2 ^ 16) (sym (odd_product k l)) (omega arith))
+  halves_short = halves_fit n p (product_at left right) (product_at xs ys) even_product odd_product (λ k l. product_short p (get_or left k 0) (get_or right k 0) fits (a k l) (b k l))
 
   pub joined_products : (zs ws : List ℕ) → AreResidues (2 * n) p (product_at xs ys) zs → ((k : ℕ) → k < n → get_or ws k 0 ≡ get_or zs (2 * k) 0 + 2 ^ 16 * get_or zs (2 * k + 1) 0)
       → AreResidues n p (product_at left right) ws
-  joined_products zs ws e w k l =
-      joined_is (get_or ws k 0) (get_or zs (2 * k) 0) (get_or zs (2 * k + 1) 0) (w k l) (e (2 * k + 1) (omega (arith, l)) ∙ ap (λ z. z % p) (odd_product k l) ∙ zero-mod p)
-      ∙ e (2 * k) (omega (arith, l)) ∙ ap (λ z. z % p) (even_product k l)
+  joined_products = joined_residues n p (product_at left right) (product_at xs ys) even_product odd_product
