@@ -1,6 +1,7 @@
 -- The value whose word a lane has, from those of the words that it was computed of.
-use Rattle.std.specs.Prelude.{◌≡◌, ◌<◌, ◌+◌, ◌-◌, ◌*◌, ◌%◌, ◌≤◌, ◌^◌, ℕ, List, [], length, get_or}
+use Rattle.std.specs.Prelude.{◌≡◌, ◌<◌, ◌+◌, ◌-◌, ◌*◌, ◌%◌, ◌≤◌, ◌^◌, ℕ, List, [], true, length, get_or}
 use Rattle.std.proofs.Common.{ap, ap₂, arith, inl, inr, subst, ◌∙◌, sym}
+use Rattle.std.proofs.Math.Nat.{mod-eq_of_lt}
 use Rattle.std.proofs.lemmas.Bool.{cases_lt}
 use Rattle.std.proofs.lemmas.List.{get_or_default}
 use Rattle.p3_theory.specs.Rings.DotProduct.{dot}
@@ -15,6 +16,10 @@ use Rattle.p3_bench_prime.specs.declared.form.Word as words
 -- a product of residues counts once
 once : (m : ℕ) → m ≡ m * 1
 once m = omega arith
+
+-- once the scale is one, where a word is its own residue
+pub own_scale : {W T : Type 0} (form : forms.Ghosts W T) → form.PLAIN ≡ true → (1 * form.scale) % form.ORDER ≡ 1
+own_scale form h = ap (λ k. (1 * k) % form.ORDER) (form.plain h) ∙ mod-eq_of_lt form.is_form.above_one
 
 module _ {W T : Type 0} (form : forms.Ghosts W T) {bounds : words.Ghosts T} where
   abbrev pub number : Fp W T form bounds → ℕ
@@ -35,18 +40,19 @@ module _ {W T : Type 0} (form : forms.Ghosts W T) {bounds : words.Ghosts T} wher
       by_number r ∙ difference_of_words form.ORDER (2 ^ 32) form.scale (number r) (number x) (number y) y.below e
       ∙ sym (ap₂ (λ a b. (a + (form.ORDER - b)) % form.ORDER) (by_number x) (by_number y))
 
-  module _ (by_vectors : 0 < form.INVERSE) where
-    pub value_of_product : (x y r : Fp W T form bounds) → (number r * 2 ^ 32) % form.ORDER ≡ (number x * number y) % form.ORDER
+  -- where the scale is undone by s
+  module _ (s : ℕ) (undone : (s * form.scale) % form.ORDER ≡ 1) where
+    pub value_of_product : (x y r : Fp W T form bounds) → (number r * s) % form.ORDER ≡ (number x * number y) % form.ORDER
         → canon form r ≡ (canon form x * canon form y) % form.ORDER
     value_of_product x y r e =
-        by_number r ∙ product_reduced form.ORDER (2 ^ 32) form.scale (form.montgomery by_vectors).undoes_scale (number r) (number x) (number y) r.below e
+        by_number r ∙ product_reduced form.ORDER s form.scale undone (number r) (number x) (number y) r.below e
         ∙ sym (ap₂ (λ a b. (a * b) % form.ORDER) (by_number x) (by_number y))
 
-    pub value_of_products : (xs ys : List (Fp W T form bounds)) (r : Fp W T form bounds) → (number r * 2 ^ 32) % form.ORDER ≡ sum_of_products number xs ys % form.ORDER
+    pub value_of_products : (xs ys : List (Fp W T form bounds)) (r : Fp W T form bounds) → (number r * s) % form.ORDER ≡ sum_of_products number xs ys % form.ORDER
         → r ≡ dot (ops form) xs ys
     value_of_products xs ys r e =
         is_dot (is form) (canon form) 1 (λ x y. ap (λ m. m % form.ORDER) (once (canon form x * canon form y))) xs ys r
-        (by_number r ∙ sum_reduced form.ORDER (2 ^ 32) form.scale (form.montgomery by_vectors).undoes_scale number (number r) xs ys r.below e
+        (by_number r ∙ sum_reduced form.ORDER s form.scale undone number (number r) xs ys r.below e
         ∙ (λ ι. sum_of_products (λ x. sym (by_number x) ι) xs ys % form.ORDER) ∙ ap (λ m. m % form.ORDER) (once _))
 
   -- words of values are below the order

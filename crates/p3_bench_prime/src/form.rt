@@ -1,4 +1,4 @@
-ghost use Rattle.std.specs.Prelude.{◌≡◌, ◌≤◌, ◌<◌, ◌+◌, ◌-◌, ◌*◌, ◌%◌, ◌^◌, ℕ, length, get_or, ⊤};
+ghost use Rattle.std.specs.Prelude.{◌≡◌, ◌≤◌, ◌<◌, ◌+◌, ◌-◌, ◌*◌, ◌%◌, ◌^◌, ℕ, length, get_or, Bool, true, refl, ⊤};
 ghost use Rattle.p3_bench_residues.specs.Forms.{IsForm};
 ghost use Rattle.p3_bench_prime.specs.MontgomeryForms.{IsMontgomery};
 
@@ -75,6 +75,11 @@ pub trait Form<T: Word>: Copy {
 
     ghost montgomery: { 0 < INVERSE → IsMontgomery ORDER INVERSE scale };
 
+    /// Whether each word is its own residue.
+    ghost PLAIN: { Bool };
+
+    ghost plain: { PLAIN ≡ true → scale ≡ 1 };
+
     /// The order: how many residues there are. It is two or more.
     const ORDER: u64;
 
@@ -84,6 +89,9 @@ pub trait Form<T: Word>: Copy {
     /// The inverse of the order modulo 2^32 where a word holds its residue times 2^32 and the order is below
     /// 2^31: lanes are multiplied by vectors there. It is zero elsewhere.
     const INVERSE: u32;
+
+    /// Whether each word is its own residue.
+    const PLAIN: bool;
 
     /// The residue that a word stands for.
     fn decode(stored: T) -> u64
@@ -261,11 +269,17 @@ impl<M: Modulus> Form<u32> for Plain<M> {
 
     ghost montgomery = { no_inverse };
 
+    ghost PLAIN = { true };
+
+    ghost plain = { λ _. refl };
+
     const ORDER: u64 = M::ORDER as u64;
 
     const GENERATOR: u64 = M::GENERATOR as u64;
 
     const INVERSE: u32 = 0;
+
+    const PLAIN: bool = true;
 
     #[inline]
     fn decode(stored: u32) -> u64 {

@@ -1,5 +1,5 @@
 //! The residues modulo 2^64 - 2^32 + 1, with all that the field owes as numbers.
-ghost use Rattle.std.specs.Prelude.{◌≡◌, ◌≤◌, ◌<◌, ◌+◌, ◌*◌, ◌^◌, length, refl};
+ghost use Rattle.std.specs.Prelude.{◌≡◌, ◌≤◌, ◌<◌, ◌+◌, ◌*◌, ◌^◌, length, true, refl};
 ghost use Rattle.p3_theory.specs.ResidueRings.SumsOfProducts.{sum_of_products};
 ghost use Rattle.p3_bench_prime.specs.Elements.{word_number};
 
@@ -78,11 +78,17 @@ impl Form<u64> for GoldilocksForm {
 
     ghost montgomery = { no_inverse };
 
+    ghost PLAIN = { true };
+
+    ghost plain = { λ _. refl };
+
     const ORDER: u64 = P;
 
     const GENERATOR: u64 = 7;
 
     const INVERSE: u32 = 0;
+
+    const PLAIN: bool = true;
 
     #[inline]
     fn decode(stored: u64) -> u64 {

@@ -1,15 +1,20 @@
 //! Sums, differences and products of N values and N others at once, which packings go by.
-ghost use Rattle.std.specs.Prelude.{◌≡◌, ◌<◌, ℕ, length, get_or};
+ghost use Rattle.std.specs.Prelude.{◌≡◌, ◌≤◌, ◌<◌, ◌*◌, ◌%◌, ◌^◌, ℕ, true, length, get_or};
+ghost use Rattle.p3_bench_prime.specs.Elements.{canon};
 
 use crate::form::{Form, Word};
 use crate::fp::Fp;
 use crate::lane_words::{MOST_LANES, values_of, words_of};
 use p3_kernels::montgomery_slices::multiply_arrays;
 use p3_kernels::residue_arrays::{add_arrays, subtract_arrays};
+use p3_list_kernels::small_products::multiply_small_arrays;
 use std::ops::{Add, Mul, Sub};
 
 /// Orders up to which the words of two residues add up to a word of 32 bits.
 const SHORT_ORDERS: u64 = 0x8000_0000;
+
+/// Orders up to which products of residues have 16 bits.
+const SMALL_ORDERS: u64 = 0x100;
 
 /// A type with sums, differences and products of N values at once. This project's own.
 pub trait LaneArithmetic<const N: usize>: Copy
@@ -80,6 +85,41 @@ fn products_by_index<F: Copy + Mul<Output = F>, const N: usize>(
     products
 }
 
+/// The products in Montgomery's form, by vectors.
+#[inline(always)]
+fn montgomery_products<W: Form<T>, T: Word, const N: usize>(
+    left: &[Fp<W, T>; N],
+    right: &[Fp<W, T>; N],
+) -> [Fp<W, T>; N]
+    requires by_vectors { 0 < W.INVERSE }
+    requires few { N ≤ 64 }
+    ensures length { length result ≡ N }
+    ensures lanes { (d : Fp W T W.Form T.Word) (k : ℕ) → k < N → canon W.Form (get_or result k d) ≡ (canon W.Form (get_or left.now k d) * canon W.Form (get_or right.now k d)) % W.ORDER }
+{
+    let x = words_of::<W, T, N>(left);
+    let y = words_of::<W, T, N>(right);
+    let products = multiply_arrays::<N>(&x, &y, W::ORDER as u32, W::INVERSE);
+    values_of::<W, T, N>(&products)
+}
+
+/// The products modulo an order of at most 2^8, by vectors.
+#[inline(always)]
+fn small_products<W: Form<T>, T: Word, const N: usize>(
+    left: &[Fp<W, T>; N],
+    right: &[Fp<W, T>; N],
+) -> [Fp<W, T>; N]
+    requires plain { W.PLAIN ≡ true }
+    requires small { W.ORDER ≤ 2 ^ 8 }
+    requires few { N ≤ 64 }
+    ensures length { length result ≡ N }
+    ensures lanes { (d : Fp W T W.Form T.Word) (k : ℕ) → k < N → canon W.Form (get_or result k d) ≡ (canon W.Form (get_or left.now k d) * canon W.Form (get_or right.now k d)) % W.ORDER }
+{
+    let x = words_of::<W, T, N>(left);
+    let y = words_of::<W, T, N>(right);
+    let products = multiply_small_arrays::<N>(&x, &y, W::ORDER as u32);
+    values_of::<W, T, N>(&products)
+}
+
 /// The order is a constant, and so the way is chosen when the program is compiled. The words are those of the
 /// values, and the way there and back takes no step.
 impl<W: Form<T>, T: Word, const N: usize> LaneArithmetic<N> for Fp<W, T> {
@@ -107,14 +147,13 @@ impl<W: Form<T>, T: Word, const N: usize> LaneArithmetic<N> for Fp<W, T> {
         }
     }
 
-    /// In Montgomery's form by vectors.
+    /// By vectors in Montgomery's form and modulo small orders.
     #[inline(always)]
     fn lane_products(left: &[Self; N], right: &[Self; N]) -> [Self; N] {
         if W::INVERSE > 0 && N <= MOST_LANES {
-            let x = words_of::<W, T, N>(left);
-            let y = words_of::<W, T, N>(right);
-            let products = multiply_arrays::<N>(&x, &y, W::ORDER as u32, W::INVERSE);
-            values_of::<W, T, N>(&products)
+            montgomery_products::<W, T, N>(left, right)
+        } else if W::PLAIN && W::ORDER <= SMALL_ORDERS && N <= MOST_LANES {
+            small_products::<W, T, N>(left, right)
         } else {
             products_by_index::<Self, N>(left, right)
         }

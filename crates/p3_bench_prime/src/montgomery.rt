@@ -1,5 +1,5 @@
 //! Residues in Montgomery's form: the word holds the residue times 2^32.
-ghost use Rattle.std.specs.Prelude.{◌≡◌, ◌<◌, ◌*◌, ◌%◌, ◌^◌, ℕ, refl, ⊤};
+ghost use Rattle.std.specs.Prelude.{◌≡◌, ◌<◌, ◌*◌, ◌%◌, ◌^◌, ℕ, false, refl, ⊤};
 
 use crate::form::{Form, Order, OverModulus, ShortForm, add_short};
 use crate::fp::Fp;
@@ -115,6 +115,7 @@ impl<M> Copy for Montgomery<M> {}
 impl<M: MontgomeryModulus> Form<u32> for Montgomery<M> {
     ghost use Rattle.p3_bench_residues.specs.Forms.{order_below};
     ghost use Rattle.p3_bench_residues.specs.Montgomery.{montgomery, montgomery_canon, montgomery_word};
+    ghost use Rattle.p3_bench_prime.specs.MontgomeryForms.{not_plain};
 
     ghost ORDER = { M.ORDER };
 
@@ -136,11 +137,17 @@ impl<M: MontgomeryModulus> Form<u32> for Montgomery<M> {
 
     ghost montgomery = { λ h. record { short = M.fits; inverts_order = M.inverts_order; undoes_scale = M.undoes_scale } };
 
+    ghost PLAIN = { false };
+
+    ghost plain = { not_plain };
+
     const ORDER: u64 = M::ORDER as u64;
 
     const GENERATOR: u64 = M::GENERATOR as u64;
 
     const INVERSE: u32 = M::INVERSE;
+
+    const PLAIN: bool = false;
 
     #[inline]
     fn decode(stored: u32) -> u64 {
