@@ -11,7 +11,7 @@ ghost use Rattle.p3_bench_packed.specs.Values.{packed_rows};
 use crate::packed::Packed;
 use p3_bench_prime::lane_arithmetic::LaneArithmetic;
 use p3_ring::ring::PrimeCharacteristicRing;
-use std::ops::{Add, Div, Mul, Neg, Sub};
+use std::ops::{Add, Div, Neg, Sub};
 
 /// The sum at each lane.
 #[inline(always)]
@@ -106,22 +106,6 @@ pub(crate) fn sub_value<F: Copy + Sub<Output = F>, const N: usize>(
     let mut value = x.value;
     for i in 0..N {
         value[i] = x.value[i] - y;
-    }
-    Packed::new(value)
-}
-
-/// The product of each lane and the value y.
-#[inline]
-pub(crate) fn mul_value<F: Copy + Mul<Output = F>, const N: usize>(
-    x: Packed<F, N>,
-    y: F,
-) -> Packed<F, N>
-    requires { (d : F) (k : ℕ) → k < N → F.can_mul (get_or x.value k d) y }
-    ensures { (d : F) (k : ℕ) → k < N → F.mul_gives (get_or x.value k d) y (get_or result.value k d) }
-{
-    let mut value = x.value;
-    for i in 0..N {
-        value[i] = x.value[i] * y;
     }
     Packed::new(value)
 }

@@ -3,7 +3,7 @@ ghost use Rattle.std.specs.Prelude.{◌≡◌, ◌<◌, ◌+◌, ◌-◌, ◌*�
 ghost use Rattle.p3_theory.specs.Rings.Ring.{Invertible};
 ghost use Rattle.p3_bench_prime.specs.Elements.{canon, ops};
 
-use crate::lane_loops::{add_value, div_value, mul_lanes, mul_value, sub_value};
+use crate::lane_loops::{add_value, div_value, mul_lanes, sub_value};
 use crate::packed::Packed;
 use crate::wide_products::WideProducts;
 use p3_bench_prime::form::{Form, Word};
@@ -69,10 +69,11 @@ impl<W: Form<T>, T: Word, const N: usize> Mul<Fp<W, T>> for Packed<Fp<W, T>, N> 
 
     #[inline]
     fn mul(self, other: Fp<W, T>) -> Self {
+        let others = Self::new([other; N]);
         if Fp::<W, T>::WIDE {
-            mul_lanes_apart(self, Self::new([other; N]))
+            mul_lanes_apart(self, others)
         } else {
-            mul_value(self, other)
+            mul_lanes(self, others)
         }
     }
 }
