@@ -29,11 +29,11 @@ loop-i-preserved g c =
           c.part-part.ensures c.store_block.ensures.block c.store_block.ensures.before c.loop-i.invariant.1,
     )
 
-pub returns-kept : goal.returns-kept
-returns-kept g c = c.loop-i.invariant.0 ∙ sym c.requires.all
+pub returns-clause-kept : goal.returns-clause-kept
+returns-clause-kept g c = c.loop-i.invariant.0 ∙ sym c.requires.all
 
-pub returns-written : goal.returns-written
-returns-written g c =
+pub returns-clause-written : goal.returns-clause-written
+returns-clause-written g c =
     let w = g.P.PackedValue.WIDTH in
     let lanes : ℕ = length c.args.out.now in
     let same : lanes / c.WIDTH-width.result ≡ lanes / w = ap (λ x. lanes / x) c.WIDTH-width.ensures in
