@@ -114,7 +114,7 @@ fn dot_of_few<F: LaneDotProducts<N>, const N: usize, const K: usize>(
     }
 }
 
-/// The same, in a function that isn't taken into its callers (see `WideProducts`).
+/// The same, in a function that isn't taken into its callers.
 #[inline(never)]
 fn dot_apart<F: LaneDotProducts<N>, const N: usize, const K: usize>(
     left: &[Packed<F, N>],
@@ -128,26 +128,8 @@ fn dot_apart<F: LaneDotProducts<N>, const N: usize, const K: usize>(
     dot_of_few::<F, N, K>(left, right)
 }
 
-/// The dot product of K packings and K others, by a call where a product takes more than 32 bits.
-#[inline(always)]
-fn apart_if_wide<F: LaneDotProducts<N> + WideProducts, const N: usize, const K: usize>(
-    u: &[Packed<F, N>],
-    v: &[Packed<F, N>],
-) -> Packed<F, N>
-    requires few { K ≤ 4 }
-    requires left { length u.now ≡ K }
-    requires right { length v.now ≡ K }
-    ensures { result ≡ dot (row_ops packed_rows F.ops) u.now v.now }
-{
-    if F::WIDE {
-        dot_apart::<F, N, K>(u, v)
-    } else {
-        dot_of_few::<F, N, K>(u, v)
-    }
-}
-
-/// The dot product of K packings and K others. Up to eight lanes at once are taken into the caller; else it is
-/// a call where a product takes more than 32 bits.
+/// The dot product of K packings and K others, by a call where it is better one (see `WideProducts`), and of
+/// more than eight lanes.
 #[inline(always)]
 fn short_dot<F: LaneDotProducts<N> + WideProducts, const N: usize, const K: usize>(
     u: &[Packed<F, N>],
@@ -158,12 +140,10 @@ fn short_dot<F: LaneDotProducts<N> + WideProducts, const N: usize, const K: usiz
     requires right { length v.now ≡ K }
     ensures { result ≡ dot (row_ops packed_rows F.ops) u.now v.now }
 {
-    if N > 8 {
-        return apart_if_wide::<F, N, K>(u, v);
-    }
-    match dot_at_once::<F, N, K>(u, v) {
-        Some(sum) => sum,
-        None => apart_if_wide::<F, N, K>(u, v),
+    if F::WIDE || N > 8 {
+        dot_apart::<F, N, K>(u, v)
+    } else {
+        dot_of_few::<F, N, K>(u, v)
     }
 }
 
