@@ -156,6 +156,47 @@ impl Split {
         value
     }
 
+    /// The product of all factors `X - root` but the one at an index.
+    pub(crate) fn cofactor(&self, index: usize) -> List {
+        let mut product = ONE;
+        for i in 0..self.degree {
+            if i != index {
+                product = self.product(&product, &self.factor_at(i));
+            }
+        }
+        product
+    }
+
+    /// Whether the product of two values is one.
+    pub(crate) fn are_inverses(&self, a: &List, b: &List) -> bool {
+        self.product(a, b) == ONE
+    }
+
+    /// Whether the value is zero at a root, and the product of it and the cofactor, which isn't zero, is zero.
+    /// Then it has no inverse: with one, the cofactor would be zero times that.
+    pub(crate) fn divides_zero(&self, a: &List) -> bool {
+        for index in 0..self.degree {
+            if self.evaluation(a, at(&self.roots, index)) == 0 {
+                let cofactor = self.cofactor(index);
+                return cofactor != ZERO && self.product(a, &cofactor) == ZERO;
+            }
+        }
+        false
+    }
+
+    /// The value whose coefficients are the digits of a number, in radix the order, the lowest first.
+    pub(crate) fn list_at(&self, number: u64) -> List {
+        let mut list = ZERO;
+        let mut rest = number;
+        for i in 0..self.degree {
+            if i < MOST {
+                list[i] = self.reduced(rest);
+                rest = rest.checked_div(self.order).unwrap_or(0);
+            }
+        }
+        list
+    }
+
     /// Whether the value has an inverse: just those that are zero at no root have one.
     pub(crate) fn has_inverse(&self, a: &List) -> bool {
         for (index, root) in self.roots.iter().enumerate() {
