@@ -22,18 +22,21 @@ fn assert_call(
     Ok(())
 }
 
-/// Asserts the inverses of values that were worked outside.
+/// Asserts the inverses of values that were worked outside, and that the plain products with these are one.
 #[test]
 fn worked_inverses(rt: HostRuntime) -> Result<(), Fail> {
     for extension in EXTENSIONS {
-        for (number, row) in extension.table().inverses.iter().enumerate() {
+        let table = extension.table();
+        for (number, row) in table.inverses.iter().enumerate() {
             let (value, inverse) = *row;
-            assert_call(
-                &rt,
-                extension,
-                Call::Inverse { value, inverse },
-                number as u64,
-            )?;
+            if let Some(y) = inverse {
+                assert!(rt;
+                    table.split.are_inverses(&value, &y),
+                    "{extension:?} {number}"
+                );
+            }
+            let call = Call::Inverse { value, inverse };
+            assert_call(&rt, extension, call, number as u64)?;
         }
     }
     Ok(())
@@ -45,34 +48,14 @@ fn inverses_of_all_values(rt: HostRuntime) -> Result<(), Fail> {
     for extension in EXTENSIONS {
         let table = extension.table();
         for number in 0..table.first {
-            assert_call(
-                &rt,
-                extension,
-                Call::Divide(table.split.list_at(number)),
-                number,
-            )?;
+            let call = Call::Divide(table.split.list_at(number));
+            assert_call(&rt, extension, call, number)?;
         }
     }
     Ok(())
 }
 
-/// Asserts that the multiples of each `X - root` by a value have no inverse.
-fn assert_multiples(
-    rt: &(impl Abort + AllocGlobal),
-    extension: Extension,
-    x: &List,
-    number: u64,
-) -> Result<(), Fail> {
-    let split = &extension.table().split;
-    for index in 0..split.degree {
-        let value = split.product(x, &split.factor_at(index));
-        let inverse = None;
-        assert_call(rt, extension, Call::Inverse { value, inverse }, number)?;
-        assert_call(rt, extension, Call::Divide(value), number)?;
-    }
-    Ok(())
-}
-
+/// Asserts the calls on samples, and on the multiples of each `X - root` by them, which have no inverse.
 #[test]
 fn inverses_of_samples(rt: HostRuntime) -> Result<(), Fail> {
     for extension in EXTENSIONS {
@@ -81,7 +64,12 @@ fn inverses_of_samples(rt: HostRuntime) -> Result<(), Fail> {
         for number in 0..SAMPLES {
             let x = samples.list(split);
             assert_call(&rt, extension, Call::Divide(x), number)?;
-            assert_multiples(&rt, extension, &x, number)?;
+            for index in 0..split.degree {
+                let value = split.product(&x, &split.factor_at(index));
+                let inverse = None;
+                assert_call(&rt, extension, Call::Inverse { value, inverse }, number)?;
+                assert_call(&rt, extension, Call::Divide(value), number)?;
+            }
         }
     }
     Ok(())

@@ -1,7 +1,6 @@
 //! Runs over vectors of packings, and inverses of packings, of 1, 4 and 8 lanes.
 use crate::extensions::{EXTENSIONS, Extension};
 use crate::lane_calls::{Call, Case};
-use crate::plain::{List, ONE};
 use std::process::Abort;
 use std::test::Fail;
 
@@ -40,35 +39,6 @@ fn inverses_of_all_lanes(rt: HostRuntime) -> Result<(), Fail> {
         }
     }
     Ok(())
-}
-
-/// The plain products of values worked by hand are one.
-#[test]
-fn products_by_hand(rt: HostRuntime) {
-    let rows: [(Extension, List, List); 3] = [
-        (
-            Extension::F17sx4,
-            [2, 1, 0, 0, 0, 0, 0, 0],
-            [13, 2, 16, 9, 0, 0, 0, 0],
-        ),
-        (
-            Extension::F17nx2,
-            [1, 1, 0, 0, 0, 0, 0, 0],
-            [1, 16, 0, 0, 0, 0, 0, 0],
-        ),
-        (
-            Extension::F59t3,
-            [0, 1, 0, 0, 0, 0, 0, 0],
-            [58, 0, 1, 0, 0, 0, 0, 0],
-        ),
-    ];
-    for (extension, a, b) in rows {
-        assert_eq!(rt;
-            extension.table().split.product(&a, &b),
-            ONE,
-            "{extension:?}"
-        );
-    }
 }
 
 /// In every lane of the runs, registers 0 and 1 hold nonzero values whose product is zero.

@@ -137,14 +137,12 @@ impl Split {
         power
     }
 
-    /// The factor `X - root`.
-    fn factor(&self, root: u64) -> List {
-        self.sum(&X, &self.negation(&self.scaled(&ONE, root)))
-    }
-
-    /// The factor whose root stands at an index.
+    /// The factor `X - root` whose root stands at an index.
     pub(crate) fn factor_at(&self, index: usize) -> List {
-        self.factor(at(&self.roots, index))
+        self.sum(
+            &X,
+            &self.negation(&self.scaled(&ONE, at(&self.roots, index))),
+        )
     }
 
     /// The value at a number, by Horner's rule.

@@ -1,7 +1,10 @@
-//! Each growth of each call refused in turn, at many lengths.
-use crate::calls::{Callee, Scalars, Splits};
-use crate::numbers::Pair;
-use crate::table::{Call, LIMBS, PAIRS, Row, SCALARS, answered, growths_at};
+//! The calls that take memory: each of the growths that a call asks for is refused in turn, at many lengths.
+mod calls;
+mod numbers;
+mod table;
+
+use calls::{Callee, Scalars, Splits};
+use numbers::Pair;
 use p3_bench_prime::extensions::F17x2;
 use p3_bench_prime::goldilocks::Goldilocks;
 use p3_bench_prime::small::F17;
@@ -9,6 +12,7 @@ use p3_field_testing::refusing::Refusing;
 use std::alloc::Global;
 use std::process::Abort;
 use std::test::Fail;
+use table::{Call, LIMBS, PAIRS, Row, SCALARS, answered, growths_at};
 
 /// The lengths that are tried.
 const LENGTHS: [usize; 25] = [

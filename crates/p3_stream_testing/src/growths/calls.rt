@@ -2,8 +2,8 @@
 ghost use Rattle.std.specs.Prelude.{◌<◌, ℕ, length, get_or, IsTrue};
 ghost use Rattle.p3_theory.specs.Rings.Ring.{Invertible};
 
-use crate::numbers::{Pair, Sequence, coefficient, coefficients, terms};
-use crate::table::Call;
+use super::numbers::{Pair, Sequence, coefficient, coefficients, terms};
+use super::table::Call;
 use p3_base::field::{Field, PrimeField, PrimeField32, PrimeField64};
 use p3_base::packed_traits::Packable;
 use p3_batch_inverse::batch_inverse::batch_multiplicative_inverse_in;
