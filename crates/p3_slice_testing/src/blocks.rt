@@ -1,9 +1,9 @@
 //! Packings that are read from the groups of a slice and written there.
 ghost use Rattle.std.specs.Prelude.{◌≤◌, ◌+◌, ◌*◌, IfSome};
 
-use crate::numbers::{GREATEST_LENGTH, number, packing, place, values};
-use p3_base::field::{Field, PrimeField64};
-use p3_base::packed_traits::{PackedField, PackedValue};
+use crate::numbers::{Canonical, GREATEST_LENGTH, number, packing, place, values};
+use p3_base::packed_traits::PackedValue;
+use p3_ring::ring::PrimeCharacteristicRing;
 use std::alloc::{AllocError, Global};
 use std::process::Abort;
 use std::test::Fail;
@@ -14,7 +14,7 @@ const SLICE: u64 = 7;
 const PACKING: u64 = 0x9E37_79B9_7F4A_7C15;
 
 /// The number of a group that lies whole in so many values.
-fn group_within<F: Field, P: PackedField<F>>(length: usize, group: usize) -> Option<usize>
+fn group_within<P: PackedValue>(length: usize, group: usize) -> Option<usize>
     ensures { IfSome result (λ i. i * P.WIDTH + P.WIDTH ≤ length) }
 {
     let start = group.checked_mul(P::WIDTH)?;
@@ -26,7 +26,7 @@ fn group_within<F: Field, P: PackedField<F>>(length: usize, group: usize) -> Opt
 }
 
 /// Whether the lanes have the numbers of a list from an index on.
-fn has_lanes<F: PrimeField64, P: PackedField<F>>(
+fn has_lanes<F: Canonical, P: PackedValue<Value = F>>(
     packing: &P,
     start: usize,
     step: u64,
@@ -34,7 +34,7 @@ fn has_lanes<F: PrimeField64, P: PackedField<F>>(
 ) -> bool {
     for lane in 0..P::WIDTH {
         let value = packing.extract(lane);
-        if value.as_canonical_u64() != number(start.wrapping_add(lane), step, order) {
+        if value.canonical() != number(start.wrapping_add(lane), step, order) {
             return false;
         }
     }
@@ -50,9 +50,9 @@ fn written(i: usize, start: usize, lanes: usize, order: u64) -> u64 {
 }
 
 /// Whether the entries have the numbers of the slice once the packing is written.
-fn are_written<F: PrimeField64>(slice: &[F], start: usize, lanes: usize, order: u64) -> bool {
+fn are_written<F: Canonical>(slice: &[F], start: usize, lanes: usize, order: u64) -> bool {
     for i in 0..slice.len() {
-        if slice[i].as_canonical_u64() != written(i, start, lanes, order) {
+        if slice[i].canonical() != written(i, start, lanes, order) {
             return false;
         }
     }
@@ -60,7 +60,7 @@ fn are_written<F: PrimeField64>(slice: &[F], start: usize, lanes: usize, order: 
 }
 
 /// Whether a group of a slice is read, and the packing written to it stands there alone.
-fn agrees<F: PrimeField64, P: PackedField<F>>(
+fn agrees<F: PrimeCharacteristicRing + Canonical, P: PackedValue<Value = F>>(
     alloc: Global,
     length: usize,
     group: usize,
@@ -68,7 +68,7 @@ fn agrees<F: PrimeField64, P: PackedField<F>>(
 ) -> Result<bool, AllocError> {
     let block: P = packing::<F, P>(0, PACKING, order);
     let mut slice: Vec<F> = values(alloc, length, SLICE, order)?;
-    let Some(i) = group_within::<F, P>(slice.len(), group) else {
+    let Some(i) = group_within::<P>(slice.len(), group) else {
         return Ok(false);
     };
     let start = place(i, 0, P::WIDTH);
@@ -82,7 +82,7 @@ fn agrees<F: PrimeField64, P: PackedField<F>>(
 }
 
 /// Asserts that each whole group of slices of every length is read and written.
-pub(crate) fn assert_blocks<F: PrimeField64, P: PackedField<F>>(
+pub(crate) fn assert_blocks<F: PrimeCharacteristicRing + Canonical, P: PackedValue<Value = F>>(
     rt: &(impl Abort + AllocGlobal),
     order: u64,
 ) -> Result<(), Fail> {

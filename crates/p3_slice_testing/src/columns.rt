@@ -2,10 +2,11 @@
 //! accumulators.
 ghost use Rattle.std.specs.Prelude.{◌≡◌, ◌<◌, length};
 
-use crate::numbers::{GREATEST_LENGTH, number, packings, place, residue, values};
-use p3_base::field::PrimeField64;
-use p3_base::packed_traits::{PackedField, PackedValue};
+use crate::numbers::{Canonical, GREATEST_LENGTH, number, packings, place, residue, values};
+use p3_base::packed_traits::PackedValue;
 use p3_columns::columnwise::{AsRow, batched_columnwise_dot_product};
+use p3_ring::packed_ring::PackedRing;
+use p3_ring::ring::PrimeCharacteristicRing;
 use std::alloc::{AllocError, Global};
 use std::process::Abort;
 use std::test::Fail;
@@ -53,7 +54,7 @@ fn items_of(length: usize) -> [Item; 2] {
 }
 
 /// The values of an item; `Ok(None)` where it has not N scales.
-fn with_values<F: PrimeField64, P: PackedField<F>, const N: usize>(
+fn with_values<F: PrimeCharacteristicRing, P: PackedValue<Value = F>, const N: usize>(
     alloc: Global,
     item: Item,
     order: u64,
@@ -96,12 +97,15 @@ impl Products {
 }
 
 /// Whether each lane of the accumulators has its number once the products are added.
-fn are_totals<F: PrimeField64, P: PackedField<F>>(accumulators: &[P], products: Products) -> bool {
+fn are_totals<F: Canonical, P: PackedValue<Value = F>>(
+    accumulators: &[P],
+    products: Products,
+) -> bool {
     for i in 0..accumulators.len() {
         let packing = accumulators[i];
         for lane in 0..P::WIDTH {
             let value = packing.extract(lane);
-            if value.as_canonical_u64() != products.total(i, lane) {
+            if value.canonical() != products.total(i, lane) {
                 return false;
             }
         }
@@ -110,7 +114,7 @@ fn are_totals<F: PrimeField64, P: PackedField<F>>(accumulators: &[P], products: 
 }
 
 /// Whether the products of a row of this length, and of another row, are added to so many accumulators.
-fn agrees<F: PrimeField64, P: PackedField<F>, const N: usize>(
+fn agrees<F: PrimeCharacteristicRing + Canonical, P: PackedRing<F>, const N: usize>(
     alloc: Global,
     count: usize,
     length: usize,
@@ -141,7 +145,7 @@ fn agrees<F: PrimeField64, P: PackedField<F>, const N: usize>(
 }
 
 /// Asserts that products with N scales are added, at every number of accumulators and every length of a row.
-fn assert_scales<F: PrimeField64, P: PackedField<F>, const N: usize>(
+fn assert_scales<F: PrimeCharacteristicRing + Canonical, P: PackedRing<F>, const N: usize>(
     rt: &(impl Abort + AllocGlobal),
     order: u64,
 ) -> Result<(), Fail>
@@ -159,7 +163,7 @@ fn assert_scales<F: PrimeField64, P: PackedField<F>, const N: usize>(
 }
 
 /// Asserts that products with one, two and three scales are added column by column.
-pub(crate) fn assert_columns<F: PrimeField64, P: PackedField<F>>(
+pub(crate) fn assert_columns<F: PrimeCharacteristicRing + Canonical, P: PackedRing<F>>(
     rt: &(impl Abort + AllocGlobal),
     order: u64,
 ) -> Result<(), Fail> {

@@ -1,5 +1,6 @@
 //! Cosets of two elements of the residues modulo 15, by hand.
-use p3_base::field::{PrimeField64, TwoAdicField};
+use crate::numbers::Canonical;
+use p3_base::field::TwoAdicField;
 use p3_bench_prime::form::{OverModulus, Plain};
 use p3_bench_prime::fp::Fp;
 use p3_bench_prime::small::M15;
@@ -18,7 +19,7 @@ const COSETS: [(u64, Option<[u64; 2]>); 6] = [
 ];
 
 /// Whether the coset has just these elements, by their indices and as an iterator.
-fn has_elements<F: TwoAdicField + PrimeField64>(
+fn has_elements<F: TwoAdicField + Canonical>(
     coset: TwoAdicMultiplicativeCoset<F>,
     elements: [u64; 2],
 ) -> bool {
@@ -28,10 +29,10 @@ fn has_elements<F: TwoAdicField + PrimeField64>(
     let mut items = coset.iter();
     for i in 0..2 {
         let item = match items.next() {
-            Some(item) => item.as_canonical_u64(),
+            Some(item) => item.canonical(),
             None => return false,
         };
-        if item != elements[i] || coset.element(i).as_canonical_u64() != elements[i] {
+        if item != elements[i] || coset.element(i).canonical() != elements[i] {
             return false;
         }
     }
@@ -39,7 +40,7 @@ fn has_elements<F: TwoAdicField + PrimeField64>(
 }
 
 /// Asserts that each shift has its coset, or none.
-fn assert_cosets<F: TwoAdicField + PrimeField64>(rt: &impl Abort) {
+fn assert_cosets<F: TwoAdicField + Canonical>(rt: &impl Abort) {
     for (shift, elements) in COSETS {
         let holds = match (
             TwoAdicMultiplicativeCoset::<F>::new(F::from_u64(shift), 1),

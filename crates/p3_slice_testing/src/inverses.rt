@@ -2,8 +2,8 @@
 ghost use Rattle.std.specs.Prelude.{◌<◌, ℕ, length, get_or, IsTrue};
 ghost use Rattle.p3_theory.specs.Rings.Ring.{Invertible};
 
-use crate::numbers::{GREATEST_LENGTH, number, residue};
-use p3_base::field::{Field, PrimeField64};
+use crate::numbers::{Canonical, GREATEST_LENGTH, number, residue};
+use p3_base::field::Field;
 use p3_batch_inverse::batch_inverse::batch_multiplicative_inverse;
 use std::alloc::{AllocError, Global};
 use std::process::Abort;
@@ -15,8 +15,8 @@ fn unit(i: usize, order: u64) -> u64 {
 }
 
 /// Whether a value times the number at an index is one.
-fn is_inverse<F: PrimeField64>(value: F, i: usize, order: u64) -> bool {
-    residue(value.as_canonical_u64(), unit(i, order), 0, order) == 1
+fn is_inverse<F: Canonical>(value: F, i: usize, order: u64) -> bool {
+    residue(value.canonical(), unit(i, order), 0, order) == 1
 }
 
 /// Whether a value has an inverse.
@@ -50,7 +50,11 @@ fn inverses<F: Field>(alloc: Global, x: &[F]) -> Result<Option<Vec<F>>, AllocErr
 }
 
 /// Whether a list of so many values is inverted.
-fn inverts<F: PrimeField64>(alloc: Global, length: usize, order: u64) -> Result<bool, AllocError> {
+fn inverts<F: Field + Canonical>(
+    alloc: Global,
+    length: usize,
+    order: u64,
+) -> Result<bool, AllocError> {
     let mut x: Vec<F> = Vec::new(alloc);
     for i in 0..length {
         x.push(F::from_u64(unit(i, order)))?;
@@ -67,7 +71,7 @@ fn inverts<F: PrimeField64>(alloc: Global, length: usize, order: u64) -> Result<
 }
 
 /// Asserts that lists of every length are inverted.
-pub(crate) fn assert_inverses<F: PrimeField64>(
+pub(crate) fn assert_inverses<F: Field + Canonical>(
     rt: &(impl Abort + AllocGlobal),
     order: u64,
 ) -> Result<(), Fail> {

@@ -1,6 +1,6 @@
 //! Tests of the calls that go over slices by packings, at every length from 0 to 17 and with 1, 4 and 8
 //! lanes: each entry is compared with plain arithmetic on numbers. Beside them a coset of the residues modulo
-//! 15, and the Frobenius map taken many times.
+//! 15.
 #![tactic(auto)]
 
 #[cfg(test)]
@@ -9,8 +9,6 @@ mod blocks;
 mod columns;
 #[cfg(test)]
 mod cosets;
-#[cfg(test)]
-mod images;
 #[cfg(test)]
 mod inverses;
 #[cfg(test)]

@@ -1,7 +1,23 @@
 //! Residues modulo an order, by plain arithmetic on numbers, and lists of values with such numbers.
 use p3_base::field::PrimeField64;
-use p3_base::packed_traits::PackedField;
+use p3_base::packed_traits::PackedValue;
+use p3_bench_prime::form::{Form, Word};
+use p3_bench_prime::fp::Fp;
+use p3_ring::ring::PrimeCharacteristicRing;
 use std::alloc::{AllocError, Global};
+
+/// The canonical number of a residue, and no more of a prime field: a function that is bounded by all of one
+/// takes seconds more to check.
+pub(crate) trait Canonical: Copy {
+    /// The number, which is below the order.
+    fn canonical(self) -> u64;
+}
+
+impl<W: Form<T>, T: Word> Canonical for Fp<W, T> {
+    fn canonical(self) -> u64 {
+        self.as_canonical_u64()
+    }
+}
 
 /// The greatest length that is tried.
 pub(crate) const GREATEST_LENGTH: usize = 17;
@@ -39,7 +55,7 @@ pub(crate) fn place(i: usize, lane: usize, lanes: usize) -> usize {
 }
 
 /// The first values of a list.
-pub(crate) fn values<F: PrimeField64>(
+pub(crate) fn values<F: PrimeCharacteristicRing>(
     alloc: Global,
     length: usize,
     step: u64,
@@ -53,12 +69,16 @@ pub(crate) fn values<F: PrimeField64>(
 }
 
 /// The packing at an index of a list.
-pub(crate) fn packing<F: PrimeField64, P: PackedField<F>>(i: usize, step: u64, order: u64) -> P {
+pub(crate) fn packing<F: PrimeCharacteristicRing, P: PackedValue<Value = F>>(
+    i: usize,
+    step: u64,
+    order: u64,
+) -> P {
     P::from_fn(|lane: usize| -> F { F::from_u64(number(place(i, lane, P::WIDTH), step, order)) })
 }
 
 /// The first packings of a list.
-pub(crate) fn packings<F: PrimeField64, P: PackedField<F>>(
+pub(crate) fn packings<F: PrimeCharacteristicRing, P: PackedValue<Value = F>>(
     alloc: Global,
     length: usize,
     step: u64,

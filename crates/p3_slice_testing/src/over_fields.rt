@@ -2,11 +2,11 @@
 use crate::blocks::assert_blocks;
 use crate::columns::assert_columns;
 use crate::inverses::assert_inverses;
-use crate::numbers::{BABY_BEAR_ORDER, GOLDILOCKS_ORDER, ORDER_17};
+use crate::numbers::{BABY_BEAR_ORDER, Canonical, GOLDILOCKS_ORDER, ORDER_17};
 use crate::slices::assert_slices;
 use p3_array::array::FieldArray;
 use p3_array::lanes::Lanes;
-use p3_base::field::PrimeField64;
+use p3_base::field::Field;
 use p3_base::packed_traits::{Packable, PackedField};
 use p3_bench_packed::lanes::LaneCount;
 use p3_bench_packed::packed::Packed;
@@ -20,7 +20,7 @@ use std::process::Abort;
 use std::test::Fail;
 
 /// Asserts the calls by packings P, which have so many lanes.
-fn assert_by_packings<F: PrimeField64, P: PackedField<F>>(
+fn assert_by_packings<F: Field + Canonical, P: PackedField<F>>(
     rt: &(impl Abort + AllocGlobal),
     order: u64,
     lanes: usize,
@@ -33,7 +33,7 @@ fn assert_by_packings<F: PrimeField64, P: PackedField<F>>(
 
 /// Asserts the calls by arrays of N values. Nothing is read of `_array`: a function that names the array knows
 /// that it has room.
-fn assert_array<F: PrimeField64 + Lanes<N>, const N: usize>(
+fn assert_array<F: Canonical + Lanes<N>, const N: usize>(
     rt: &(impl Abort + AllocGlobal),
     order: u64,
     _array: Option<FieldArray<F, N>>,
@@ -43,7 +43,7 @@ fn assert_array<F: PrimeField64 + Lanes<N>, const N: usize>(
 
 /// Asserts inverses, and the calls by the field itself and by arrays of 4 and 8 values. Nothing is read of
 /// `four` and `eight`.
-fn assert_arrays<F: PrimeField64 + Packable>(
+fn assert_arrays<F: Field + Canonical + Packable>(
     rt: &(impl Abort + AllocGlobal),
     order: u64,
     four: Option<FieldArray<F, 4>>,

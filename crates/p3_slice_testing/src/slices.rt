@@ -2,9 +2,10 @@
 ghost use Rattle.std.specs.Prelude.{◌≡◌, length};
 
 use crate::numbers::{
-    BABY_BEAR_ORDER, GOLDILOCKS_ORDER, GREATEST_LENGTH, ORDER_17, number, residue, values,
+    BABY_BEAR_ORDER, Canonical, GOLDILOCKS_ORDER, GREATEST_LENGTH, ORDER_17, number, residue,
+    values,
 };
-use p3_base::field::{Field, PrimeField64};
+use p3_base::field::Field;
 use p3_base::packed_traits::PackedField;
 use p3_tools::helpers::{
     add_scaled_slice_in_place, add_slices, par_add_scaled_slice_in_place, par_scale_slice_in_place,
@@ -78,7 +79,7 @@ fn changed(call: Call, x: u64, y: u64, factor: u64, order: u64) -> u64 {
 }
 
 /// Whether a call makes of a slice of so many entries what it makes of their numbers.
-fn agrees<F: PrimeField64, P: PackedField<F>>(
+fn agrees<F: Field + Canonical, P: PackedField<F>>(
     alloc: Global,
     call: Call,
     length: usize,
@@ -94,7 +95,7 @@ fn agrees<F: PrimeField64, P: PackedField<F>>(
     change::<F, P>(call, &mut slice, &other, F::from_u64(factor));
     for i in 0..slice.len() {
         let (x, y) = (number(i, steps.0, order), number(i, steps.1, order));
-        if slice[i].as_canonical_u64() != changed(call, x, y, factor, order) {
+        if slice[i].canonical() != changed(call, x, y, factor, order) {
             return Ok(false);
         }
     }
@@ -102,7 +103,7 @@ fn agrees<F: PrimeField64, P: PackedField<F>>(
 }
 
 /// Asserts that each call changes slices of every length as plain loops on numbers do.
-pub(crate) fn assert_slices<F: PrimeField64, P: PackedField<F>>(
+pub(crate) fn assert_slices<F: Field + Canonical, P: PackedField<F>>(
     rt: &(impl Abort + AllocGlobal),
     order: u64,
 ) -> Result<(), Fail> {

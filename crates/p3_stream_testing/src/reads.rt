@@ -6,8 +6,9 @@ ghost use Rattle.std.specs.Prelude.{◌<◌};
 use crate::example_runs::EXAMPLE_FILES;
 use crate::failing_streams::reader;
 use crate::lines::{cut_text, ended_lines, fault_line, line_end, shows};
+use crate::runs::ran;
 use crate::worked_runs::{EXAMPLES, FAULTS, INVERSES, LINES, Run, WITHOUT_A_FIELD};
-use p3_field_bench::{MemSink, MemSource, StdSource, engine};
+use p3_field_bench::{MemSink, StdSource, engine};
 use std::alloc::{AllocError, Global};
 use std::process::Abort;
 use std::test::Fail;
@@ -146,9 +147,8 @@ fn a_source_in_memory_fails(rt: HostRuntime) -> Result<(), Fail> {
         (ends_in_a_line, 1, 30, "3\nline 4: fault 9\n"),
     ];
     for (input, piece, reads, text) in rows {
-        let mut source = MemSource::new(input.as_bytes().to_vec(rt.alloc())?, piece, Some(reads));
-        let mut sink = MemSink::new(rt.alloc(), 100, true)?;
-        let answer = engine(rt.alloc(), &mut source, &mut sink);
+        let source = (piece, Some(reads));
+        let (answer, sink) = ran(rt.alloc(), input.as_bytes(), source, (100, true))?;
         assert_eq!(rt; answer, 1, "{text}");
         assert_eq!(rt; sink.text(), text.as_bytes());
     }

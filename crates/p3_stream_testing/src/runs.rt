@@ -3,8 +3,23 @@
 use crate::example_runs::EXAMPLE_FILES;
 use crate::worked_runs::{EXAMPLES, FAULTS, INVERSES, LINES, Run, WITHOUT_A_FIELD};
 use p3_field_bench::{MemSink, MemSource, engine};
+use std::alloc::{AllocError, Global};
 use std::process::Abort;
 use std::test::Fail;
+
+/// Runs the input over a source that gives so many bytes at once and fails after so many reads, if at all, and
+/// a sink with this room, which fails or takes nothing once it is full. The status, and the sink.
+pub(crate) fn ran(
+    alloc: Global,
+    input: &[u8],
+    reads: (usize, Option<usize>),
+    room: (usize, bool),
+) -> Result<(u8, MemSink), AllocError> {
+    let mut source = MemSource::new(input.to_vec(alloc)?, reads.0, reads.1);
+    let mut sink = MemSink::new(alloc, room.0, room.1)?;
+    let status = engine(alloc, &mut source, &mut sink);
+    Ok((status, sink))
+}
 
 /// Runs the input in pieces of 1, 2, 7 and 1000 bytes, and compares the text and the status.
 fn assert_text(
@@ -14,9 +29,7 @@ fn assert_text(
     status: u8,
 ) -> Result<(), Fail> {
     for piece in [1usize, 2, 7, 1000] {
-        let mut source = MemSource::new(input.to_vec(rt.alloc())?, piece, None);
-        let mut sink = MemSink::new(rt.alloc(), 100, true)?;
-        let answer = engine(rt.alloc(), &mut source, &mut sink);
+        let (answer, sink) = ran(rt.alloc(), input, (piece, None), (100, true))?;
         assert_eq!(rt; answer, status, "{text}");
         assert_eq!(rt; sink.text(), text.as_bytes());
     }

@@ -3,8 +3,9 @@
 
 use crate::example_runs::EXAMPLE_FILES;
 use crate::failing_streams::{Refusal, writer};
+use crate::runs::ran;
 use crate::worked_runs::{EXAMPLES, FAULTS, INVERSES, LINES, Run, WITHOUT_A_FIELD};
-use p3_field_bench::{MemSink, MemSource, StdSink, StdSource, engine};
+use p3_field_bench::{StdSink, StdSource, engine};
 use std::alloc::Global;
 use std::process::Abort;
 use std::test::Fail;
@@ -21,9 +22,8 @@ fn assert_room(
     status: u8,
 ) -> Result<(), Fail> {
     for fails in [false, true] {
-        let mut source = MemSource::new(input.as_bytes().to_vec(rt.alloc())?, 7, None);
-        let mut sink = MemSink::new(rt.alloc(), text.len(), fails)?;
-        let answer = engine(rt.alloc(), &mut source, &mut sink);
+        let room = (text.len(), fails);
+        let (answer, sink) = ran(rt.alloc(), input.as_bytes(), (7, None), room)?;
         assert_eq!(rt; answer, status, "{input}");
         assert_eq!(rt; sink.text(), text, "{input}");
     }

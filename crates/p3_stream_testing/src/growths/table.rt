@@ -1,5 +1,5 @@
 //! The calls that take memory, what each is given, what it answers and how often it asks for memory.
-use crate::numbers::{ORDER, Pair, Sequence, bytes, digits, terms};
+use super::numbers::{ORDER, Pair, Sequence, bytes, digits, terms};
 use std::alloc::{AllocError, Allocator};
 
 /// A call, with what tells its input and its answer.

@@ -1,5 +1,6 @@
-//! What registers hold before a run, and the steps: by numbers that look random, and always the same.
-use crate::plain::{List, ONE, Split, X, ZERO, at};
+//! Values that are tried, what registers hold before a run, and the steps: by numbers that look random, and always
+//! the same.
+use crate::plain::{List, MOST, Split, X, ZERO, at};
 use p3_runs::steps::Step;
 
 /// How many registers a run has.
@@ -94,17 +95,6 @@ impl Split {
         lane.checked_rem(self.degree).unwrap_or(0)
     }
 
-    /// The product of all factors `X - root` but the one at an index.
-    fn cofactor(&self, index: usize) -> List {
-        let mut product = ONE;
-        for i in 0..self.degree {
-            if i != index {
-                product = self.product(&product, &self.factor_at(i));
-            }
-        }
-        product
-    }
-
     /// What a register holds in a lane before the run. Register 0 holds a value with an inverse times a factor
     /// `X - root`, and register 1 the product of the other factors, so that their product is zero; register 3
     /// holds X.
@@ -139,5 +129,34 @@ impl Split {
             }
         }
         value
+    }
+}
+
+/// Numbers that look random: a linear congruence modulo 2^64, of which the upper half is read.
+#[derive(Drop)]
+pub(crate) struct Samples {
+    /// The number that was drawn last, or the one to begin with.
+    pub state: u64,
+}
+
+impl Samples {
+    /// The upper half of the next number.
+    fn next(&mut self) -> u64 {
+        self.state = self
+            .state
+            .wrapping_mul(6364136223846793005)
+            .wrapping_add(1442695040888963407);
+        self.state >> 32
+    }
+
+    /// The coefficients of the next value.
+    pub(crate) fn list(&mut self, split: &Split) -> List {
+        let mut list = ZERO;
+        for i in 0..split.degree {
+            if i < MOST {
+                list[i] = split.reduced(self.next());
+            }
+        }
+        list
     }
 }

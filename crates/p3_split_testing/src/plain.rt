@@ -81,23 +81,20 @@ impl Split {
         self.scaled(a, self.order.wrapping_sub(1))
     }
 
-    /// The coefficient at an index of the product with X.
-    fn shifted_at(&self, a: &List, index: usize) -> u64 {
-        let top = at(a, self.degree.wrapping_sub(1));
-        let below = if index < self.degree {
-            at(a, index.wrapping_sub(1))
-        } else {
-            0
-        };
-        below.wrapping_add(top.wrapping_mul(at(&self.folded, index)))
-    }
-
     /// `X * a + number * b`.
     fn shifted_sum(&self, a: &List, number: u64, b: &List) -> List {
-        std::array::from_fn(|i: usize| -> u64 {
-            let term = at(b, i).wrapping_mul(number);
-            self.reduced(self.shifted_at(a, i).wrapping_add(term))
-        })
+        let mut sum = ZERO;
+        let mut below: u64 = 0;
+        let top = at(a, self.degree.wrapping_sub(1));
+        for i in 0..self.degree {
+            if i < MOST {
+                let folded = top.wrapping_mul(self.folded[i]);
+                let term = b[i].wrapping_mul(number);
+                sum[i] = self.reduced(below.wrapping_add(folded).wrapping_add(term));
+                below = a[i];
+            }
+        }
+        sum
     }
 
     /// The product, from the last coefficient of a down.
@@ -137,14 +134,12 @@ impl Split {
         power
     }
 
-    /// The factor `X - root`.
-    fn factor(&self, root: u64) -> List {
-        self.sum(&X, &self.negation(&self.scaled(&ONE, root)))
-    }
-
-    /// The factor whose root stands at an index.
+    /// The factor `X - root` whose root stands at an index.
     pub(crate) fn factor_at(&self, index: usize) -> List {
-        self.factor(at(&self.roots, index))
+        self.sum(
+            &X,
+            &self.negation(&self.scaled(&ONE, at(&self.roots, index))),
+        )
     }
 
     /// The value at a number, by Horner's rule.
@@ -154,6 +149,47 @@ impl Split {
             value = self.reduced(value.wrapping_mul(number).wrapping_add(*coefficient));
         }
         value
+    }
+
+    /// The product of all factors `X - root` but the one at an index.
+    pub(crate) fn cofactor(&self, index: usize) -> List {
+        let mut product = ONE;
+        for i in 0..self.degree {
+            if i != index {
+                product = self.product(&product, &self.factor_at(i));
+            }
+        }
+        product
+    }
+
+    /// Whether the product of two values is one.
+    pub(crate) fn are_inverses(&self, a: &List, b: &List) -> bool {
+        self.product(a, b) == ONE
+    }
+
+    /// Whether the value is zero at a root, and the product of it and the cofactor, which isn't zero, is zero.
+    /// Then it has no inverse: with one, the cofactor would be zero times that.
+    pub(crate) fn divides_zero(&self, a: &List) -> bool {
+        for index in 0..self.degree {
+            if self.evaluation(a, at(&self.roots, index)) == 0 {
+                let cofactor = self.cofactor(index);
+                return cofactor != ZERO && self.product(a, &cofactor) == ZERO;
+            }
+        }
+        false
+    }
+
+    /// The value whose coefficients are the digits of a number, in radix the order, the lowest first.
+    pub(crate) fn list_at(&self, number: u64) -> List {
+        let mut list = ZERO;
+        let mut rest = number;
+        for i in 0..self.degree {
+            if i < MOST {
+                list[i] = self.reduced(rest);
+                rest = rest.checked_div(self.order).unwrap_or(0);
+            }
+        }
+        list
     }
 
     /// Whether the value has an inverse: just those that are zero at no root have one.

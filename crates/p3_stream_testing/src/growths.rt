@@ -1,14 +1,22 @@
-//! Each growth of each call refused in turn, at many lengths.
-use crate::calls::{Callee, Scalars, Splits};
-use crate::numbers::Pair;
-use crate::table::{Call, LIMBS, PAIRS, Row, SCALARS, answered, growths_at};
+//! The calls that take memory: each of the growths that a call asks for is refused in turn, at many lengths.
+mod calls;
+mod numbers;
+mod table;
+
+use calls::{Callee, Scalars, Splits};
+use numbers::{Canonical, Pair};
+use p3_base::field::PrimeField32;
+use p3_base::packed_traits::Packable;
 use p3_bench_prime::extensions::F17x2;
 use p3_bench_prime::goldilocks::Goldilocks;
 use p3_bench_prime::small::F17;
+use p3_ext::extension::{BinomialExtensionField, BinomiallyExtendable};
 use p3_field_testing::refusing::Refusing;
+use p3_spaces::in_memory::InMemory;
 use std::alloc::Global;
 use std::process::Abort;
 use std::test::Fail;
+use table::{Call, LIMBS, PAIRS, Row, SCALARS, answered, growths_at};
 
 /// The lengths that are tried.
 const LENGTHS: [usize; 25] = [
@@ -69,17 +77,18 @@ fn assert_growths<C: Callee>(
     Ok(())
 }
 
-#[test]
-fn growths_over_a_field(rt: HostRuntime) -> Result<(), Fail> {
-    assert_growths(&rt, Scalars::<F17>::of_field(), &SCALARS)
+/// Asserts the calls over a field of 17 elements, over its extension, of which X is given, and of splits into
+/// values of it.
+fn assert_calls<F: BinomiallyExtendable<2> + PrimeField32 + Canonical + InMemory + Packable>(
+    rt: &(impl Abort + AllocGlobal),
+    x: BinomialExtensionField<F, 2>,
+) -> Result<(), Fail> {
+    assert_growths(rt, Scalars::<F>::of_field(), &SCALARS)?;
+    assert_growths(rt, x, &PAIRS)?;
+    assert_growths(rt, Splits::<Goldilocks, F>::of_fields(), &LIMBS)
 }
 
 #[test]
-fn growths_over_an_extension(rt: HostRuntime) -> Result<(), Fail> {
-    assert_growths(&rt, F17x2::new([F17::new(0), F17::new(1)]), &PAIRS)
-}
-
-#[test]
-fn growths_of_splits(rt: HostRuntime) -> Result<(), Fail> {
-    assert_growths(&rt, Splits::<Goldilocks, F17>::of_fields(), &LIMBS)
+fn growths_of_calls(rt: HostRuntime) -> Result<(), Fail> {
+    assert_calls::<F17>(&rt, F17x2::new([F17::new(0), F17::new(1)]))
 }

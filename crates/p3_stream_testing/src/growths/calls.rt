@@ -2,9 +2,9 @@
 ghost use Rattle.std.specs.Prelude.{◌<◌, ℕ, length, get_or, IsTrue};
 ghost use Rattle.p3_theory.specs.Rings.Ring.{Invertible};
 
-use crate::numbers::{Pair, Sequence, coefficient, coefficients, terms};
-use crate::table::Call;
-use p3_base::field::{Field, PrimeField, PrimeField32, PrimeField64};
+use super::numbers::{Canonical, Pair, Sequence, coefficient, coefficients, terms};
+use super::table::Call;
+use p3_base::field::{Field, PrimeField, PrimeField32};
 use p3_base::packed_traits::Packable;
 use p3_batch_inverse::batch_inverse::batch_multiplicative_inverse_in;
 use p3_ext::extension::{Binomial, BinomiallyExtendable, ExtField, HasFrobenius};
@@ -50,10 +50,13 @@ fn values<T: PrimeCharacteristicRing, A: Allocator + Copy>(
 }
 
 /// Whether a value has these canonical coefficients.
-fn is_value<F: PrimeField64 + InMemory, T: BasedVectorSpace<F>>(value: T, numbers: Pair) -> bool {
+fn is_value<F: PrimeCharacteristicRing + Canonical + InMemory, T: BasedVectorSpace<F>>(
+    value: T,
+    numbers: Pair,
+) -> bool {
     let coefficients = value.as_basis_coefficients_slice();
     for i in 0..coefficients.len() {
-        if coefficients[i].as_canonical_u64() != coefficient(numbers, i) {
+        if coefficients[i].canonical() != coefficient(numbers, i) {
             return false;
         }
     }
@@ -61,7 +64,7 @@ fn is_value<F: PrimeField64 + InMemory, T: BasedVectorSpace<F>>(value: T, number
 }
 
 /// Whether the values have these canonical coefficients.
-fn are_values<F: PrimeField64 + InMemory, T: BasedVectorSpace<F>>(
+fn are_values<F: PrimeCharacteristicRing + Canonical + InMemory, T: BasedVectorSpace<F>>(
     values: &[T],
     items: &[Pair],
 ) -> bool {
@@ -99,12 +102,11 @@ fn have_inverses<F: Field>(x: &[F]) -> bool
 }
 
 /// Whether entries that are lent have these inverses, and are the same afterwards.
-fn lent_inverts<F: PrimeField64 + InMemory, T: Field + BasedVectorSpace<F>, A: Allocator + Copy>(
-    alloc: A,
-    lent: &[T],
-    entries: &[Pair],
-    inverses: &[Pair],
-) -> Result<bool, AllocError> {
+fn lent_inverts<
+    F: PrimeCharacteristicRing + Canonical + InMemory,
+    T: Field + BasedVectorSpace<F>,
+    A: Allocator + Copy,
+>(alloc: A, lent: &[T], entries: &[Pair], inverses: &[Pair]) -> Result<bool, AllocError> {
     if !have_inverses(lent) {
         return Ok(false);
     }
@@ -117,25 +119,22 @@ fn lent_inverts<F: PrimeField64 + InMemory, T: Field + BasedVectorSpace<F>, A: A
 }
 
 /// Whether the entries that are the first terms of a sequence have these inverses.
-fn inverts<F: PrimeField64 + InMemory, T: Field + BasedVectorSpace<F>, A: Allocator + Copy>(
-    alloc: A,
-    ample: A,
-    x: T,
-    sequence: Sequence,
-    inverses: &[Pair],
-) -> Result<bool, AllocError> {
+fn inverts<
+    F: PrimeCharacteristicRing + Canonical + InMemory,
+    T: Field + BasedVectorSpace<F>,
+    A: Allocator + Copy,
+>(alloc: A, ample: A, x: T, sequence: Sequence, inverses: &[Pair]) -> Result<bool, AllocError> {
     let entries = terms(ample, sequence, inverses.len())?;
     let given = values(ample, x, &entries)?;
     lent_inverts::<F, T, A>(alloc, &given, &entries, inverses)
 }
 
 /// Whether values are flattened to their coefficients.
-fn flattens<F: PrimeField64 + InMemory, T: Field + BasedVectorSpace<F>, A: Allocator + Copy>(
-    alloc: A,
-    ample: A,
-    x: T,
-    items: &[Pair],
-) -> Result<bool, AllocError> {
+fn flattens<
+    F: PrimeCharacteristicRing + Canonical + InMemory,
+    T: PrimeCharacteristicRing + BasedVectorSpace<F>,
+    A: Allocator + Copy,
+>(alloc: A, ample: A, x: T, items: &[Pair]) -> Result<bool, AllocError> {
     let given = values(ample, x, items)?;
     let found = <T as BasedVectorSpace<F>>::flatten_to_base_in(alloc, given)?;
     let expected = coefficients(ample, items, <T as BasedVectorSpace<F>>::DIMENSION)?;
@@ -143,12 +142,11 @@ fn flattens<F: PrimeField64 + InMemory, T: Field + BasedVectorSpace<F>, A: Alloc
 }
 
 /// Whether values are put together of their coefficients.
-fn reconstitutes<F: PrimeField64 + InMemory, T: BasedVectorSpace<F>, A: Allocator + Copy>(
-    alloc: A,
-    ample: A,
-    _x: T,
-    items: &[Pair],
-) -> Result<bool, AllocError> {
+fn reconstitutes<
+    F: PrimeCharacteristicRing + Canonical + InMemory,
+    T: BasedVectorSpace<F>,
+    A: Allocator + Copy,
+>(alloc: A, ample: A, _x: T, items: &[Pair]) -> Result<bool, AllocError> {
     let dimension = <T as BasedVectorSpace<F>>::DIMENSION;
     let numbers = coefficients(ample, items, dimension)?;
     let given: Vec<F, A> = values(ample, F::zero(), &numbers)?;
@@ -161,7 +159,7 @@ fn reconstitutes<F: PrimeField64 + InMemory, T: BasedVectorSpace<F>, A: Allocato
 
 /// Whether a call on values answers these items, where X is given: zero in the field itself.
 fn values_answer<
-    F: PrimeField64 + InMemory,
+    F: PrimeCharacteristicRing + Canonical + InMemory,
     T: Field + Packable + AlgebraIdentity<F>,
     A: Allocator + Copy,
 >(alloc: A, ample: A, x: T, call: Call, items: &[Pair]) -> Result<bool, AllocError> {
@@ -201,7 +199,7 @@ impl<F> Scalars<F> {
     }
 }
 
-impl<F: PrimeField64 + InMemory + Packable> Callee for Scalars<F> {
+impl<F: Field + Canonical + InMemory + Packable> Callee for Scalars<F> {
     fn answers<A: Allocator + Copy>(
         self,
         alloc: A,
@@ -213,7 +211,7 @@ impl<F: PrimeField64 + InMemory + Packable> Callee for Scalars<F> {
     }
 }
 
-impl<F: BinomiallyExtendable<2> + PrimeField64 + InMemory + Packable> Callee
+impl<F: BinomiallyExtendable<2> + Canonical + InMemory + Packable> Callee
     for ExtField<F, 2, Binomial<F>, F> {
     fn answers<A: Allocator + Copy>(
         self,
@@ -247,7 +245,7 @@ impl<SF, TF> Splits<SF, TF> {
     }
 }
 
-impl<SF: PrimeField, TF: PrimeField32 + InMemory> Callee for Splits<SF, TF> {
+impl<SF: PrimeField, TF: PrimeField32 + Canonical + InMemory> Callee for Splits<SF, TF> {
     fn answers<A: Allocator + Copy>(
         self,
         alloc: A,

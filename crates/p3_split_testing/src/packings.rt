@@ -1,5 +1,5 @@
-//! The calls over packings of the values of an extension, implemented once for all packings.
-use crate::lane_calls::{Case, Rooms, lanes_agree};
+//! The calls on the values of an extension and on packings of them, implemented once for all packings.
+use crate::lane_calls::{Case, Rooms, agrees};
 use crate::values::Canonical;
 use p3_base::field::Field;
 use p3_base::packed_traits::{Inhabited, Packable};
@@ -16,8 +16,8 @@ pub(crate) type ExtensionRooms<F, S, P, const D: usize> = Rooms<
     PackedExtField<F, D, S, P>,
 >;
 
-/// `lanes_agree` over packings P of values of an extension of F. Nothing is read of `rooms`.
-fn extension_lanes_agree<F, S, P, const D: usize>(
+/// `agrees` over packings P of values of an extension of F. Nothing is read of `rooms`.
+fn extension_agrees<F, S, P, const D: usize>(
     alloc: Global,
     rooms: Option<ExtensionRooms<F, S, P, D>>,
     case: &Case,
@@ -27,19 +27,19 @@ where
     S: ExtensionShape,
     P: PackedRing<F> + Inhabited + Packing<Scalar = F>,
 {
-    lanes_agree::<F, ExtField<F, D, S, F>, PackedExtField<F, D, S, P>>(alloc, rooms, case)
+    agrees::<F, ExtField<F, D, S, F>, PackedExtField<F, D, S, P>>(alloc, rooms, case)
 }
 
 /// The calls over packings of this type of values of an extension of F. What the extension owes is a bound of
 /// the method: a function over a marker and any such packing passes it from the packing's algebra alone, and
 /// the call at so many lanes passes that algebra once.
-pub(crate) trait SplitLanes<F: PrimeCharacteristicRing, S: ExtensionShape, const D: usize>: Algebra<
+pub(crate) trait SplitCalls<F: PrimeCharacteristicRing, S: ExtensionShape, const D: usize>: Algebra<
     F,
 > {
     /// What the calls make values of. Of an associated type it is known that its values have room.
     type Rooms: Copy;
 
-    /// Whether the lanes hold what the plain numbers say. Nothing is read of `rooms`.
+    /// Whether a call gives what the plain numbers say. Nothing is read of `rooms`.
     fn agree(alloc: Global, rooms: Option<Self::Rooms>, case: &Case) -> Result<bool, AllocError>
     where
         F: FrobeniusExtendable<D, S> + ExtensionOverAlgebra<Self, D, S>;
@@ -50,7 +50,7 @@ impl<
     S: ExtensionShape,
     P: PackedRing<F> + Inhabited + Packing<Scalar = F>,
     const D: usize,
-> SplitLanes<F, S, D> for P {
+> SplitCalls<F, S, D> for P {
     type Rooms = ExtensionRooms<F, S, P, D>;
 
     fn agree(
@@ -61,6 +61,6 @@ impl<
     where
         F: FrobeniusExtendable<D, S> + ExtensionOverAlgebra<P, D, S>,
     {
-        extension_lanes_agree::<F, S, P, D>(alloc, rooms, case)
+        extension_agrees::<F, S, P, D>(alloc, rooms, case)
     }
 }

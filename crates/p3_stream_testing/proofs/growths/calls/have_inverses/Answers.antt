@@ -2,7 +2,7 @@ use borrow.Author.Count.{below_more}
 use Rattle.std.proofs.Common.{get_or, refl, subst, sym}
 use Rattle.p3_theory.specs.Rings.Ring.{Invertible}
 use Rattle.p3_theory.specs.Lists.Places.{read_at}
-use Rattle.p3_growth_testing.proofs.calls.have_inverses.Goals as goal
+use Rattle.p3_stream_testing.proofs.growths.calls.have_inverses.Goals as goal
 
 pub loop-i-preserved : goal.loop-i-preserved
 loop-i-preserved g c d =
