@@ -10,5 +10,5 @@ mod lane_reductions;
 pub mod montgomery_blocks;
 pub mod montgomery_slices;
 pub mod residue_arrays;
-mod wide_products;
-mod word_pairs;
+pub mod wide_products;
+pub mod word_pairs;

@@ -1,3 +1,4 @@
 pub mod PolynomialValues
 pub mod Powers
+pub mod ProductSums
 pub mod Residues
