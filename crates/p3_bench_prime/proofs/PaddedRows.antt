@@ -1,6 +1,6 @@
 -- Sums of products of rows, after which there may be rows of zeros.
-use Rattle.std.specs.Prelude.{◌≡◌, ◌<◌, ◌≤◌, ◌+◌, ◌*◌, ℕ, zero, suc, List, [], ◌∷◌, length, get_or, map}
-use Rattle.std.proofs.Common.{ap, ap₂, arith, ◌∙◌, sym}
+use Rattle.std.specs.Prelude.{◌≡◌, ◌<◌, ◌≤◌, ◌+◌, ◌*◌, ℕ, suc, List, [], ◌∷◌, length, get_or}
+use Rattle.std.proofs.Common.{ap₂, arith, ◌∙◌}
 use Rattle.p3_theory.specs.ResidueRings.SumsOfProducts.{sum_of_products}
 use Rattle.p3_bench_prime.specs.Columns.{column}
 

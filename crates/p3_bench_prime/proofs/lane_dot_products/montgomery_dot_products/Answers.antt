@@ -1,4 +1,4 @@
-use Rattle.std.proofs.Common.{arith, rules, get_or, ◌≡◌, ◌<◌, ◌≤◌, ◌*◌, ◌%◌, ◌^◌, ◌∙◌, ap, length, subst, sym}
+use Rattle.std.proofs.Common.{arith, rules, get_or, ◌≡◌, ◌<◌, ◌≤◌, ◌*◌, ◌%◌, ◌^◌, ◌∙◌, length, subst, sym}
 use Rattle.p3_kernels.specs.Words.{RowsAreBelow, dot_at}
 use Rattle.p3_theory.specs.ResidueRings.SumsOfProducts.{sum_of_products}
 use Rattle.p3_bench_prime.specs.Columns.{column}

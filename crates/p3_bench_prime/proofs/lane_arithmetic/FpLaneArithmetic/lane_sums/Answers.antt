@@ -1,4 +1,4 @@
-use Rattle.std.proofs.Common.{rules, get_or, ◌≡◌, ◌<◌, ◌+◌, ◌-◌, ◌%◌, ◌^◌, ◌∙◌, ℕ, subst, sym}
+use Rattle.std.proofs.Common.{rules, get_or, ◌≡◌, ◌<◌, ◌+◌, ◌%◌, ◌^◌, ◌∙◌, ℕ, subst, sym}
 use Rattle.p3_bench_prime.proofs.LaneValues.{value_of_sum, words_below}
 use Rattle.p3_bench_prime.proofs.lane_arithmetic.FpLaneArithmetic.lane_sums.Goals as goal
 
