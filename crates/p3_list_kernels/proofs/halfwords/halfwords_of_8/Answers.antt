@@ -1,6 +1,6 @@
 use Rattle.std.proofs.Common.{◌^◌, ap, arith, refl, w32}
 use Rattle.std.proofs.lemmas.Simd.{below_from_Fits}
-use Rattle.p3_list_kernels.proofs.Recasts.{first_parts, last_parts}
+use Rattle.p3_kernels.proofs.Recasts.{first_parts, last_parts}
 use Rattle.p3_list_kernels.proofs.halfwords.halfwords_of_8.Goals as goal
 
 pub returns-clause-even : goal.returns-clause-even

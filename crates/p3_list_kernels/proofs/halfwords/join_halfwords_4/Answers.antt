@@ -1,6 +1,6 @@
 use Rattle.std.proofs.Common.{◌^◌, ap, arith, refl, w16}
 use Rattle.std.proofs.lemmas.Simd.{below_from_Fits}
-use Rattle.p3_list_kernels.proofs.Recasts.{pairs}
+use Rattle.p3_kernels.proofs.Recasts.{pairs}
 use Rattle.p3_list_kernels.proofs.halfwords.join_halfwords_4.Goals as goal
 
 pub returns-clause-words : goal.returns-clause-words
