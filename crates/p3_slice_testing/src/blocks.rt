@@ -87,7 +87,7 @@ pub(crate) fn assert_blocks<F: PrimeCharacteristicRing + Canonical, P: PackedVal
     order: u64,
 ) -> Result<(), Fail> {
     for length in 0..=GREATEST_LENGTH {
-        for group in 0..length / P::WIDTH {
+        for group in 0..length.checked_div(P::WIDTH).unwrap_or(0) {
             assert!(rt;
                 agrees::<F, P>(rt.alloc(), length, group, order)?,
                 "{length} {group} {order}"
