@@ -103,11 +103,9 @@ pub trait Form<T: Word>: Copy {
         requires { residue < ORDER }
         ensures { result ≡ word residue };
 
-    /// The number that a word is, where 32 bits hold it.
-    fn to_u32(stored: T) -> u32
-        requires below { number stored < ORDER }
-        requires fits { ORDER ≤ 2 ^ 32 }
-        ensures { result ≡ number stored };
+    /// The low 32 bits of the number that a word is.
+    fn low_word(stored: T) -> u32
+        ensures { result ≡ number stored % 2 ^ 32 };
 
     /// The word that is a number below the order.
     fn from_u32(value: u32) -> T
@@ -292,7 +290,7 @@ impl<M: Modulus> Form<u32> for Plain<M> {
     }
 
     #[inline]
-    fn to_u32(stored: u32) -> u32 {
+    fn low_word(stored: u32) -> u32 {
         stored
     }
 

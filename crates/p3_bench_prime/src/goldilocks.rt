@@ -101,8 +101,8 @@ impl Form<u64> for GoldilocksForm {
     }
 
     #[inline]
-    fn to_u32(stored: u64) -> u32 {
-        stored as u32
+    fn low_word(stored: u64) -> u32 {
+        (stored % 0x1_0000_0000) as u32
     }
 
     #[inline]

@@ -160,7 +160,7 @@ impl<M: MontgomeryModulus> Form<u32> for Montgomery<M> {
     }
 
     #[inline]
-    fn to_u32(stored: u32) -> u32 {
+    fn low_word(stored: u32) -> u32 {
         stored
     }
 
