@@ -1,5 +1,7 @@
-//! The proved library beside plain Rust that does the same work, in one process and in turn.
+//! The proved library beside plain Rust and beside intrinsics that do the same work, in one process and in
+//! turn.
 mod baby_bear;
+mod by_hand;
 mod calculator;
 mod calculator_cases;
 mod calls;

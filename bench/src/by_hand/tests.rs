@@ -1,0 +1,109 @@
+//! What is written by hand answers what the plain loops do.
+use super::*;
+use crate::baby_bear::BabyBear;
+use crate::extensions::{BabyBearx4, Extension, F17x4};
+use crate::lane_cases::units;
+use crate::residues::F17;
+use crate::{lanes, primes, slices};
+
+/// Two pairs of lists: of any numbers, and of those whose words are the greatest.
+fn pairs_of_lists<F: VectorField>(length: usize) -> [[Vec<u64>; 2]; 2] {
+    let greatest = vec![F::of_word(F::ORDER as u32 - 1).number(); length];
+    let any = [1, 2].map(|seed| units(F::ORDER, seed, length).to_vec());
+    [any, [greatest.clone(), greatest]]
+}
+
+/// The loops over packings of N lanes.
+fn packings_agree<F: VectorField, V: Words, const N: usize>(left: &[u64], right: &[u64]) {
+    assert_eq!(V::LANES, N);
+    for rounds in [0, 1, 3] {
+        let plain = [
+            lanes::sums::<F, N, 0>(left, right, rounds),
+            lanes::differences::<F, N, 0>(left, right, rounds),
+            lanes::slice_products::<F, N>(left, right, rounds),
+            lanes::products::<F, N>(left, right, rounds),
+            lanes::dot_products::<F, N>(left, right, rounds),
+        ];
+        let by_hand = [
+            sums::<F, V>(left, right, rounds),
+            differences::<F, V>(left, right, rounds),
+            slice_products::<F, V>(left, right, rounds),
+            products::<F, V>(left, right, rounds),
+            packed_dot_products::<F, V>(left, right, rounds),
+        ];
+        assert_eq!(by_hand, plain);
+    }
+}
+
+/// The loops over lists of residues.
+fn lists_agree<F: VectorField, V: Words>(left: &[u64], right: &[u64]) {
+    for rounds in [1, 3] {
+        let (k, point) = (rounds as usize, 3);
+        let plain = [
+            slices::scalings::<F, 0>(left, right, rounds),
+            slices::scaled_sums::<F, 0>(left, right, rounds),
+            primes::multiplied_slices::<F>(left, right, rounds),
+            primes::added_slices::<F, 0>(left, right, rounds),
+            primes::dot_products::<F>(left, right, k),
+            primes::sums::<F>(left, k),
+            primes::horner_chain::<F>(left, point, rounds),
+            primes::power_lists::<F>(point, 4096, rounds),
+            lanes::inversions::<F>(left, rounds),
+        ];
+        let by_hand = [
+            scalings::<F, V>(left, right, rounds),
+            scaled_sums::<F, V>(left, right, rounds),
+            multiplied_slices::<F, V>(left, right, rounds),
+            added_slices::<F, V>(left, right, rounds),
+            dot_products::<F, V>(left, right, rounds),
+            list_sums::<F, V>(left, rounds),
+            horner_chain::<F, V>(left, point, rounds),
+            power_lists::<F, V>(point, 4096, rounds),
+            inversions::<F, V>(left, rounds),
+        ];
+        assert_eq!(by_hand, plain);
+    }
+}
+
+/// The products of an extension of degree 4.
+fn extensions_agree<E: Extension, F: VectorField, V: Words>() {
+    for [left, right] in pairs_of_lists::<F>(4 * V::LANES) {
+        extension_agrees::<E, F, V>(&left, &right);
+    }
+}
+
+/// The products of two values.
+fn extension_agrees<E: Extension, F: VectorField, V: Words>(left: &[u64], right: &[u64]) {
+    for count in [0, 1, 5] {
+        let plain = lanes::extension_products::<E>(left, right, V::LANES, count);
+        assert_eq!(extension_products::<F, V>(left, right, V::LANES, count), plain);
+    }
+}
+
+/// All loops over the words of one field.
+fn loops_agree<F: VectorField>() {
+    for [left, right] in pairs_of_lists::<F>(1000) {
+        packings_agree::<F, Words4, 4>(&left, &right);
+        packings_agree::<F, Words8, 8>(&left, &right);
+        lists_agree::<F, Words4>(&left, &right);
+        lists_agree::<F, Words8>(&left, &right);
+    }
+}
+
+#[test]
+fn f17() {
+    loops_agree::<F17>();
+}
+
+#[test]
+fn baby_bear() {
+    loops_agree::<BabyBear>();
+}
+
+#[test]
+fn extensions() {
+    extensions_agree::<F17x4, F17, Words4>();
+    extensions_agree::<F17x4, F17, Words8>();
+    extensions_agree::<BabyBearx4, BabyBear, Words4>();
+    extensions_agree::<BabyBearx4, BabyBear, Words8>();
+}
