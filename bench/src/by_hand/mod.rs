@@ -1,5 +1,5 @@
-//! The rows' loops over words of 32 bits by intrinsics, in the forms that upstream's own field crates have
-//! for vectors: the third side.
+//! The rows' loops by intrinsics, in the forms that upstream's own field crates have for vectors: the third
+//! side, written by hand.
 mod fields;
 mod lists;
 mod packings;
@@ -7,7 +7,129 @@ mod packings;
 mod tests;
 mod words;
 
-pub use fields::VectorField;
-pub use lists::*;
-pub use packings::*;
-pub use words::{Words, Words4, Words8};
+use crate::baby_bear::BabyBear;
+use crate::residues::{F17, Goldilocks, Residue};
+use fields::VectorField;
+use words::{Words, Words4, Words8};
+
+/// A loop over two lists: both, and the rounds.
+pub type PairLoop = fn(&[u64], &[u64], u64) -> u64;
+
+/// A loop over one list.
+pub type ListLoop = fn(&[u64], u64) -> u64;
+
+/// A chain over two packed values: their coefficients, the lanes and the rounds.
+pub type PackedLoop = fn(&[u64], &[u64], usize, u64) -> u64;
+
+/// The loops over packings of some lanes.
+pub struct PackingLoops {
+    pub sums: PairLoop,
+    pub differences: PairLoop,
+    pub slice_products: PairLoop,
+    pub products: PairLoop,
+    pub dot_products: PairLoop,
+}
+
+impl PackingLoops {
+    /// The loops over vectors.
+    fn over<F: VectorField, V: Words>() -> Self {
+        PackingLoops {
+            sums: packings::sums::<F, V>,
+            differences: packings::differences::<F, V>,
+            slice_products: packings::slice_products::<F, V>,
+            products: packings::products::<F, V>,
+            dot_products: packings::dot_products::<F, V>,
+        }
+    }
+
+    /// The loops over packings of so many lanes.
+    fn of_lanes<F: VectorField>(lanes: usize) -> Option<Self> {
+        match lanes {
+            4 => Some(Self::over::<F, Words4>()),
+            8 => Some(Self::over::<F, Words8>()),
+            _ => None,
+        }
+    }
+}
+
+/// The loops over lists of residues.
+pub struct ListLoops {
+    pub multiplied_slices: PairLoop,
+    pub added_slices: PairLoop,
+    pub sums: PairLoop,
+    pub scalings: PairLoop,
+    pub scaled_sums: PairLoop,
+    pub dot_products: PairLoop,
+    pub list_sums: ListLoop,
+    pub inversions: ListLoop,
+    /// The coefficients, the first point and the rounds.
+    pub horner_chain: fn(&[u64], u64, u64) -> u64,
+    /// The base, the length and the rounds.
+    pub power_lists: fn(u64, usize, u64) -> u64,
+}
+
+impl ListLoops {
+    /// The loops in vectors of eight words.
+    fn of<F: VectorField>() -> Self {
+        ListLoops {
+            multiplied_slices: lists::multiplied_slices::<F, Words8>,
+            added_slices: lists::added_slices::<F, Words8>,
+            sums: packings::sums::<F, Words8>,
+            scalings: packings::scalings::<F, Words8>,
+            scaled_sums: packings::scaled_sums::<F, Words8>,
+            dot_products: lists::dot_products::<F, Words8>,
+            list_sums: lists::list_sums::<F, Words8>,
+            inversions: lists::inversions::<F, Words8>,
+            horner_chain: lists::horner_chain::<F, Words8>,
+            power_lists: lists::power_lists::<F, Words8>,
+        }
+    }
+}
+
+/// A type, and the loops that are written by hand for it.
+pub trait ByHand: Residue {
+    /// Those over packings of so many lanes.
+    fn packing_loops(lanes: usize) -> Option<PackingLoops>;
+
+    /// Those over lists.
+    fn list_loops() -> Option<ListLoops>;
+}
+
+impl ByHand for F17 {
+    fn packing_loops(lanes: usize) -> Option<PackingLoops> {
+        PackingLoops::of_lanes::<F17>(lanes)
+    }
+
+    fn list_loops() -> Option<ListLoops> {
+        Some(ListLoops::of::<F17>())
+    }
+}
+
+impl ByHand for BabyBear {
+    fn packing_loops(lanes: usize) -> Option<PackingLoops> {
+        PackingLoops::of_lanes::<BabyBear>(lanes)
+    }
+
+    fn list_loops() -> Option<ListLoops> {
+        Some(ListLoops::of::<BabyBear>())
+    }
+}
+
+impl ByHand for Goldilocks {
+    fn packing_loops(_lanes: usize) -> Option<PackingLoops> {
+        None
+    }
+
+    fn list_loops() -> Option<ListLoops> {
+        None
+    }
+}
+
+/// The products of packed values of an extension of degree 4.
+pub fn packed_products<F: VectorField>(lanes: usize) -> Option<PackedLoop> {
+    match lanes {
+        4 => Some(packings::extension_products::<F, Words4>),
+        8 => Some(packings::extension_products::<F, Words8>),
+        _ => None,
+    }
+}

@@ -1,5 +1,7 @@
 //! What is written by hand answers what the plain loops do.
-use super::*;
+use super::fields::VectorField;
+use super::{lists, packings};
+use super::words::{Words, Words4, Words8};
 use crate::baby_bear::BabyBear;
 use crate::extensions::{BabyBearx4, Extension, F17x4};
 use crate::lane_cases::units;
@@ -25,11 +27,11 @@ fn packings_agree<F: VectorField, V: Words, const N: usize>(left: &[u64], right:
             lanes::dot_products::<F, N>(left, right, rounds),
         ];
         let by_hand = [
-            sums::<F, V>(left, right, rounds),
-            differences::<F, V>(left, right, rounds),
-            slice_products::<F, V>(left, right, rounds),
-            products::<F, V>(left, right, rounds),
-            packed_dot_products::<F, V>(left, right, rounds),
+            packings::sums::<F, V>(left, right, rounds),
+            packings::differences::<F, V>(left, right, rounds),
+            packings::slice_products::<F, V>(left, right, rounds),
+            packings::products::<F, V>(left, right, rounds),
+            packings::dot_products::<F, V>(left, right, rounds),
         ];
         assert_eq!(by_hand, plain);
     }
@@ -51,15 +53,15 @@ fn lists_agree<F: VectorField, V: Words>(left: &[u64], right: &[u64]) {
             lanes::inversions::<F>(left, rounds),
         ];
         let by_hand = [
-            scalings::<F, V>(left, right, rounds),
-            scaled_sums::<F, V>(left, right, rounds),
-            multiplied_slices::<F, V>(left, right, rounds),
-            added_slices::<F, V>(left, right, rounds),
-            dot_products::<F, V>(left, right, rounds),
-            list_sums::<F, V>(left, rounds),
-            horner_chain::<F, V>(left, point, rounds),
-            power_lists::<F, V>(point, 4096, rounds),
-            inversions::<F, V>(left, rounds),
+            packings::scalings::<F, V>(left, right, rounds),
+            packings::scaled_sums::<F, V>(left, right, rounds),
+            lists::multiplied_slices::<F, V>(left, right, rounds),
+            lists::added_slices::<F, V>(left, right, rounds),
+            lists::dot_products::<F, V>(left, right, rounds),
+            lists::list_sums::<F, V>(left, rounds),
+            lists::horner_chain::<F, V>(left, point, rounds),
+            lists::power_lists::<F, V>(point, 4096, rounds),
+            lists::inversions::<F, V>(left, rounds),
         ];
         assert_eq!(by_hand, plain);
     }
@@ -76,7 +78,7 @@ fn extensions_agree<E: Extension, F: VectorField, V: Words>() {
 fn extension_agrees<E: Extension, F: VectorField, V: Words>(left: &[u64], right: &[u64]) {
     for count in [0, 1, 5] {
         let plain = lanes::extension_products::<E>(left, right, V::LANES, count);
-        assert_eq!(extension_products::<F, V>(left, right, V::LANES, count), plain);
+        assert_eq!(packings::extension_products::<F, V>(left, right, V::LANES, count), plain);
     }
 }
 
