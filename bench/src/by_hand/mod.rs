@@ -10,7 +10,7 @@ mod words;
 use crate::baby_bear::BabyBear;
 use crate::residues::{F17, Goldilocks, Residue};
 use fields::VectorField;
-use words::{Words, Words4, Words8};
+use words::{LONGEST_IN_8, Longest, Words, Words4, Words8};
 
 /// A loop over two lists: both, and the rounds.
 pub type PairLoop = fn(&[u64], &[u64], u64) -> u64;
@@ -31,22 +31,22 @@ pub struct PackingLoops {
 }
 
 impl PackingLoops {
-    /// The loops over vectors.
-    fn over<F: VectorField, V: Words>() -> Self {
+    /// The loops over packings of the words P, which are PARTS vectors V.
+    fn over<F: VectorField, P: Words, V: Words, const PARTS: usize>() -> Self {
         PackingLoops {
-            sums: packings::sums::<F, V>,
-            differences: packings::differences::<F, V>,
-            slice_products: packings::slice_products::<F, V>,
-            products: packings::products::<F, V>,
-            dot_products: packings::dot_products::<F, V>,
+            sums: packings::sums::<F, P>,
+            differences: packings::differences::<F, P>,
+            slice_products: packings::slice_products::<F, P>,
+            products: packings::products::<F, P>,
+            dot_products: packings::dot_products::<F, V, PARTS>,
         }
     }
 
     /// The loops over packings of so many lanes.
     fn of_lanes<F: VectorField>(lanes: usize) -> Option<Self> {
         match lanes {
-            4 => Some(Self::over::<F, Words4>()),
-            8 => Some(Self::over::<F, Words8>()),
+            4 => Some(Self::over::<F, Words4, Words4, 1>()),
+            8 => Some(Self::over::<F, Words8, Longest, LONGEST_IN_8>()),
             _ => None,
         }
     }
@@ -69,7 +69,7 @@ pub struct ListLoops {
 }
 
 impl ListLoops {
-    /// The loops in vectors of eight words.
+    /// The loops in vectors of eight words, or in the longest ones.
     fn of<F: VectorField>() -> Self {
         ListLoops {
             multiplied_slices: lists::multiplied_slices::<F, Words8>,
@@ -77,10 +77,10 @@ impl ListLoops {
             sums: packings::sums::<F, Words8>,
             scalings: packings::scalings::<F, Words8>,
             scaled_sums: packings::scaled_sums::<F, Words8>,
-            dot_products: lists::dot_products::<F, Words8>,
+            dot_products: lists::dot_products::<F, Longest>,
             list_sums: lists::list_sums::<F, Words8>,
             inversions: lists::inversions::<F, Words8>,
-            horner_chain: lists::horner_chain::<F, Words8>,
+            horner_chain: lists::horner_chain::<F, Longest>,
             power_lists: lists::power_lists::<F, Words8>,
         }
     }
@@ -128,8 +128,8 @@ impl ByHand for Goldilocks {
 /// The products of packed values of an extension of degree 4.
 pub fn packed_products<F: VectorField>(lanes: usize) -> Option<PackedLoop> {
     match lanes {
-        4 => Some(packings::extension_products::<F, Words4>),
-        8 => Some(packings::extension_products::<F, Words8>),
+        4 => Some(packings::extension_products::<F, Words4, 1>),
+        8 => Some(packings::extension_products::<F, Words8, 1>),
         _ => None,
     }
 }

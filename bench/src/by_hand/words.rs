@@ -179,3 +179,10 @@ pub type Words4 = __m128i;
 pub type Words8 = __m256i;
 #[cfg(not(target_feature = "avx2"))]
 pub type Words8 = [__m128i; 2];
+
+/// The longest vector, and how many of them have eight words.
+#[cfg(target_feature = "avx2")]
+pub type Longest = Words8;
+#[cfg(not(target_feature = "avx2"))]
+pub type Longest = Words4;
+pub const LONGEST_IN_8: usize = 8 / Longest::LANES;
