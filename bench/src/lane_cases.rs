@@ -1,6 +1,6 @@
 //! The rows of lanes, each operation counted a lane, and those of batch inversion.
 use crate::baby_bear::BabyBear;
-use crate::by_hand::{self, ByHand, ListLoops, PackedLoop, PackingLoops, PairLoop};
+use crate::by_hand::{self, ByHand, ListLoop, ListLoops, PackedLoop, PackingLoops, PairLoop};
 use crate::calls::*;
 use crate::extensions::{BabyBearx4, Extension, F17x4};
 use crate::lanes;
@@ -126,17 +126,17 @@ fn quartic_cases<const N: usize>() -> Vec<Case> {
     cases
 }
 
-/// The row of batch inversion.
+/// The row of batch inversion, whose plain loop is there in two forms.
 fn inversion_case<F: ByHand>(name: &str, field: u32) -> Case {
     let numbers = units(F::ORDER, 5, LENGTH);
-    let by_hand = F::list_loops().map(|loops| Box::new(move |k| (loops.inversions)(numbers, k)) as Call);
-    Case::new(
-        format!("{name} batch inversion"),
-        LENGTH as u64,
-        move |k| unsafe { p3_speed_inversions(field, numbers.as_ptr(), LENGTH, k) },
-        move |k| lanes::inversions::<F>(numbers, k),
-    )
-    .beside(by_hand)
+    let call = |run: ListLoop| Box::new(move |k| run(numbers, k)) as Call;
+    Case {
+        name: format!("{name} batch inversion"),
+        operations: LENGTH as u64,
+        library: Box::new(move |k| unsafe { p3_speed_inversions(field, numbers.as_ptr(), LENGTH, k) }),
+        plain: vec![call(lanes::inversions::<F, true>), call(lanes::inversions::<F, false>)],
+        by_hand: F::list_loops().map(|loops| call(loops.inversions)),
+    }
 }
 
 /// All rows of lanes.

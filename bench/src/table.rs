@@ -10,7 +10,7 @@ pub struct Case {
     pub name: String,
     pub operations: u64,
     pub library: Call,
-    /// The plain loop, or copies of it that lie at different places.
+    /// The plain loop, or copies of it that lie at different places, or forms of it: the fastest counts.
     pub plain: Vec<Call>,
     /// The same by intrinsics, written by hand.
     pub by_hand: Option<Call>,

@@ -50,7 +50,7 @@ fn lists_agree<F: VectorField, V: Words>(left: &[u64], right: &[u64]) {
             primes::sums::<F>(left, k),
             primes::horner_chain::<F>(left, point, rounds),
             primes::power_lists::<F>(point, 4096, rounds),
-            lanes::inversions::<F>(left, rounds),
+            lanes::inversions::<F, true>(left, rounds),
         ];
         let by_hand = [
             packings::scalings::<F, V>(left, right, rounds),
