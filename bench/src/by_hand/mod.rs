@@ -34,9 +34,9 @@ impl PackingLoops {
     /// The loops over packings of the words P, which are PARTS vectors V.
     fn over<F: VectorField, P: Words, V: Words, const PARTS: usize>() -> Self {
         PackingLoops {
-            sums: packings::sums::<F, P>,
-            differences: packings::differences::<F, P>,
-            slice_products: packings::slice_products::<F, P>,
+            sums: packings::sums::<F, V>,
+            differences: packings::differences::<F, V>,
+            slice_products: packings::slice_products::<F, V>,
             products: packings::products::<F, P>,
             dot_products: packings::dot_products::<F, V, PARTS>,
         }
@@ -72,11 +72,11 @@ impl ListLoops {
     /// The loops in vectors of eight words, or in the longest ones.
     fn of<F: VectorField>() -> Self {
         ListLoops {
-            multiplied_slices: lists::multiplied_slices::<F, Words8>,
-            added_slices: lists::added_slices::<F, Words8>,
-            sums: packings::sums::<F, Words8>,
-            scalings: packings::scalings::<F, Words8>,
-            scaled_sums: packings::scaled_sums::<F, Words8>,
+            multiplied_slices: lists::multiplied_slices::<F, Longest>,
+            added_slices: lists::added_slices::<F, Longest>,
+            sums: packings::sums::<F, Longest>,
+            scalings: packings::scalings::<F, Longest>,
+            scaled_sums: packings::scaled_sums::<F, Longest>,
             dot_products: lists::dot_products::<F, Longest>,
             list_sums: lists::list_sums::<F, Words8>,
             inversions: lists::inversions::<F, Words8>,
