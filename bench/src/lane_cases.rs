@@ -1,13 +1,13 @@
 //! The rows of lanes, each operation counted a lane, and those of batch inversion.
-use crate::baby_bear::BabyBear;
+use crate::baby_bear::{BabyBear, BabyBearByWords};
 use crate::by_hand::{self, ByHand, ListLoop, ListLoops, PackedLoop, PackingLoops, PairLoop};
 use crate::calls::*;
-use crate::extensions::{BabyBearx4, Extension, F17x4};
+use crate::extensions::{BabyBearx4, BabyBearx4ByWords, Extension, F17x4};
 use crate::lanes;
 use crate::places::{self, PLACES};
 use crate::residues::{F17, Goldilocks};
 use crate::slices;
-use crate::table::{Call, Case};
+use crate::table::{Call, Case, with_plain_of};
 use std::hint::black_box;
 
 const LENGTH: usize = 1000;
@@ -122,7 +122,8 @@ fn extension_cases<E: Extension, const N: usize>(name: &str, extension: u32, pro
 /// The rows of packed extensions of degree 4 at N lanes.
 fn quartic_cases<const N: usize>() -> Vec<Case> {
     let mut cases = extension_cases::<F17x4, N>("f17x4", 0, by_hand::packed_products::<F17>(N));
-    cases.extend(extension_cases::<BabyBearx4, N>("bbx4", 1, by_hand::packed_products::<BabyBear>(N)));
+    let bears = extension_cases::<BabyBearx4, N>("bbx4", 1, by_hand::packed_products::<BabyBear>(N));
+    cases.extend(with_plain_of(bears, extension_cases::<BabyBearx4ByWords, N>("bbx4", 1, None)));
     cases
 }
 
@@ -143,20 +144,21 @@ fn inversion_case<F: ByHand>(name: &str, field: u32) -> Case {
 pub fn cases() -> Vec<Case> {
     let mut cases = packing_cases::<F17, 4>("f17", 0);
     cases.extend(packing_cases::<F17, 8>("f17", 0));
-    cases.extend(packing_cases::<BabyBear, 4>("babybear", 1));
-    cases.extend(packing_cases::<BabyBear, 8>("babybear", 1));
+    cases.extend(with_plain_of(packing_cases::<BabyBear, 4>("babybear", 1), packing_cases::<BabyBearByWords, 4>("babybear", 1)));
+    cases.extend(with_plain_of(packing_cases::<BabyBear, 8>("babybear", 1), packing_cases::<BabyBearByWords, 8>("babybear", 1)));
     cases.extend(packing_cases::<Goldilocks, 4>("goldilocks", 2));
     cases.extend(packing_cases::<Goldilocks, 8>("goldilocks", 2));
     cases.extend(slice_cases::<F17, 4>("f17", 0));
     cases.extend(slice_cases::<F17, 8>("f17", 0));
-    cases.extend(slice_cases::<BabyBear, 4>("babybear", 1));
-    cases.extend(slice_cases::<BabyBear, 8>("babybear", 1));
+    cases.extend(with_plain_of(slice_cases::<BabyBear, 4>("babybear", 1), slice_cases::<BabyBearByWords, 4>("babybear", 1)));
+    cases.extend(with_plain_of(slice_cases::<BabyBear, 8>("babybear", 1), slice_cases::<BabyBearByWords, 8>("babybear", 1)));
     cases.extend(slice_cases::<Goldilocks, 4>("goldilocks", 2));
     cases.extend(slice_cases::<Goldilocks, 8>("goldilocks", 2));
     cases.extend(quartic_cases::<4>());
     cases.extend(quartic_cases::<8>());
     cases.push(inversion_case::<F17>("f17", 0));
-    cases.push(inversion_case::<BabyBear>("babybear", 1));
+    let by_words = inversion_case::<BabyBearByWords>("babybear", 1);
+    cases.extend(with_plain_of(vec![inversion_case::<BabyBear>("babybear", 1)], vec![by_words]));
     cases.push(inversion_case::<Goldilocks>("goldilocks", 2));
     cases
 }

@@ -1,11 +1,11 @@
 //! The rows of the prime types.
-use crate::baby_bear::BabyBear;
+use crate::baby_bear::{BabyBear, BabyBearByWords};
 use crate::by_hand::{ByHand, ListLoop, ListLoops, PairLoop};
 use crate::calls::*;
 use crate::places;
 use crate::primes;
 use crate::residues::{F17, Goldilocks};
-use crate::table::{Call, Case};
+use crate::table::{Call, Case, with_plain_of};
 use std::hint::black_box;
 
 const LENGTH: usize = 1000;
@@ -158,7 +158,7 @@ fn cases_of<F: ByHand>(name: &str, field: u32) -> Vec<Case> {
 /// All rows of the prime types.
 pub fn cases() -> Vec<Case> {
     let mut cases = cases_of::<F17>("f17", 0);
-    cases.extend(cases_of::<BabyBear>("babybear", 1));
+    cases.extend(with_plain_of(cases_of::<BabyBear>("babybear", 1), cases_of::<BabyBearByWords>("babybear", 1)));
     cases.extend(cases_of::<Goldilocks>("goldilocks", 2));
     cases
 }

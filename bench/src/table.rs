@@ -1,5 +1,6 @@
 //! Times calls that do the same work, two or three of them, and prints them side by side.
 use crate::places;
+use std::mem::swap;
 use std::time::Instant;
 
 /// A side of a row: what it does so many rounds of, and the number that it answers.
@@ -36,6 +37,16 @@ impl Case {
     pub fn beside(self, by_hand: Option<Call>) -> Self {
         Case { by_hand, ..self }
     }
+}
+
+/// The rows with the plain loops of both lists of them; the rest is that of the first ones.
+pub fn with_plain_of(cases: Vec<Case>, others: Vec<Case>) -> Vec<Case> {
+    let pairs = cases.into_iter().zip(others);
+    let joined = pairs.map(|(case, other)| {
+        assert_eq!(case.name, other.name);
+        Case { plain: case.plain.into_iter().chain(other.plain).collect(), ..case }
+    });
+    joined.collect()
 }
 
 const RUNS: usize = 75;
@@ -107,8 +118,8 @@ impl<'a> Side<'a> {
     }
 }
 
-/// What was found of a row: its three sides, the ratios of all runs of the first two next to each other, and
-/// whether all answers were the same.
+/// What was found of a row: its three sides, the ratios of the runs of the first two next to each other at the
+/// place where plain Rust was fastest, and whether all answers were the same.
 struct Row<'a> {
     library: Side<'a>,
     plain: Side<'a>,
@@ -128,23 +139,29 @@ fn timed(case: &Case) -> Row<'_> {
         library: Side::of(LIBRARY.then_some(&case.library)),
         plain: Side::of(None),
         by_hand: Side::of(case.by_hand.as_ref()),
-        // no memory is asked for between the runs, so that lists lie at the same addresses in all of them
-        ratios: Vec::with_capacity(runs * case.plain.len()),
+        ratios: Vec::with_capacity(runs),
         agree: true,
     };
+    // no memory is asked for between the runs, so that lists lie at the same addresses in all of them
+    let mut ratios = Vec::with_capacity(runs);
     for (place, copy) in case.plain.iter().enumerate() {
         let held = places::held_blocks(place);
         row.plain.call = Some(copy);
+        ratios.clear();
+        let best_before = row.plain.best;
         for run in 0..runs {
             let proved = row.library.run(run, rounds);
             let wanted = row.plain.run(run, rounds);
             let written = row.by_hand.run(run, rounds);
-            row.ratios.push(row.library.times[run] / row.plain.times[run]);
+            ratios.push(row.library.times[run] / row.plain.times[run]);
             row.agree &= [proved, written].into_iter().flatten().all(|answer| Some(answer) == wanted);
         }
         drop(held);
         for side in [&mut row.library, &mut row.plain, &mut row.by_hand] {
             side.take(runs, operations);
+        }
+        if row.plain.best < best_before {
+            swap(&mut row.ratios, &mut ratios);
         }
     }
     row
@@ -160,8 +177,8 @@ fn cell(number: f64, width: usize, decimals: usize) -> String {
 }
 
 /// Times a row and prints it: the best of the library and of plain Rust and their ratio, the median of each, both
-/// of the place where they are least, the median of the ratios of all runs next to each other, and the best of what
-/// is written by hand and the ratio to it. Whether all sides answer the same.
+/// of the place where they are least, the median of those ratios, and the best of what is written by hand and the
+/// ratio to it. Whether all sides answer the same.
 fn print_row(case: &Case) -> bool {
     let mut row = timed(case);
     println!(

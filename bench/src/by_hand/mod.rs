@@ -7,7 +7,7 @@ mod packings;
 mod tests;
 mod words;
 
-use crate::baby_bear::BabyBear;
+use crate::baby_bear::{BabyBear, BabyBearByWords};
 use crate::residues::{F17, Goldilocks, Residue};
 use fields::VectorField;
 use words::{LONGEST_IN_8, Longest, Words, Words4, Words8};
@@ -86,13 +86,17 @@ impl ListLoops {
     }
 }
 
-/// A type, and the loops that are written by hand for it.
+/// A type, and the loops that are written by hand for it; none where it says nothing.
 pub trait ByHand: Residue {
     /// Those over packings of so many lanes.
-    fn packing_loops(lanes: usize) -> Option<PackingLoops>;
+    fn packing_loops(_lanes: usize) -> Option<PackingLoops> {
+        None
+    }
 
     /// Those over lists.
-    fn list_loops() -> Option<ListLoops>;
+    fn list_loops() -> Option<ListLoops> {
+        None
+    }
 }
 
 impl ByHand for F17 {
@@ -115,15 +119,9 @@ impl ByHand for BabyBear {
     }
 }
 
-impl ByHand for Goldilocks {
-    fn packing_loops(_lanes: usize) -> Option<PackingLoops> {
-        None
-    }
+impl ByHand for BabyBearByWords {}
 
-    fn list_loops() -> Option<ListLoops> {
-        None
-    }
-}
+impl ByHand for Goldilocks {}
 
 /// The products of packed values of an extension of degree 4.
 pub fn packed_products<F: VectorField>(lanes: usize) -> Option<PackedLoop> {
