@@ -102,7 +102,11 @@ fn slice_cases<F: ByHand, const N: usize>(name: &str, field: u32) -> Vec<Case> {
 }
 
 /// The rows of packed extensions.
-fn extension_cases<E: Extension, const N: usize>(name: &str, extension: u32, product_by_hand: Option<PackedLoop>) -> Vec<Case> {
+fn extension_cases<E: Extension, const N: usize>(
+    name: &str,
+    extension: u32,
+    product_by_hand: Option<PackedLoop>,
+) -> Vec<Case> {
     let (left, right) = (units(E::ORDER, 3, 4 * N), units(E::ORDER, 4, 4 * N));
     let row = |word: &str, call: SliceCall, plain: PackedLoop| {
         Case::new(
@@ -128,37 +132,42 @@ fn quartic_cases<const N: usize>() -> Vec<Case> {
 }
 
 /// The row of batch inversion, whose plain loop is there in two forms.
-fn inversion_case<F: ByHand>(name: &str, field: u32) -> Case {
+fn inversion_cases<F: ByHand>(name: &str, field: u32) -> Vec<Case> {
     let numbers = units(F::ORDER, 5, LENGTH);
     let call = |run: ListLoop| Box::new(move |k| run(numbers, k)) as Call;
-    Case {
+    vec![Case {
         name: format!("{name} batch inversion"),
         operations: LENGTH as u64,
         library: Box::new(move |k| unsafe { p3_speed_inversions(field, numbers.as_ptr(), LENGTH, k) }),
         plain: vec![call(lanes::inversions::<F, true>), call(lanes::inversions::<F, false>)],
         by_hand: F::list_loops().map(|loops| call(loops.inversions)),
-    }
+    }]
+}
+
+/// The rows of BabyBear, with both forms of its plain reduction.
+fn baby_bear_cases(rows: [fn(&str, u32) -> Vec<Case>; 2]) -> Vec<Case> {
+    let [cases, by_words] = rows.map(|rows| rows("babybear", 1));
+    with_plain_of(cases, by_words)
 }
 
 /// All rows of lanes.
 pub fn cases() -> Vec<Case> {
     let mut cases = packing_cases::<F17, 4>("f17", 0);
     cases.extend(packing_cases::<F17, 8>("f17", 0));
-    cases.extend(with_plain_of(packing_cases::<BabyBear, 4>("babybear", 1), packing_cases::<BabyBearByWords, 4>("babybear", 1)));
-    cases.extend(with_plain_of(packing_cases::<BabyBear, 8>("babybear", 1), packing_cases::<BabyBearByWords, 8>("babybear", 1)));
+    cases.extend(baby_bear_cases([packing_cases::<BabyBear, 4>, packing_cases::<BabyBearByWords, 4>]));
+    cases.extend(baby_bear_cases([packing_cases::<BabyBear, 8>, packing_cases::<BabyBearByWords, 8>]));
     cases.extend(packing_cases::<Goldilocks, 4>("goldilocks", 2));
     cases.extend(packing_cases::<Goldilocks, 8>("goldilocks", 2));
     cases.extend(slice_cases::<F17, 4>("f17", 0));
     cases.extend(slice_cases::<F17, 8>("f17", 0));
-    cases.extend(with_plain_of(slice_cases::<BabyBear, 4>("babybear", 1), slice_cases::<BabyBearByWords, 4>("babybear", 1)));
-    cases.extend(with_plain_of(slice_cases::<BabyBear, 8>("babybear", 1), slice_cases::<BabyBearByWords, 8>("babybear", 1)));
+    cases.extend(baby_bear_cases([slice_cases::<BabyBear, 4>, slice_cases::<BabyBearByWords, 4>]));
+    cases.extend(baby_bear_cases([slice_cases::<BabyBear, 8>, slice_cases::<BabyBearByWords, 8>]));
     cases.extend(slice_cases::<Goldilocks, 4>("goldilocks", 2));
     cases.extend(slice_cases::<Goldilocks, 8>("goldilocks", 2));
     cases.extend(quartic_cases::<4>());
     cases.extend(quartic_cases::<8>());
-    cases.push(inversion_case::<F17>("f17", 0));
-    let by_words = inversion_case::<BabyBearByWords>("babybear", 1);
-    cases.extend(with_plain_of(vec![inversion_case::<BabyBear>("babybear", 1)], vec![by_words]));
-    cases.push(inversion_case::<Goldilocks>("goldilocks", 2));
+    cases.extend(inversion_cases::<F17>("f17", 0));
+    cases.extend(baby_bear_cases([inversion_cases::<BabyBear>, inversion_cases::<BabyBearByWords>]));
+    cases.extend(inversion_cases::<Goldilocks>("goldilocks", 2));
     cases
 }

@@ -1,7 +1,9 @@
 //! The rows' loops by intrinsics, in the forms that upstream's own field crates have for vectors: the third
 //! side, written by hand.
 mod fields;
+mod goldilocks;
 mod lists;
+mod longs;
 mod packings;
 #[cfg(test)]
 mod tests;
@@ -10,6 +12,7 @@ mod words;
 use crate::baby_bear::{BabyBear, BabyBearByWords};
 use crate::residues::{F17, Goldilocks, Residue};
 use fields::VectorField;
+use longs::{LONGEST_IN_4, Longs, LongestLongs};
 use words::{LONGEST_IN_8, Longest, Words, Words4, Words8};
 
 /// A loop over two lists: both, and the rounds.
@@ -39,6 +42,17 @@ impl PackingLoops {
             slice_products: packings::slice_products::<F, V>,
             products: packings::products::<F, P>,
             dot_products: packings::dot_products::<F, V, PARTS>,
+        }
+    }
+
+    /// The loops over packings of Goldilocks that are PARTS vectors.
+    fn of_longs<V: Longs, const PARTS: usize>() -> Self {
+        PackingLoops {
+            sums: goldilocks::sums::<V>,
+            differences: goldilocks::differences::<V>,
+            slice_products: goldilocks::slice_products::<V>,
+            products: goldilocks::products::<V, PARTS>,
+            dot_products: goldilocks::dot_products::<V, PARTS>,
         }
     }
 
@@ -121,7 +135,15 @@ impl ByHand for BabyBear {
 
 impl ByHand for BabyBearByWords {}
 
-impl ByHand for Goldilocks {}
+impl ByHand for Goldilocks {
+    fn packing_loops(lanes: usize) -> Option<PackingLoops> {
+        match lanes {
+            4 => Some(PackingLoops::of_longs::<LongestLongs, LONGEST_IN_4>()),
+            8 => Some(PackingLoops::of_longs::<LongestLongs, { 2 * LONGEST_IN_4 }>()),
+            _ => None,
+        }
+    }
+}
 
 /// The products of packed values of an extension of degree 4.
 pub fn packed_products<F: VectorField>(lanes: usize) -> Option<PackedLoop> {

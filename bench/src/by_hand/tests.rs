@@ -1,11 +1,12 @@
 //! What is written by hand answers what the plain loops do.
 use super::fields::VectorField;
+use super::{ByHand, PairLoop};
 use super::{lists, packings};
 use super::words::{Words, Words4, Words8};
 use crate::baby_bear::BabyBear;
 use crate::extensions::{BabyBearx4, Extension, F17x4};
 use crate::lane_cases::units;
-use crate::residues::F17;
+use crate::residues::{F17, Goldilocks, Residue};
 use crate::{lanes, primes, slices};
 
 /// Two pairs of lists: of any numbers, and of those whose words are the greatest.
@@ -108,4 +109,34 @@ fn extensions() {
     extensions_agree::<F17x4, F17, Words8>();
     extensions_agree::<BabyBearx4, BabyBear, Words4>();
     extensions_agree::<BabyBearx4, BabyBear, Words8>();
+}
+
+/// The loops over packings of Goldilocks, also with words at the order's ends.
+fn goldilocks_agrees<const N: usize>(left: &[u64], right: &[u64]) {
+    let loops = Goldilocks::packing_loops(N).unwrap();
+    for rounds in [0, 1, 2, 5] {
+        let plain: [PairLoop; 5] = [
+            lanes::sums::<Goldilocks, N, 0>,
+            lanes::differences::<Goldilocks, N, 0>,
+            lanes::slice_products::<Goldilocks, N>,
+            lanes::products::<Goldilocks, N>,
+            lanes::dot_products::<Goldilocks, N>,
+        ];
+        let by_hand = [loops.sums, loops.differences, loops.slice_products, loops.products, loops.dot_products];
+        for (by_hand, plain) in by_hand.into_iter().zip(plain) {
+            assert_eq!(by_hand(left, right, rounds), plain(left, right, rounds));
+        }
+    }
+}
+
+#[test]
+fn goldilocks() {
+    let order = Goldilocks::ORDER;
+    let any = [1, 2].map(|seed| units(order, seed, 1000));
+    let ends: Vec<u64> = (0..1000).map(|i| if i % 3 == 0 { order - 1 - i / 3 } else { (1 << 32) - i }).collect();
+    let turned: Vec<u64> = ends.iter().rev().copied().collect();
+    for [left, right] in [any, [&ends, &turned], [&vec![order - 1; 1000], &ends]] {
+        goldilocks_agrees::<4>(left, right);
+        goldilocks_agrees::<8>(left, right);
+    }
 }
