@@ -37,7 +37,8 @@ fn packing_cases<F: ByHand, const N: usize>(name: &str, field: u32) -> Vec<Case>
         move |k| unsafe { call(field, N as u32, left.as_ptr(), LENGTH, right.as_ptr(), LENGTH, k) }
     };
     let loops = F::packing_loops(N);
-    let by_hand = |chosen: fn(&PackingLoops) -> PairLoop| Some(pair_call(chosen(loops.as_ref()?), left, right));
+    let by_hand =
+        |chosen: fn(&PackingLoops) -> Option<PairLoop>| Some(pair_call(chosen(loops.as_ref()?)?, left, right));
     let row = |word: &str, operations: usize, call: SliceCall, plain: PairLoop| {
         let name = format!("{name} {word}, {N} lanes");
         Case::new(name, operations as u64, over(call), move |k| plain(left, right, k))
@@ -60,10 +61,10 @@ fn packing_cases<F: ByHand, const N: usize>(name: &str, field: u32) -> Vec<Case>
         row_at_places("packed sums", p3_speed_lane_sums, sums).beside(by_hand(|l| l.sums)),
         row_at_places("packed differences", p3_speed_lane_differences, differences).beside(by_hand(|l| l.differences)),
         row("packed slice products", LENGTH, p3_speed_lane_slice_products, lanes::slice_products::<F, N>)
-            .beside(by_hand(|l| l.slice_products)),
-        row("packed product chain", N, p3_speed_lane_products, lanes::products::<F, N>).beside(by_hand(|l| l.products)),
+            .beside(by_hand(|l| Some(l.slice_products))),
+        row("packed product chain", N, p3_speed_lane_products, lanes::products::<F, N>).beside(by_hand(|l| Some(l.products))),
         row("packed dot product", LENGTH, p3_speed_lane_dot_products, lanes::dot_products::<F, N>)
-            .beside(by_hand(|l| l.dot_products)),
+            .beside(by_hand(|l| Some(l.dot_products))),
     ]
 }
 

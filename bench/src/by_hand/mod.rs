@@ -1,18 +1,22 @@
 //! The rows' loops by intrinsics, in the forms that upstream's own field crates have for vectors: the third
 //! side, written by hand.
 mod fields;
+#[cfg(target_feature = "avx2")]
 mod goldilocks;
 mod lists;
+#[cfg(target_feature = "avx2")]
 mod longs;
 mod packings;
 #[cfg(test)]
 mod tests;
 mod words;
 
+#[cfg(not(target_feature = "sse4.2"))]
+compile_error!("build in bench/, for x86-64-v2 at least: the loops by hand have its instructions");
+
 use crate::baby_bear::{BabyBear, BabyBearByWords};
 use crate::residues::{F17, Goldilocks, Residue};
 use fields::VectorField;
-use longs::{LONGEST_IN_4, Longs, LongestLongs};
 use words::{LONGEST_IN_8, Longest, Words, Words4, Words8};
 
 /// A loop over two lists: both, and the rounds.
@@ -26,8 +30,9 @@ pub type PackedLoop = fn(&[u64], &[u64], usize, u64) -> u64;
 
 /// The loops over packings of some lanes.
 pub struct PackingLoops {
-    pub sums: PairLoop,
-    pub differences: PairLoop,
+    /// Sums and differences are written by hand for words of 32 bits alone.
+    pub sums: Option<PairLoop>,
+    pub differences: Option<PairLoop>,
     pub slice_products: PairLoop,
     pub products: PairLoop,
     pub dot_products: PairLoop,
@@ -37,8 +42,8 @@ impl PackingLoops {
     /// The loops over packings of the words P, which are PARTS vectors V.
     fn over<F: VectorField, P: Words, V: Words, const PARTS: usize>() -> Self {
         PackingLoops {
-            sums: packings::sums::<F, V>,
-            differences: packings::differences::<F, V>,
+            sums: Some(packings::sums::<F, V>),
+            differences: Some(packings::differences::<F, V>),
             slice_products: packings::slice_products::<F, V>,
             products: packings::products::<F, P>,
             dot_products: packings::dot_products::<F, V, PARTS>,
@@ -46,13 +51,14 @@ impl PackingLoops {
     }
 
     /// The loops over packings of Goldilocks that are PARTS vectors.
-    fn of_longs<V: Longs, const PARTS: usize>() -> Self {
+    #[cfg(target_feature = "avx2")]
+    fn of_longs<const PARTS: usize>() -> Self {
         PackingLoops {
-            sums: goldilocks::sums::<V>,
-            differences: goldilocks::differences::<V>,
-            slice_products: goldilocks::slice_products::<V>,
-            products: goldilocks::products::<V, PARTS>,
-            dot_products: goldilocks::dot_products::<V, PARTS>,
+            sums: None,
+            differences: None,
+            slice_products: goldilocks::slice_products,
+            products: goldilocks::products::<PARTS>,
+            dot_products: goldilocks::dot_products::<PARTS>,
         }
     }
 
@@ -135,11 +141,13 @@ impl ByHand for BabyBear {
 
 impl ByHand for BabyBearByWords {}
 
+/// With shorter vectors than those of x86-64-v3 products are no faster than word by word.
 impl ByHand for Goldilocks {
+    #[cfg(target_feature = "avx2")]
     fn packing_loops(lanes: usize) -> Option<PackingLoops> {
         match lanes {
-            4 => Some(PackingLoops::of_longs::<LongestLongs, LONGEST_IN_4>()),
-            8 => Some(PackingLoops::of_longs::<LongestLongs, { 2 * LONGEST_IN_4 }>()),
+            4 => Some(PackingLoops::of_longs::<1>()),
+            8 => Some(PackingLoops::of_longs::<2>()),
             _ => None,
         }
     }

@@ -111,24 +111,25 @@ fn extensions() {
     extensions_agree::<BabyBearx4, BabyBear, Words8>();
 }
 
-/// The loops over packings of Goldilocks, also with words at the order's ends.
+/// The products of packings of Goldilocks, where they are written by hand.
 fn goldilocks_agrees<const N: usize>(left: &[u64], right: &[u64]) {
-    let loops = Goldilocks::packing_loops(N).unwrap();
+    let Some(loops) = Goldilocks::packing_loops(N) else {
+        return;
+    };
     for rounds in [0, 1, 2, 5] {
-        let plain: [PairLoop; 5] = [
-            lanes::sums::<Goldilocks, N, 0>,
-            lanes::differences::<Goldilocks, N, 0>,
+        let plain: [PairLoop; 3] = [
             lanes::slice_products::<Goldilocks, N>,
             lanes::products::<Goldilocks, N>,
             lanes::dot_products::<Goldilocks, N>,
         ];
-        let by_hand = [loops.sums, loops.differences, loops.slice_products, loops.products, loops.dot_products];
+        let by_hand = [loops.slice_products, loops.products, loops.dot_products];
         for (by_hand, plain) in by_hand.into_iter().zip(plain) {
             assert_eq!(by_hand(left, right, rounds), plain(left, right, rounds));
         }
     }
 }
 
+/// Of any numbers, and of numbers at the order's ends.
 #[test]
 fn goldilocks() {
     let order = Goldilocks::ORDER;
