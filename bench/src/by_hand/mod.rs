@@ -156,8 +156,8 @@ impl ByHand for Goldilocks {
 /// The products of packed values of an extension of degree 4.
 pub fn packed_products<F: VectorField>(lanes: usize) -> Option<PackedLoop> {
     match lanes {
-        4 => Some(packings::extension_products::<F, Words4>),
-        8 => Some(packings::extension_products::<F, Words8>),
+        4 => Some(packings::extension_products::<F, Words4, 1>),
+        8 => Some(packings::extension_products::<F, Longest, LONGEST_IN_8>),
         _ => None,
     }
 }

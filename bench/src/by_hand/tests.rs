@@ -1,6 +1,6 @@
 //! What is written by hand answers what the plain loops do.
 use super::fields::VectorField;
-use super::{ByHand, PairLoop};
+use super::{ByHand, PairLoop, packed_products};
 use super::{lists, packings};
 use super::words::{Words, Words4, Words8};
 use crate::baby_bear::BabyBear;
@@ -68,18 +68,14 @@ fn lists_agree<F: VectorField, V: Words>(left: &[u64], right: &[u64]) {
     }
 }
 
-/// The products of an extension of degree 4.
-fn extensions_agree<E: Extension, F: VectorField, V: Words>() {
-    for [left, right] in pairs_of_lists::<F>(4 * V::LANES) {
-        extension_agrees::<E, F, V>(&left, &right);
-    }
-}
-
-/// The products of two values.
-fn extension_agrees<E: Extension, F: VectorField, V: Words>(left: &[u64], right: &[u64]) {
-    for count in [0, 1, 5] {
-        let plain = lanes::extension_products::<E>(left, right, V::LANES, count);
-        assert_eq!(packings::extension_products::<F, V>(left, right, V::LANES, count), plain);
+/// The products of an extension of degree 4 at so many lanes.
+fn extensions_agree<E: Extension, F: VectorField>(lanes: usize) {
+    let by_hand = packed_products::<F>(lanes).unwrap();
+    for [left, right] in pairs_of_lists::<F>(4 * lanes) {
+        for count in [0, 1, 5] {
+            let plain = lanes::extension_products::<E>(&left, &right, lanes, count);
+            assert_eq!(by_hand(&left, &right, lanes, count), plain);
+        }
     }
 }
 
@@ -105,10 +101,10 @@ fn baby_bear() {
 
 #[test]
 fn extensions() {
-    extensions_agree::<F17x4, F17, Words4>();
-    extensions_agree::<F17x4, F17, Words8>();
-    extensions_agree::<BabyBearx4, BabyBear, Words4>();
-    extensions_agree::<BabyBearx4, BabyBear, Words8>();
+    extensions_agree::<F17x4, F17>(4);
+    extensions_agree::<F17x4, F17>(8);
+    extensions_agree::<BabyBearx4, BabyBear>(4);
+    extensions_agree::<BabyBearx4, BabyBear>(8);
 }
 
 /// The products of packings of Goldilocks, where they are written by hand.
