@@ -39,12 +39,13 @@ pub struct PackingLoops {
 }
 
 impl PackingLoops {
-    /// The loops over packings of the words P, which are PARTS vectors V.
+    /// The loops over packings of the words P, which are PARTS vectors V. Lists of packings are taken in the longest
+    /// vectors, as the compiler takes them.
     fn over<F: VectorField, P: Words, V: Words, const PARTS: usize>() -> Self {
         PackingLoops {
-            sums: Some(packings::sums::<F, V>),
-            differences: Some(packings::differences::<F, V>),
-            slice_products: packings::slice_products::<F, V>,
+            sums: Some(packings::sums::<F, Longest>),
+            differences: Some(packings::differences::<F, Longest>),
+            slice_products: packings::slice_products::<F, Longest>,
             products: packings::products::<F, P>,
             dot_products: packings::dot_products::<F, V, PARTS>,
         }
