@@ -28,7 +28,8 @@ fn main() {
     cases.extend(coset_cases::cases());
     cases.extend(calculator_cases::cases());
     let mut agree = table::print(&cases, &word);
-    if coset_sizes::NAME.contains(&word) {
+    // that table times the library alone
+    if table::LIBRARY && coset_sizes::NAME.contains(&word) {
         agree &= coset_sizes::print();
     }
     if !agree {

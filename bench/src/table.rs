@@ -129,7 +129,7 @@ struct Row<'a> {
 }
 
 /// Whether the library is linked; its calls lead nowhere otherwise.
-const LIBRARY: bool = cfg!(library);
+pub const LIBRARY: bool = cfg!(library);
 
 /// Runs all sides in turn, at each place of the plain loop.
 fn timed(case: &Case) -> Row<'_> {
