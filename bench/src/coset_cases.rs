@@ -1,10 +1,10 @@
 //! The rows of values over cosets, each counted a value.
-use crate::baby_bear::BabyBear;
+use crate::baby_bear::{BabyBear, BabyBearByWords};
 use crate::calls::p3_speed_coset_values;
 use crate::cosets;
 use crate::lane_cases::units;
 use crate::residues::{Goldilocks, Residue};
-use crate::table::Case;
+use crate::table::{Case, with_plain_of};
 use std::hint::black_box;
 
 /// How many values a run has at least: so many that reading the numbers and the one value at the end take
@@ -43,7 +43,7 @@ fn cases_of<F: Residue>(name: &str, field: u32) -> Vec<Case> {
 
 /// All rows of values over cosets.
 pub fn cases() -> Vec<Case> {
-    let mut cases = cases_of::<BabyBear>("babybear", 1);
+    let mut cases = with_plain_of(cases_of::<BabyBear>("babybear", 1), cases_of::<BabyBearByWords>("babybear", 1));
     cases.extend(cases_of::<Goldilocks>("goldilocks", 2));
     cases
 }

@@ -1,7 +1,7 @@
 //! The rows of the extensions.
 use crate::calls::*;
 use crate::extensions::*;
-use crate::table::Case;
+use crate::table::{Case, with_plain_of};
 use std::hint::black_box;
 
 /// The coefficients as one number, to be compared.
@@ -73,8 +73,9 @@ pub fn cases() -> Vec<Case> {
     cases.extend(cases_of::<F31x6>("f31x6", 3, 6));
     cases.extend(cases_of::<F31t3>("f31t3", 4, 3));
     cases.extend(cases_of::<F17t5>("f17t5", 5, 5));
-    cases.extend(cases_of::<BabyBearx4>("bbx4", 6, 4));
+    cases.extend(with_plain_of(cases_of::<BabyBearx4>("bbx4", 6, 4), cases_of::<BabyBearx4ByWords>("bbx4", 6, 4)));
     cases.extend(ring_cases_of::<F2t7>("f2t7", 7, 7));
-    cases.extend(ring_cases_of::<BabyBeart7>("bbt7", 8, 7));
+    let by_words = ring_cases_of::<BabyBeart7ByWords>("bbt7", 8, 7);
+    cases.extend(with_plain_of(ring_cases_of::<BabyBeart7>("bbt7", 8, 7), by_words));
     cases
 }

@@ -1,5 +1,7 @@
-//! The proved library beside plain Rust that does the same work, in one process and in turn.
+//! The proved library beside plain Rust and beside intrinsics that do the same work, in one process and in
+//! turn.
 mod baby_bear;
+mod by_hand;
 mod calculator;
 mod calculator_cases;
 mod calls;
@@ -26,7 +28,8 @@ fn main() {
     cases.extend(coset_cases::cases());
     cases.extend(calculator_cases::cases());
     let mut agree = table::print(&cases, &word);
-    if coset_sizes::NAME.contains(&word) {
+    // that table times the library alone
+    if table::LIBRARY && coset_sizes::NAME.contains(&word) {
         agree &= coset_sizes::print();
     }
     if !agree {

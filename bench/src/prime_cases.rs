@@ -1,10 +1,11 @@
 //! The rows of the prime types.
-use crate::baby_bear::BabyBear;
+use crate::baby_bear::{BabyBear, BabyBearByWords};
+use crate::by_hand::{ByHand, ListLoop, ListLoops, PairLoop};
 use crate::calls::*;
 use crate::places;
 use crate::primes;
-use crate::residues::{F17, Goldilocks, Residue};
-use crate::table::Case;
+use crate::residues::{F17, Goldilocks};
+use crate::table::{Call, Case, with_plain_of};
 use std::hint::black_box;
 
 const LENGTH: usize = 1000;
@@ -37,8 +38,24 @@ struct Inputs {
     right: &'static [u64],
 }
 
+impl Inputs {
+    /// The call of a loop over both lists that is written by hand, if the type has such.
+    fn by_hand<F: ByHand>(&self, chosen: fn(&ListLoops) -> PairLoop) -> Option<Call> {
+        let Inputs { left, right, .. } = *self;
+        let run = F::list_loops().as_ref().map(chosen)?;
+        Some(Box::new(move |k| run(left, right, k)))
+    }
+
+    /// The same of a loop over the left list.
+    fn by_hand_on_left<F: ByHand>(&self, chosen: fn(&ListLoops) -> ListLoop) -> Option<Call> {
+        let Inputs { left, .. } = *self;
+        let run = F::list_loops().as_ref().map(chosen)?;
+        Some(Box::new(move |k| run(left, k)))
+    }
+}
+
 /// The sums of slices in place, whose times depend on where the loop lies: at each place.
-fn sums_in_place<F: Residue>(name: &str, i: &Inputs) -> Case {
+fn sums_in_place<F: ByHand>(name: &str, i: &Inputs) -> Case {
     let Inputs { field, left, right } = *i;
     let copies = [
         primes::added_slices::<F, 0>,
@@ -53,44 +70,59 @@ fn sums_in_place<F: Residue>(name: &str, i: &Inputs) -> Case {
             p3_speed_added_slices(field, left.as_ptr(), LENGTH, right.as_ptr(), LENGTH, k)
         }),
         plain: places::calls(copies, move |copy, k| copy(left, right, k)),
+        by_hand: i.by_hand::<F>(|loops| loops.added_slices),
     }
 }
 
-/// The rows of slices.
-fn slice_cases<F: Residue>(name: &str, i: Inputs) -> Vec<Case> {
-    let sums_in_place = sums_in_place::<F>(name, &i);
-    let Inputs { field, left, right } = i;
+/// The row of Horner's rule.
+fn horner_case<F: ByHand>(name: &str, i: &Inputs) -> Case {
+    let Inputs { field, left, .. } = *i;
     let point = black_box(3);
+    let by_hand = F::list_loops().map(|loops| Box::new(move |k| (loops.horner_chain)(left, point, k)) as Call);
+    case(name, "Horner", 1000,
+        move |k| unsafe { p3_speed_horner_chain(field, left.as_ptr(), LENGTH, point, k) },
+        move |k| primes::horner_chain::<F>(left, point, k))
+    .beside(by_hand)
+}
+
+/// The rows of slices.
+fn slice_cases<F: ByHand>(name: &str, i: Inputs) -> Vec<Case> {
+    let Inputs { field, left, right } = i;
     let (l, r, n) = (left.as_ptr() as usize, right.as_ptr() as usize, LENGTH);
     let at = |p: usize| p as *const u64;
     vec![
         case(name, "slice products", 1000,
             move |k| unsafe { p3_speed_multiplied_slices(field, at(l), n, at(r), n, k) },
-            move |k| primes::multiplied_slices::<F>(left, right, k)),
-        sums_in_place,
+            move |k| primes::multiplied_slices::<F>(left, right, k))
+        .beside(i.by_hand::<F>(|loops| loops.multiplied_slices)),
+        sums_in_place::<F>(name, &i),
         case(name, "sum by Sum", 1000,
             move |k| unsafe { p3_speed_sums(field, at(l), n, k as usize) },
-            move |k| primes::sums::<F>(left, k as usize)),
+            move |k| primes::sums::<F>(left, k as usize))
+        .beside(i.by_hand_on_left::<F>(|loops| loops.list_sums)),
         case(name, "sum by sum_array", 1000,
             move |k| unsafe { p3_speed_array_sums(field, at(l), n, k as usize) },
-            move |k| primes::array_sums::<F, LENGTH>(left, k as usize)),
+            move |k| primes::array_sums::<F, LENGTH>(left, k as usize))
+        .beside(i.by_hand_on_left::<F>(|loops| loops.list_sums)),
         case(name, "dot product", 1000,
             move |k| unsafe { p3_speed_dot_products(field, at(l), n, at(r), n, k as usize) },
-            move |k| primes::dot_products::<F>(left, right, k as usize)),
+            move |k| primes::dot_products::<F>(left, right, k as usize))
+        .beside(i.by_hand::<F>(|loops| loops.dot_products)),
         case(name, "linear combination", 1000,
             move |k| unsafe { p3_speed_linear_combinations(field, at(l), n, at(r), n, k as usize) },
-            move |k| primes::linear_combinations::<F>(left, right, k as usize)),
-        case(name, "Horner", 1000,
-            move |k| unsafe { p3_speed_horner_chain(field, at(l), n, point, k) },
-            move |k| primes::horner_chain::<F>(left, point, k)),
+            move |k| primes::linear_combinations::<F>(left, right, k as usize))
+        .beside(i.by_hand::<F>(|loops| loops.dot_products)),
+        horner_case::<F>(name, &i),
     ]
 }
 
 /// The rows of chains and lists of powers.
-fn chain_cases<F: Residue>(name: &str, field: u32) -> Vec<Case> {
+fn chain_cases<F: ByHand>(name: &str, field: u32) -> Vec<Case> {
     // hidden from the compiler, so that no side is compiled for these numbers alone
     let [start, factor, step, exponent] = black_box([5, 3, 7, EXPONENT]);
     let length = black_box(POWERS);
+    let powers_by_hand =
+        F::list_loops().map(|loops| Box::new(move |k| (loops.power_lists)(factor, length, k)) as Call);
     vec![
         case(name, "product chain", 1000,
             move |k| p3_speed_product_chain(field, start, factor, 1000 * k),
@@ -100,7 +132,8 @@ fn chain_cases<F: Residue>(name: &str, field: u32) -> Vec<Case> {
             move |k| primes::power_chain::<F>(start, step, exponent, k)),
         case(name, "list of 4096 powers", 4096,
             move |k| p3_speed_power_lists(field, factor, length, k),
-            move |k| primes::power_lists::<F>(factor, length, k)),
+            move |k| primes::power_lists::<F>(factor, length, k))
+        .beside(powers_by_hand),
         case(name, "try_inverse", 1,
             move |k| p3_speed_inverse_chain(field, start, step, k),
             move |k| primes::inverse_chain::<F>(start, step, k)),
@@ -111,7 +144,7 @@ fn chain_cases<F: Residue>(name: &str, field: u32) -> Vec<Case> {
 }
 
 /// The rows of one type.
-fn cases_of<F: Residue>(name: &str, field: u32) -> Vec<Case> {
+fn cases_of<F: ByHand>(name: &str, field: u32) -> Vec<Case> {
     let inputs = Inputs {
         field,
         left: numbers(F::ORDER, black_box(1)).leak(),
@@ -125,7 +158,7 @@ fn cases_of<F: Residue>(name: &str, field: u32) -> Vec<Case> {
 /// All rows of the prime types.
 pub fn cases() -> Vec<Case> {
     let mut cases = cases_of::<F17>("f17", 0);
-    cases.extend(cases_of::<BabyBear>("babybear", 1));
+    cases.extend(with_plain_of(cases_of::<BabyBear>("babybear", 1), cases_of::<BabyBearByWords>("babybear", 1)));
     cases.extend(cases_of::<Goldilocks>("goldilocks", 2));
     cases
 }

@@ -1,17 +1,20 @@
-//! Times pairs of calls that do the same work, and prints them side by side.
+//! Times calls that do the same work, two or three of them, and prints them side by side.
 use crate::places;
+use std::mem::swap;
 use std::time::Instant;
 
 /// A side of a row: what it does so many rounds of, and the number that it answers.
 pub type Call = Box<dyn Fn(u64) -> u64>;
 
-/// One row: what the proved library and plain Rust do, and how many operations that is.
+/// One row: what the proved library, plain Rust and, in some, intrinsics do, and how many operations that is.
 pub struct Case {
     pub name: String,
     pub operations: u64,
     pub library: Call,
-    /// The plain loop, or copies of it that lie at different places.
+    /// The plain loop, or copies of it that lie at different places, or forms of it: the fastest counts.
     pub plain: Vec<Call>,
+    /// The same by intrinsics, written by hand.
+    pub by_hand: Option<Call>,
 }
 
 impl Case {
@@ -26,8 +29,24 @@ impl Case {
             operations,
             library: Box::new(library),
             plain: vec![Box::new(plain)],
+            by_hand: None,
         }
     }
+
+    /// The row with one more side, if there is such.
+    pub fn beside(self, by_hand: Option<Call>) -> Self {
+        Case { by_hand, ..self }
+    }
+}
+
+/// The rows with the plain loops of both lists of them; the rest is that of the first ones.
+pub fn with_plain_of(cases: Vec<Case>, others: Vec<Case>) -> Vec<Case> {
+    let pairs = cases.into_iter().zip(others);
+    let joined = pairs.map(|(case, other)| {
+        assert_eq!(case.name, other.name);
+        Case { plain: case.plain.into_iter().chain(other.plain).collect(), ..case }
+    });
+    joined.collect()
 }
 
 const RUNS: usize = 75;
@@ -64,69 +83,129 @@ fn median(times: &mut [f64]) -> f64 {
     times[times.len() / 2]
 }
 
-/// The least of the places' best times and medians, as far as they were taken.
-struct Least {
+/// A side of a row while it is timed: its times at a place, and the least of the places' best times and
+/// medians, as far as they were taken. A side without a call takes none.
+struct Side<'a> {
+    call: Option<&'a Call>,
+    times: [f64; RUNS],
     best: f64,
     median: f64,
 }
 
-impl Least {
+impl<'a> Side<'a> {
     /// Before any time was taken.
-    const NONE: Self = Least {
-        best: f64::INFINITY,
-        median: f64::INFINITY,
-    };
+    fn of(call: Option<&'a Call>) -> Self {
+        Side {
+            call,
+            times: [f64::INFINITY; RUNS],
+            best: f64::INFINITY,
+            median: f64::INFINITY,
+        }
+    }
 
-    /// Takes the times of one more place, each of so many operations.
-    fn take(&mut self, times: &mut [f64], operations: f64) {
-        let middle = median(times);
-        self.best = self.best.min(times[0] / operations);
+    /// Times a run; its answer.
+    fn run(&mut self, run: usize, rounds: u64) -> Option<u64> {
+        let (taken, answer) = time(self.call?, rounds);
+        self.times[run] = taken;
+        Some(answer)
+    }
+
+    /// Takes the times of so many runs at one more place, each of so many operations.
+    fn take(&mut self, runs: usize, operations: f64) {
+        let middle = median(&mut self.times[..runs]);
+        self.best = self.best.min(self.times[0] / operations);
         self.median = self.median.min(middle / operations);
     }
 }
 
-/// Runs both sides in turn, at each place of the plain loop, checks that they answer the same, and
-/// prints the row: the best of each side and their ratio, the median of each, both of the place where
-/// they are least, and the median of the ratios of all runs next to each other.
-fn print_row(case: &Case) -> bool {
+/// What was found of a row: its three sides, the ratios of the runs of the first two next to each other at the
+/// place where plain Rust was fastest, and whether all answers were the same.
+struct Row<'a> {
+    library: Side<'a>,
+    plain: Side<'a>,
+    by_hand: Side<'a>,
+    ratios: Vec<f64>,
+    agree: bool,
+}
+
+/// Whether the library is linked; its calls lead nowhere otherwise.
+pub const LIBRARY: bool = cfg!(library);
+
+/// Runs all sides in turn, at each place of the plain loop.
+fn timed(case: &Case) -> Row<'_> {
     let (rounds, runs) = rounds_and_runs(case);
     let operations = (rounds * case.operations) as f64;
-    let (mut library, mut plain) = (Least::NONE, Least::NONE);
+    let mut row = Row {
+        library: Side::of(LIBRARY.then_some(&case.library)),
+        plain: Side::of(None),
+        by_hand: Side::of(case.by_hand.as_ref()),
+        ratios: Vec::with_capacity(runs),
+        agree: true,
+    };
     // no memory is asked for between the runs, so that lists lie at the same addresses in all of them
-    let mut ratios = Vec::with_capacity(runs * case.plain.len());
-    let mut agree = true;
+    let mut ratios = Vec::with_capacity(runs);
     for (place, copy) in case.plain.iter().enumerate() {
         let held = places::held_blocks(place);
-        let (mut proved, mut written) = ([0.0; RUNS], [0.0; RUNS]);
+        row.plain.call = Some(copy);
+        ratios.clear();
+        let best_before = row.plain.best;
         for run in 0..runs {
-            let (answer, wanted);
-            (proved[run], answer) = time(&case.library, rounds);
-            (written[run], wanted) = time(copy, rounds);
-            ratios.push(proved[run] / written[run]);
-            agree &= answer == wanted;
+            let proved = row.library.run(run, rounds);
+            let wanted = row.plain.run(run, rounds);
+            let written = row.by_hand.run(run, rounds);
+            ratios.push(row.library.times[run] / row.plain.times[run]);
+            row.agree &= [proved, written].into_iter().flatten().all(|answer| Some(answer) == wanted);
         }
         drop(held);
-        library.take(&mut proved[..runs], operations);
-        plain.take(&mut written[..runs], operations);
+        for side in [&mut row.library, &mut row.plain, &mut row.by_hand] {
+            side.take(runs, operations);
+        }
+        if row.plain.best < best_before {
+            swap(&mut row.ratios, &mut ratios);
+        }
     }
+    row
+}
+
+/// The number as a cell of the table; nothing of one that was not found.
+fn cell(number: f64, width: usize, decimals: usize) -> String {
+    if number.is_finite() {
+        format!("{number:>width$.decimals$}")
+    } else {
+        " ".repeat(width)
+    }
+}
+
+/// Times a row and prints it: the best of the library and of plain Rust and their ratio, the median of each, both
+/// of the place where they are least, the median of those ratios, and the best of what is written by hand and the
+/// ratio to it. Whether all sides answer the same.
+fn print_row(case: &Case) -> bool {
+    let mut row = timed(case);
     println!(
-        "| {:<38} | {:>9.3} | {:>9.3} | {:>5.2} | {:>9.3} | {:>9.3} | {:>5.2} |{}",
+        "| {:<38} | {} | {} | {} | {} | {} | {} | {} | {} |{}",
         case.name,
-        library.best,
-        plain.best,
-        library.best / plain.best,
-        library.median,
-        plain.median,
-        median(&mut ratios),
-        if agree { "" } else { " THE VALUES DIFFER" },
+        cell(row.library.best, 9, 3),
+        cell(row.plain.best, 9, 3),
+        cell(row.library.best / row.plain.best, 5, 2),
+        cell(row.library.median, 9, 3),
+        cell(row.plain.median, 9, 3),
+        cell(median(&mut row.ratios), 5, 2),
+        cell(row.by_hand.best, 9, 3),
+        cell(ratio(row.library.best, row.by_hand.best), 5, 2),
+        if row.agree { "" } else { " THE VALUES DIFFER" },
     );
-    agree
+    row.agree
+}
+
+/// The ratio of two times; none to one that was not taken.
+fn ratio(time: f64, other: f64) -> f64 {
+    if other.is_finite() { time / other } else { f64::INFINITY }
 }
 
 /// Prints the rows whose names have the word, and whether all values agree.
 pub fn print(cases: &[Case], word: &str) -> bool {
-    println!("| nanoseconds an operation               | library   | Rust      | ratio | median    | median    | pairs |");
-    println!("|----------------------------------------|-----------|-----------|-------|-----------|-----------|-------|");
+    println!("| nanoseconds an operation               | library   | Rust      | ratio | median    | median    | pairs | by hand   | ratio |");
+    println!("|----------------------------------------|-----------|-----------|-------|-----------|-----------|-------|-----------|-------|");
     let mut agree = true;
     for case in cases.iter().filter(|case| case.name.contains(word)) {
         agree &= print_row(case);
