@@ -5,7 +5,7 @@ ghost use Rattle.p3_theory.specs.Lanes.Lanes.{lane};
 
 use crate::plain::{List, Split};
 use crate::samples::{REGISTERS, steps};
-use crate::value_calls::{divides, is_inverse, is_refused};
+use crate::value_calls::{divides, is_found, is_inverse, is_refused};
 use crate::values::Listed;
 use p3_base::field::Field;
 use p3_batch_inverse::packed_inverse::invert_packed_extension;
@@ -21,7 +21,9 @@ use std::alloc::{AllocError, Global};
 pub(crate) enum Call {
     /// The inverse of a value is this one, or there is none.
     Inverse { value: List, inverse: Option<List> },
-    /// The inverse of a value, and a quotient by it.
+    /// The inverse of a value, if any: a product tells whether it is right.
+    Find(List),
+    /// The same by every call, and a quotient by the value.
     Divide(List),
     /// A run over registers that hold the first values, which is refused and leaves the others.
     Refused { before: [List; 3], after: [List; 3] },
@@ -55,6 +57,7 @@ where
     let split = &case.split;
     match case.call {
         Call::Inverse { value, inverse } => Ok(is_inverse::<EF>(&value, inverse)),
+        Call::Find(value) => Ok(is_found::<EF>(split, &value)),
         Call::Divide(value) => Ok(divides::<EF>(split, &value)),
         Call::Refused { before, after } => is_refused::<EF>(alloc, &before, &after),
         Call::Run { seed } => run_agrees::<F, EF, PE, 2>(alloc, None, split, seed),

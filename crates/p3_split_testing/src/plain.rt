@@ -81,23 +81,20 @@ impl Split {
         self.scaled(a, self.order.wrapping_sub(1))
     }
 
-    /// The coefficient at an index of the product with X.
-    fn shifted_at(&self, a: &List, index: usize) -> u64 {
-        let top = at(a, self.degree.wrapping_sub(1));
-        let below = if index < self.degree {
-            at(a, index.wrapping_sub(1))
-        } else {
-            0
-        };
-        below.wrapping_add(top.wrapping_mul(at(&self.folded, index)))
-    }
-
     /// `X * a + number * b`.
     fn shifted_sum(&self, a: &List, number: u64, b: &List) -> List {
-        std::array::from_fn(|i: usize| -> u64 {
-            let term = at(b, i).wrapping_mul(number);
-            self.reduced(self.shifted_at(a, i).wrapping_add(term))
-        })
+        let mut sum = ZERO;
+        let mut below: u64 = 0;
+        let top = at(a, self.degree.wrapping_sub(1));
+        for i in 0..self.degree {
+            if i < MOST {
+                let folded = top.wrapping_mul(self.folded[i]);
+                let term = b[i].wrapping_mul(number);
+                sum[i] = self.reduced(below.wrapping_add(folded).wrapping_add(term));
+                below = a[i];
+            }
+        }
+        sum
     }
 
     /// The product, from the last coefficient of a down.

@@ -43,6 +43,15 @@ pub(crate) fn is_inverse<T: Field + Listed>(x: &List, inverse: Option<List>) -> 
         && or_zero == inverse.unwrap_or(ZERO)
 }
 
+/// Whether an inverse is found, or none where there is none: by a product that is one, and by a product that
+/// is zero.
+pub(crate) fn is_found<T: Field + Listed>(split: &Split, x: &List) -> bool {
+    match list_of(T::of_list(x).try_inverse()) {
+        Some(y) => split.are_inverses(x, &y),
+        None => split.divides_zero(x),
+    }
+}
+
 /// Whether the calls give the inverse and a quotient by the value, where it has an inverse, and zero and none
 /// where it has none: a product that is one tells the first, and a product that is zero the second.
 pub(crate) fn divides<T: Field + Listed>(split: &Split, x: &List) -> bool {
