@@ -8,67 +8,65 @@ use crate::tables::{self, Table};
 use p3_bench_packed::lanes::LaneCount;
 use p3_bench_packed::packed::Packed;
 use p3_bench_prime::binomial_constants::BinomialConstants;
-use p3_bench_prime::form::{OverModulus, Plain};
+use p3_bench_prime::form::{Form, OverModulus, Plain};
 use p3_bench_prime::fp::Fp;
 use p3_bench_prime::polynomial_constants::PolynomialConstants;
-use p3_ext::extension::{Binomial, Cubic, CubicTrinomial};
+use p3_ext::extension::{
+    Binomial, Cubic, CubicTrinomial, ExtensionShape, IntegerPolynomial, Modulo,
+};
 use std::alloc::{AllocError, Global};
 
-/// What the calls make values of, over packings P of values of the extension by `X^D = W`.
-type BinomialRooms<W, P, const D: usize> = ExtensionRooms<Fp<W>, Binomial<Fp<W>>, P, D>;
+/// The calls over packings at the extension of degree D by the shape S, implemented once for all fields that
+/// have it.
+trait Splits<S: ExtensionShape, const D: usize>: Form<u32> {
+    /// The calls over packings P. Nothing is read of `rooms`.
+    fn agree<P: SplitCalls<Fp<Self>, S, D>>(
+        alloc: Global,
+        rooms: Option<P::Rooms>,
+        case: &Case,
+    ) -> Result<bool, AllocError>;
+}
 
-/// The calls over packings P of values of the extension by `X^D = W`. Nothing is read of `rooms`.
-fn binomial_agrees<W: OverModulus<u32>, P: SplitCalls<Fp<W>, Binomial<Fp<W>>, D>, const D: usize>(
-    alloc: Global,
-    rooms: Option<P::Rooms>,
-    case: &Case,
-) -> Result<bool, AllocError>
+impl<W: OverModulus<u32>, const D: usize> Splits<Binomial<Fp<W>>, D> for W
 where
     W::Modulus: BinomialConstants<D>,
 {
-    P::agree(alloc, rooms, case)
+    fn agree<P: SplitCalls<Fp<W>, Binomial<Fp<W>>, D>>(
+        alloc: Global,
+        rooms: Option<P::Rooms>,
+        case: &Case,
+    ) -> Result<bool, AllocError> {
+        P::agree(alloc, rooms, case)
+    }
 }
 
-/// The same over packings of N values. That packings are named tells that they have room; nothing is read of
+impl<W: OverModulus<u32>, S: IntegerPolynomial<D>, const D: usize> Splits<Modulo<S, D>, D> for W
+where
+    W::Modulus: PolynomialConstants<D, S>,
+{
+    fn agree<P: SplitCalls<Fp<W>, Modulo<S, D>, D>>(
+        alloc: Global,
+        rooms: Option<P::Rooms>,
+        case: &Case,
+    ) -> Result<bool, AllocError> {
+        P::agree(alloc, rooms, case)
+    }
+}
+
+/// The calls over packings of N values. That packings are named tells that they have room; nothing is read of
 /// them.
-fn binomial_lanes<W: OverModulus<u32> + LaneCount<N>, const D: usize, const N: usize>(
+fn lanes_agree<
+    W: Form<u32> + LaneCount<N> + Splits<S, D>,
+    S: ExtensionShape,
+    const D: usize,
+    const N: usize,
+>(
     alloc: Global,
     _packing: Option<Packed<Fp<W>, N>>,
-    rooms: Option<BinomialRooms<W, Packed<Fp<W>, N>, D>>,
+    rooms: Option<ExtensionRooms<Fp<W>, S, Packed<Fp<W>, N>, D>>,
     case: &Case,
-) -> Result<bool, AllocError>
-where
-    W::Modulus: BinomialConstants<D>,
-{
-    binomial_agrees::<W, Packed<Fp<W>, N>, D>(alloc, rooms, case)
-}
-
-/// What the calls make values of, over packings P of values of the extension by `X^3 = X + 1`.
-type CubicRooms<W, P> = ExtensionRooms<Fp<W>, CubicTrinomial, P, 3>;
-
-/// The calls over packings P of values of the extension by `X^3 = X + 1`. Nothing is read of `rooms`.
-fn cubic_agrees<W: OverModulus<u32>, P: SplitCalls<Fp<W>, CubicTrinomial, 3>>(
-    alloc: Global,
-    rooms: Option<P::Rooms>,
-    case: &Case,
-) -> Result<bool, AllocError>
-where
-    W::Modulus: PolynomialConstants<3, Cubic>,
-{
-    P::agree(alloc, rooms, case)
-}
-
-/// The same over packings of N values. Nothing is read of `_packing` and `rooms`.
-fn cubic_lanes<W: OverModulus<u32> + LaneCount<N>, const N: usize>(
-    alloc: Global,
-    _packing: Option<Packed<Fp<W>, N>>,
-    rooms: Option<CubicRooms<W, Packed<Fp<W>, N>>>,
-    case: &Case,
-) -> Result<bool, AllocError>
-where
-    W::Modulus: PolynomialConstants<3, Cubic>,
-{
-    cubic_agrees::<W, Packed<Fp<W>, N>>(alloc, rooms, case)
+) -> Result<bool, AllocError> {
+    <W as Splits<S, D>>::agree::<Packed<Fp<W>, N>>(alloc, rooms, case)
 }
 
 /// The calls over packings of 1, 4 or 8 values of the extension by `X^2 = W`.
@@ -81,9 +79,9 @@ where
     W::Modulus: BinomialConstants<2>,
 {
     match lanes {
-        1 => binomial_lanes::<W, 2, 1>(alloc, None, None, case),
-        4 => binomial_lanes::<W, 2, 4>(alloc, None, None, case),
-        8 => binomial_lanes::<W, 2, 8>(alloc, None, None, case),
+        1 => lanes_agree::<W, Binomial<Fp<W>>, 2, 1>(alloc, None, None, case),
+        4 => lanes_agree::<W, Binomial<Fp<W>>, 2, 4>(alloc, None, None, case),
+        8 => lanes_agree::<W, Binomial<Fp<W>>, 2, 8>(alloc, None, None, case),
         _ => Ok(false),
     }
 }
@@ -98,9 +96,9 @@ where
     W::Modulus: BinomialConstants<3>,
 {
     match lanes {
-        1 => binomial_lanes::<W, 3, 1>(alloc, None, None, case),
-        4 => binomial_lanes::<W, 3, 4>(alloc, None, None, case),
-        8 => binomial_lanes::<W, 3, 8>(alloc, None, None, case),
+        1 => lanes_agree::<W, Binomial<Fp<W>>, 3, 1>(alloc, None, None, case),
+        4 => lanes_agree::<W, Binomial<Fp<W>>, 3, 4>(alloc, None, None, case),
+        8 => lanes_agree::<W, Binomial<Fp<W>>, 3, 8>(alloc, None, None, case),
         _ => Ok(false),
     }
 }
@@ -115,9 +113,9 @@ where
     W::Modulus: BinomialConstants<4>,
 {
     match lanes {
-        1 => binomial_lanes::<W, 4, 1>(alloc, None, None, case),
-        4 => binomial_lanes::<W, 4, 4>(alloc, None, None, case),
-        8 => binomial_lanes::<W, 4, 8>(alloc, None, None, case),
+        1 => lanes_agree::<W, Binomial<Fp<W>>, 4, 1>(alloc, None, None, case),
+        4 => lanes_agree::<W, Binomial<Fp<W>>, 4, 4>(alloc, None, None, case),
+        8 => lanes_agree::<W, Binomial<Fp<W>>, 4, 8>(alloc, None, None, case),
         _ => Ok(false),
     }
 }
@@ -132,9 +130,9 @@ where
     W::Modulus: BinomialConstants<5>,
 {
     match lanes {
-        1 => binomial_lanes::<W, 5, 1>(alloc, None, None, case),
-        4 => binomial_lanes::<W, 5, 4>(alloc, None, None, case),
-        8 => binomial_lanes::<W, 5, 8>(alloc, None, None, case),
+        1 => lanes_agree::<W, Binomial<Fp<W>>, 5, 1>(alloc, None, None, case),
+        4 => lanes_agree::<W, Binomial<Fp<W>>, 5, 4>(alloc, None, None, case),
+        8 => lanes_agree::<W, Binomial<Fp<W>>, 5, 8>(alloc, None, None, case),
         _ => Ok(false),
     }
 }
@@ -149,9 +147,9 @@ where
     W::Modulus: BinomialConstants<6>,
 {
     match lanes {
-        1 => binomial_lanes::<W, 6, 1>(alloc, None, None, case),
-        4 => binomial_lanes::<W, 6, 4>(alloc, None, None, case),
-        8 => binomial_lanes::<W, 6, 8>(alloc, None, None, case),
+        1 => lanes_agree::<W, Binomial<Fp<W>>, 6, 1>(alloc, None, None, case),
+        4 => lanes_agree::<W, Binomial<Fp<W>>, 6, 4>(alloc, None, None, case),
+        8 => lanes_agree::<W, Binomial<Fp<W>>, 6, 8>(alloc, None, None, case),
         _ => Ok(false),
     }
 }
@@ -166,9 +164,9 @@ where
     W::Modulus: BinomialConstants<8>,
 {
     match lanes {
-        1 => binomial_lanes::<W, 8, 1>(alloc, None, None, case),
-        4 => binomial_lanes::<W, 8, 4>(alloc, None, None, case),
-        8 => binomial_lanes::<W, 8, 8>(alloc, None, None, case),
+        1 => lanes_agree::<W, Binomial<Fp<W>>, 8, 1>(alloc, None, None, case),
+        4 => lanes_agree::<W, Binomial<Fp<W>>, 8, 4>(alloc, None, None, case),
+        8 => lanes_agree::<W, Binomial<Fp<W>>, 8, 8>(alloc, None, None, case),
         _ => Ok(false),
     }
 }
@@ -183,9 +181,9 @@ where
     W::Modulus: PolynomialConstants<3, Cubic>,
 {
     match lanes {
-        1 => cubic_lanes::<W, 1>(alloc, None, None, case),
-        4 => cubic_lanes::<W, 4>(alloc, None, None, case),
-        8 => cubic_lanes::<W, 8>(alloc, None, None, case),
+        1 => lanes_agree::<W, CubicTrinomial, 3, 1>(alloc, None, None, case),
+        4 => lanes_agree::<W, CubicTrinomial, 3, 4>(alloc, None, None, case),
+        8 => lanes_agree::<W, CubicTrinomial, 3, 8>(alloc, None, None, case),
         _ => Ok(false),
     }
 }
