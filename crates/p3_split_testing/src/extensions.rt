@@ -1,5 +1,6 @@
-//! The extensions, and the calls on their values and on packings of 1, 4 and 8 of them. The functions that choose the number of lanes are generic over the marker of a field: a test then
-//! passes the field's constants alone.
+//! The extensions, and the calls on their values and on packings of 1, 4 and 8 of them. The functions that
+//! choose the number of lanes are generic over the marker of a field: a test then passes the field's constants
+//! alone.
 use crate::lane_calls::Case;
 use crate::packings::{ExtensionRooms, SplitCalls};
 use crate::residues::{NilpotentM17, SplitM17, SplitM31, SplitM59};
