@@ -1,4 +1,5 @@
 //! Runs of the calculator, over sources and sinks in memory.
+ghost use Rattle.std.specs.Prelude.{◌<◌};
 
 use crate::example_runs::EXAMPLE_FILES;
 use crate::worked_runs::{EXAMPLES, FAULTS, INVERSES, LINES, Run, WITHOUT_A_FIELD};
@@ -14,7 +15,9 @@ pub(crate) fn ran(
     input: &[u8],
     reads: (usize, Option<usize>),
     room: (usize, bool),
-) -> Result<(u8, MemSink), AllocError> {
+) -> Result<(u8, MemSink), AllocError>
+    requires { 0 < reads.0 }
+{
     let mut source = MemSource::new(input.to_vec(alloc)?, reads.0, reads.1);
     let mut sink = MemSink::new(alloc, room.0, room.1)?;
     let status = engine(alloc, &mut source, &mut sink);
