@@ -15,26 +15,44 @@ use std::alloc::{AllocError, Global};
 use std::process::Abort;
 use std::test::Fail;
 
+/// A call that scales a slice.
+#[derive(Clone, Copy)]
+enum ScaleCall {
+    Single,
+    Par,
+}
+
+/// A call that adds to a slice.
+#[derive(Clone, Copy)]
+enum AddCall {
+    Scaled,
+    ParScaled,
+    Slices,
+    /// The method of the field, which goes entry by entry.
+    Entries,
+}
+
 /// A call that changes a slice.
 #[derive(Clone, Copy)]
 enum Call {
-    Scale,
-    ParScale,
-    AddScaled,
-    ParAddScaled,
-    Add,
-    /// The method of the field, which goes entry by entry.
-    AddEntries,
+    Scale(ScaleCall),
+    Add(AddCall),
 }
 
 /// The calls by their names.
 const CALLS: [(&str, Call); 6] = [
-    ("scale_slice_in_place_single_core", Call::Scale),
-    ("par_scale_slice_in_place", Call::ParScale),
-    ("add_scaled_slice_in_place", Call::AddScaled),
-    ("par_add_scaled_slice_in_place", Call::ParAddScaled),
-    ("add_slices", Call::Add),
-    ("Field::add_slices", Call::AddEntries),
+    (
+        "scale_slice_in_place_single_core",
+        Call::Scale(ScaleCall::Single),
+    ),
+    ("par_scale_slice_in_place", Call::Scale(ScaleCall::Par)),
+    ("add_scaled_slice_in_place", Call::Add(AddCall::Scaled)),
+    (
+        "par_add_scaled_slice_in_place",
+        Call::Add(AddCall::ParScaled),
+    ),
+    ("add_slices", Call::Add(AddCall::Slices)),
+    ("Field::add_slices", Call::Add(AddCall::Entries)),
 ];
 
 /// The product of the small orders, whose residue is zero modulo each of them.
@@ -55,26 +73,32 @@ const STEPS: [(u64, u64, u64); 6] = [
     (3, 0, 1),
 ];
 
-/// Changes the slice by a call.
-fn change<F: Field, P: PackedField<F>>(call: Call, slice: &mut [F], other: &[F], factor: F)
+/// Scales the slice.
+fn scale<F: Field, P: PackedField<F>>(call: ScaleCall, slice: &mut [F], factor: F) {
+    match call {
+        ScaleCall::Single => scale_slice_in_place_single_core::<F, P>(slice, factor),
+        ScaleCall::Par => par_scale_slice_in_place::<F, P>(slice, factor),
+    }
+}
+
+/// Adds to the slice.
+fn add<F: Field, P: PackedField<F>>(call: AddCall, slice: &mut [F], other: &[F], factor: F)
     requires { length slice.old ≡ length other.now }
 {
     match call {
-        Call::Scale => scale_slice_in_place_single_core::<F, P>(slice, factor),
-        Call::ParScale => par_scale_slice_in_place::<F, P>(slice, factor),
-        Call::AddScaled => add_scaled_slice_in_place::<F, P>(slice, other, factor),
-        Call::ParAddScaled => par_add_scaled_slice_in_place::<F, P>(slice, other, factor),
-        Call::Add => add_slices::<F, P>(slice, other),
-        Call::AddEntries => F::add_slices(slice, other),
+        AddCall::Scaled => add_scaled_slice_in_place::<F, P>(slice, other, factor),
+        AddCall::ParScaled => par_add_scaled_slice_in_place::<F, P>(slice, other, factor),
+        AddCall::Slices => add_slices::<F, P>(slice, other),
+        AddCall::Entries => F::add_slices(slice, other),
     }
 }
 
 /// What a call makes of a number beside one of the other slice.
 fn changed(call: Call, x: u64, y: u64, factor: u64, order: u64) -> u64 {
     match call {
-        Call::Scale | Call::ParScale => residue(x, factor, 0, order),
-        Call::AddScaled | Call::ParAddScaled => residue(y, factor, x, order),
-        Call::Add | Call::AddEntries => residue(x, 1, y, order),
+        Call::Scale(_) => residue(x, factor, 0, order),
+        Call::Add(AddCall::Scaled | AddCall::ParScaled) => residue(y, factor, x, order),
+        Call::Add(AddCall::Slices | AddCall::Entries) => residue(x, 1, y, order),
     }
 }
 
@@ -92,7 +116,10 @@ fn agrees<F: Field + Canonical, P: PackedField<F>>(
     if slice.len() != length || other.len() != slice.len() {
         return Ok(false);
     }
-    change::<F, P>(call, &mut slice, &other, F::from_u64(factor));
+    match call {
+        Call::Scale(scaling) => scale::<F, P>(scaling, &mut slice, F::from_u64(factor)),
+        Call::Add(adding) => add::<F, P>(adding, &mut slice, &other, F::from_u64(factor)),
+    }
     for i in 0..slice.len() {
         let (x, y) = (number(i, steps.0, order), number(i, steps.1, order));
         if slice[i].canonical() != changed(call, x, y, factor, order) {
