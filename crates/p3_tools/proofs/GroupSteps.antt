@@ -1,5 +1,5 @@
 -- Slices that are changed group after group of w entries, and then entry after entry.
-use Rattle.std.specs.Prelude.{◌≡◌, ◌<◌, ◌≤◌, ◌+◌, ◌-◌, ◌*◌, ◌/◌, ℕ, zero, suc, List, [], ◌∷◌, ◌++◌, length, map, take, drop, get_or, replicate, slice_range}
+use Rattle.std.specs.Prelude.{◌≡◌, ◌<◌, ◌≤◌, ◌+◌, ◌-◌, ◌*◌, ◌/◌, ℕ, suc, List, [], ◌∷◌, ◌++◌, length, map, take, drop, get_or, replicate, slice_range}
 use Rattle.std.proofs.Common.{arith, ap, ap₂, sym, refl, ◌∙◌, take-add, drop-drop, append_assoc, append-nil, subst}
 use Rattle.std.proofs.lemmas.Nat.{div-add-mod'}
 use Rattle.std.proofs.lemmas.List.{get_or-map, ext_get_or, length-drop, take_all}
@@ -8,7 +8,7 @@ use Rattle.std.proofs.Math.Nat.{suc-mul, mul-le-mul_right}
 use Rattle.std.proofs.Math.ListN.{drop_of_length-le}
 use Rattle.p3_theory.specs.Rings.Ring.{Ops}
 use Rattle.p3_theory.specs.Lanes.Lanes.{lane, KeepsLanes, at_replicate}
-use Rattle.p3_theory.specs.Lists.PairedLists.{zip_with}
+use Rattle.p3_theory.specs.Lists.PairedLists.{zip_with, length-zip, get-zip}
 use borrow.Rule.Slice.PartMut.{put_mid}
 
 module _ (w : ℕ) where
@@ -103,17 +103,6 @@ module _ {A : Type 0} where
   length-mapped f [] = refl
   length-mapped f (x ∷ xs) = ap suc (length-mapped f xs)
 
-  length-zip : (g : A → A → A) (xs ys : List A) → length xs ≡ length ys → length (zip_with g xs ys) ≡ length xs
-  length-zip g [] ys e = refl
-  length-zip g (x ∷ xs) [] e = absurd (omega (arith, e))
-  length-zip g (x ∷ xs) (y ∷ ys) e = ap suc (length-zip g xs ys (omega (arith, e)))
-
-  get-zip : (g : A → A → A) (xs ys : List A) (k : ℕ) (d : A) → length xs ≡ length ys → k < length xs → get_or (zip_with g xs ys) k d ≡ g (get_or xs k d) (get_or ys k d)
-  get-zip g [] ys k d e h = absurd (omega (arith, h))
-  get-zip g (x ∷ xs) [] k d e h = absurd (omega (arith, e))
-  get-zip g (x ∷ xs) (y ∷ ys) zero d e h = refl
-  get-zip g (x ∷ xs) (y ∷ ys) (suc k) d e h = get-zip g xs ys k d (omega (arith, e)) (omega (arith, h))
-
 module _ {P F : Type 0} (O : Ops P) (Q : Ops F) (lanes : P → List F) (w : ℕ) (lengths : (x : P) → length (lanes x) ≡ w) (keeps : KeepsLanes O Q lanes w) where
   -- the lanes of a packing times one value in all lanes
   pub scaled_lanes : (x y : P) (s : F) → lanes y ≡ replicate w s → lanes (O.mul x y) ≡ map (λ a. Q.mul a s) (lanes x)
@@ -131,7 +120,7 @@ module _ {P F : Type 0} (O : Ops P) (Q : Ops F) (lanes : P → List F) (w : ℕ)
       let alike : length (lanes x) ≡ length (lanes y) = lengths x ∙ sym (lengths y) in
       ext_get_or Q.zero (lanes (O.add x y)) (zip_with Q.add (lanes x) (lanes y)) (long ∙ sym (length-zip Q.add (lanes x) (lanes y) alike ∙ lengths x)) (λ k h.
       let below : k < w = omega (arith, h, long) in
-      (keeps k below).add x y ∙ sym (get-zip Q.add (lanes x) (lanes y) k Q.zero alike (omega (arith, below, lengths x))))
+      (keeps k below).add x y ∙ sym (get-zip Q.add (lanes x) (lanes y) k Q.zero Q.zero Q.zero alike (omega (arith, below, lengths x))))
 
   -- a part of a list combined with the lanes of a packing times a value
   pub combined_lanes : (xs : List F) (y z : P) (s : F) → lanes z ≡ replicate w s → zip_with Q.add xs (lanes (O.mul y z)) ≡ zip_with (λ a b. Q.add a (Q.mul b s)) xs (lanes y)

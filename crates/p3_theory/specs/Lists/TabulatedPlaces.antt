@@ -1,9 +1,11 @@
 -- Lists that a loop writes place by place.
-use Rattle.std.proofs.Common.{◌≡◌, ◌<◌, ◌≤◌, ◌+◌, ◌≢◌, ℕ, List, length, get_or, refl, ◌∙◌, inl, inr, arith}
+use Rattle.std.proofs.Common.{◌≡◌, ◌<◌, ◌≤◌, ◌+◌, ◌-◌, ◌++◌, ◌≢◌, ℕ, List, length, get_or, take, refl, sym, ap, ◌∙◌, inl, inr, arith}
 use Rattle.std.proofs.Math.ListN.{set}
-use Rattle.std.proofs.lemmas.List.{get_or-set_same, get_or-set_other}
+use Rattle.std.proofs.lemmas.List.{get_or-set_same, get_or-set_other, get_or-take, get_or_append_left, get_or-append_right, length-take-le}
 use Rattle.std.proofs.lemmas.Bool.{cases_lt}
+use Rattle.std.proofs.lemmas.Slice.{take-put_mid}
 use borrow.Author.Count.{below_more}
+use borrow.Rule.Slice.PartMut.{put_mid}
 use Rattle.p3_theory.specs.Polynomials.Polynomial.{tabulate}
 use Rattle.p3_theory.specs.Lists.Places.{to-tabulate}
 
@@ -21,6 +23,20 @@ module _ {A : Type 0} (s : ℕ → A) (d : A) where
       below_more (λ k. get_or (set xs i x) k d ≡ s k) i
       (λ k w. get_or-set_other xs i k x d (omega arith) ∙ h k w)
       (get_or-set_same xs i x d b ∙ e)
+
+  -- a part more
+  pub holds-part : (xs part : List A) (i m n : ℕ) → i ≤ length xs → n ≡ i + length part → HoldsBelow xs i → ((k : ℕ) → k < length part → get_or part k d ≡ s (i + k)) → HoldsBelow (put_mid i m xs part) n
+  holds-part xs part i m n inside e before each k b =
+      let front : length (take i xs) ≡ i = length-take-le i xs inside in
+      sym (get_or-take n (put_mid i m xs part) k d b) ∙ ap (λ z. get_or z k d) (take-put_mid i m xs part n e inside)
+      ∙ elim (cases_lt k i) [
+        | inl lt ↦
+            let below : k < length (take i xs) = omega (arith, front, lt) in
+            get_or_append_left (take i xs) part d k below ∙ get_or-take i xs k d lt ∙ before k lt
+        | inr ge ↦
+            let at : i + (k - i) ≡ k = omega (arith, ge) in
+            get_or-append_right (take i xs) part i k d front ge ∙ each (k - i) (omega (arith, b, e, ge)) ∙ ap s at
+      ]
 
   -- all places
   pub holds-all : (xs : List A) (n : ℕ) → length xs ≡ n → HoldsBelow xs n → xs ≡ tabulate n s
