@@ -7,6 +7,7 @@ mod power_chains;
 pub mod powers;
 pub mod ring;
 pub mod sponge;
+pub mod strands;
 pub mod sums;
 
 pub use p3_integers::{

@@ -5,11 +5,13 @@ ghost use Rattle.p3_theory.specs.Rings.Powers.{power};
 ghost use Rattle.p3_theory.specs.Polynomials.Polynomial.{quotient_mul, binomial};
 ghost use Rattle.p3_theory.specs.Rings.Multiples.{of_nat, of_int, two};
 ghost use Rattle.p3_theory.specs.Rings.DotProduct.{dot};
+ghost use Rattle.p3_theory.specs.Lists.PairedLists.{zip_with};
 ghost use Rattle.p3_ring.specs.ChunkLengths.{IsChunkLength};
 ghost use Rattle.p3_theory.specs.Rings.Operators.{Gives, GivesOne, Folds, sum_list, product_list};
 
 use crate::linear_combination::chunked_linear_combination;
 use crate::powers::Powers;
+use crate::strands::multiply_entries;
 use crate::sums::{sum_in_pairs, sum_of_products};
 use p3_integers::integers::{IntegerQuotient, Quotient};
 use std::alloc::{AllocError, Allocator, Global};
@@ -323,6 +325,23 @@ pub trait PrimeCharacteristicRing: Copy
             sum += product;
         }
         sum
+    }
+
+    /// Whether `mul_slices` goes by vectors: long lists of powers, long polynomials and long lists to invert go
+    /// by sixteen products side by side where it does. This project's own.
+    #[inline]
+    fn multiplies_by_vectors() -> bool {
+        false
+    }
+
+    /// Multiplies each entry of the first slice by that of the second at its index. The slices have one
+    /// length. This project's own.
+    #[inline]
+    fn mul_slices(slice_1: &mut [Self], slice_2: &[Self])
+        requires { length slice_1.old ≡ length slice_2.now }
+        ensures { slice_1.new ≡ zip_with ops.mul slice_1.old slice_2.now }
+    {
+        multiply_entries(slice_1, slice_2);
     }
 
     /// A vector of `len` zeros; `Err` where the memory for them is refused.
