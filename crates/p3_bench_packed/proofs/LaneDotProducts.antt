@@ -5,7 +5,7 @@ use Rattle.p3_theory.specs.Rings.Ring.{Ops, Hom, RingLaws}
 use Rattle.p3_theory.specs.Rings.DotProduct.{dot, dot-chunk}
 use Rattle.p3_theory.specs.Lanes.Rows.{Rows}
 use Rattle.p3_theory.specs.Lanes.RowRing.{item, row_ops, item_keeps, rows_apart}
-use Rattle.p3_bench_prime.specs.Columns.{column}
+use Rattle.p3_bench_packed.specs.Columns.{column}
 
 -- a map that keeps the operations takes a dot product to that of the images
 map-dot : {V A : Type 0} {P : Ops V} {O : Ops A} {h : V → A} → Hom P O h → (us vs : List V) → h (dot P us vs) ≡ dot O (map h us) (map h vs)

@@ -1,1 +1,2 @@
 mod LaneDotProducts
+mod PaddedRows

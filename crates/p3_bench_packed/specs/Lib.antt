@@ -1,3 +1,4 @@
+pub mod Columns
 pub mod PackedResidues
 pub mod Sizes
 pub mod Values

@@ -9,7 +9,7 @@ ghost use Rattle.p3_theory.specs.Lanes.RowRing.{row_ops};
 ghost use Rattle.p3_bench_packed.specs.Values.{packed_rows};
 
 use crate::packed::Packed;
-use p3_bench_prime::lane_arithmetic::LaneArithmetic;
+use crate::lane_arithmetic::LaneArithmetic;
 use p3_ring::ring::PrimeCharacteristicRing;
 use std::ops::{Add, Div, Neg, Sub};
 

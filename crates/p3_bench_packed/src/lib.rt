@@ -2,6 +2,8 @@
 #![tactic(auto)]
 
 mod dot_products;
+pub mod lane_arithmetic;
+pub mod lane_dot_products;
 mod lane_loops;
 pub mod lanes;
 pub mod left_operators;

@@ -8,7 +8,7 @@ use crate::packed::Packed;
 use crate::wide_products::WideProducts;
 use p3_bench_prime::form::{Form, Word};
 use p3_bench_prime::fp::Fp;
-use p3_bench_prime::lane_arithmetic::LaneArithmetic;
+use crate::lane_arithmetic::LaneArithmetic;
 use std::ops::{Add, AddAssign, Div, DivAssign, Mul, MulAssign, Sub, SubAssign};
 
 impl<W: Form<T>, T: Word, const N: usize> Add<Fp<W, T>> for Packed<Fp<W, T>, N> {

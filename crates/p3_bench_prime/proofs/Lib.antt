@@ -1,5 +1,5 @@
 mod ArrayItems
 mod WordBlocks
 mod WordProducts
-mod LaneValues
-mod PaddedRows
+pub mod LaneValues
+mod WrittenParts

@@ -1,4 +1,3 @@
-pub mod Columns
 pub mod ComplexNumbers
 pub mod ComplexTower
 pub mod Elements

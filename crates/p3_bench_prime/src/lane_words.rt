@@ -5,11 +5,11 @@ use crate::form::{Form, Word};
 use crate::fp::Fp;
 
 /// Up to how many values go as vectors.
-pub(crate) const MOST_LANES: usize = 64;
+pub const MOST_LANES: usize = 64;
 
 /// The words of N values, which 32 bits hold.
 #[inline(always)]
-pub(crate) fn words_of<W: Form<T>, T: Word, const N: usize>(values: &[Fp<W, T>; N]) -> [u32; N]
+pub fn words_of<W: Form<T>, T: Word, const N: usize>(values: &[Fp<W, T>; N]) -> [u32; N]
     requires { W.ORDER ≤ 2 ^ 32 }
     ensures length { length result ≡ N }
     ensures words { (d : ℕ) (x : Fp W T W.Form T.Word) (k : ℕ) → k < N → get_or result k d ≡ W.number (get_or values.now k x).word }
@@ -24,7 +24,7 @@ pub(crate) fn words_of<W: Form<T>, T: Word, const N: usize>(values: &[Fp<W, T>; 
 
 /// The values with these words.
 #[inline(always)]
-pub(crate) fn values_of<W: Form<T>, T: Word, const N: usize>(words: &[u32; N]) -> [Fp<W, T>; N]
+pub fn values_of<W: Form<T>, T: Word, const N: usize>(words: &[u32; N]) -> [Fp<W, T>; N]
     requires { (d : ℕ) (k : ℕ) → k < N → get_or words.now k d < W.ORDER }
     ensures length { length result ≡ N }
     ensures words { (d : ℕ) (x : Fp W T W.Form T.Word) (k : ℕ) → k < N → W.number (get_or result k x).word ≡ get_or words.now k d }

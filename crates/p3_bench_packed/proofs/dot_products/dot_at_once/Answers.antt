@@ -1,6 +1,6 @@
 use Rattle.std.proofs.Common.{ap₂, ap, ◌∙◌}
 use Rattle.p3_theory.specs.Rings.DotProduct.{dot}
-use Rattle.p3_bench_prime.specs.Columns.{column}
+use Rattle.p3_bench_packed.specs.Columns.{column}
 use Rattle.p3_bench_packed.specs.Values.{packed_rows}
 use Rattle.p3_bench_packed.proofs.LaneDotProducts.{dot_by_columns}
 use Rattle.p3_bench_packed.proofs.dot_products.dot_at_once.Goals as goal
