@@ -95,6 +95,18 @@ pub(crate) fn by_vectors<W: Form<T>, T: Word>() -> bool {
     W::INVERSE > 0 || W::PLAIN && W::ORDER <= SMALL_ORDERS
 }
 
+/// How many blocks of sixteen, of so many values, are multiplied by vectors.
+#[inline(always)]
+fn blocks_by_vectors<W: Form<T>, T: Word>(count: usize) -> usize
+    ensures { 16 * result ≤ count }
+{
+    if by_vectors::<W, T>() {
+        count / BLOCK
+    } else {
+        0
+    }
+}
+
 /// Multiplies each of sixteen values by that of the other slice at its index.
 #[inline(always)]
 fn multiply_block<W: Form<T>, T: Word>(left: &mut [Fp<W, T>], right: &[Fp<W, T>])
@@ -115,11 +127,7 @@ pub(crate) fn multiply_values<W: Form<T>, T: Word>(left: &mut [Fp<W, T>], right:
     requires { length left.old ≡ length right.now }
     ensures { left.new ≡ zip_with (ops W.Form).mul left.old right.now }
 {
-    let blocks = if by_vectors::<W, T>() {
-        left.len() / BLOCK
-    } else {
-        0
-    };
+    let blocks = blocks_by_vectors::<W, T>(left.len());
     for block in 0..blocks {
         let start = BLOCK * block;
         multiply_block(

@@ -1,4 +1,4 @@
-use Rattle.std.proofs.Common.{◌≡◌, ◌*◌, ℕ, length, get_or}
+use Rattle.std.proofs.Common.{◌≡◌, ◌*◌, length, get_or}
 use Rattle.p3_theory.specs.Lists.TabulatedPlaces.{UpdatedBelow}
 use Rattle.p3_bench_prime.specs.Elements.{of, ops}
 use Rattle.p3_bench_prime.proofs.lane_products.multiply_values.Given as goal

@@ -1,0 +1,69 @@
+use Rattle.std.proofs.Common.{◌≡◌, ◌+◌, ◌-◌, ◌*◌, ◌<◌, ◌≤◌, ℕ, length, get_or, take, drop, arith, rules, ap, ap₂, sym, subst, ◌∙◌}
+use Rattle.std.proofs.lemmas.List.{get_or-take, get_or-drop}
+use Rattle.p3_theory.specs.Lists.PairedLists.{zip_with, length-zip, get-zip}
+use Rattle.p3_theory.specs.Lists.Places.{read_at, to-tabulate}
+use Rattle.p3_theory.specs.Lists.TabulatedPlaces.{UpdatedBelow, updated-more}
+use Rattle.p3_theory.specs.ResidueRings.Residues.{is_of}
+use Rattle.p3_bench_prime.proofs.WrittenParts.{updated-part}
+use Rattle.p3_bench_prime.specs.Elements.{is, of, ops}
+use borrow.Rule.Slice.PartMut.{put_mid}
+use Rattle.p3_bench_prime.proofs.lane_products.multiply_values.Goals as goal
+
+pub loop-block-preserved : goal.loop-block-preserved
+loop-block-preserved g c =
+    let mul = (ops g.W.Form).mul in
+    let d = of g.W.Form {bounds = g.T.Word} 0 in
+    let first = c.args.left.now in
+    let other = c.args.right.now in
+    let products = λ (i : ℕ). mul (get_or first i d) (get_or other i d) in
+    let held = c.loop-block.invariant in
+    let b = 16 * c.loop-block.block in
+    let old = c.loop-block.left in
+    let part = c.multiply_block.new.left in
+    let onward : b + 16 ≡ 16 * (c.loop-block.block + 1) = omega arith in
+    let fits : b + 16 ≤ length old = omega (arith, c.loop-block-test.true, held.long, c.blocks_by_vectors-blocks.ensures) in
+    let sized : length part ≡ 16 = search (rules, fits) in
+    record {
+      long = search (rules, fits);
+      multiplied = subst (UpdatedBelow products d first (put_mid b (b + 16 - b) old part)) onward
+          (updated-part products d first old part b (b + 16 - b) (b + 16) (omega (arith, fits)) (omega (arith, sized)) (omega (arith, sized)) held.multiplied (λ k h.
+          let inside : k < 16 = omega (arith, h, sized) in
+          let first_inside : k < length (take (b + 16 - b) (drop b old)) = search (rules, inside, fits) in
+          let alike : length (take (b + 16 - b) (drop b old)) ≡ length (take (b + 16 - b) (drop b other)) = search (rules, fits) in
+          ap (λ l. get_or l k d) c.multiply_block.ensures
+          ∙ get-zip mul (take (b + 16 - b) (drop b old)) (take (b + 16 - b) (drop b other)) k d d d alike first_inside
+          ∙ ap₂ mul (get_or-take (b + 16 - b) (drop b old) k d (omega (arith, inside)) ∙ get_or-drop b old k d ∙ held.multiplied.1 (b + k) (omega arith))
+          (get_or-take (b + 16 - b) (drop b other) k d (omega (arith, inside)) ∙ get_or-drop b other k d)));
+    }
+
+pub loop-i-preserved : goal.loop-i-preserved
+loop-i-preserved g c =
+    let mul = (ops g.W.Form).mul in
+    let d = of g.W.Form {bounds = g.T.Word} 0 in
+    let first = c.args.left.now in
+    let other = c.args.right.now in
+    let held = c.loop-i.invariant in
+    let old = c.loop-i.left in
+    let i = c.loop-i.i in
+    let x = c.index-left-i in
+    let y = c.index-right-i in
+    let inside : i < length old = omega (arith, c.loop-i-test.true, c.loop-i.auto.left) in
+    let beside : i < length other = omega (arith, inside, held.long, c.requires) in
+    record {
+      long = search (rules, held.long);
+      multiplied = updated-more (λ j. mul (get_or first j d) (get_or other j d)) d first old i c.mul_assign.new.self inside held.multiplied
+          (is_of (is g.W.Form) c.mul_assign.new.self _ c.mul_assign.ensures.after
+          ∙ ap₂ mul (sym x.is ∙ sym (read_at old i x.result d inside x.is) ∙ held.multiplied.1 i (omega arith)) (sym (read_at other i y.result d beside y.is)));
+    }
+
+pub returns : goal.returns
+returns g c =
+    let mul = (ops g.W.Form).mul in
+    let d = of g.W.Form {bounds = g.T.Word} 0 in
+    let first = c.args.left.now in
+    let other = c.args.right.now in
+    let products = λ (j : ℕ). mul (get_or first j d) (get_or other j d) in
+    let held = c.loop-i.invariant in
+    let n = length first in
+    to-tabulate d n products c.loop-i.left held.long (λ k h. held.multiplied.0 k (omega (arith, h, c.loop-i-test.false, c.loop-block.invariant.long)))
+    ∙ sym (to-tabulate d n products (zip_with mul first other) (length-zip mul first other c.requires) (λ k h. get-zip mul first other k d d d c.requires h))
