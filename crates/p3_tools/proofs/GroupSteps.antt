@@ -1,5 +1,5 @@
 -- Slices that are changed group after group of w entries, and then entry after entry.
-use Rattle.std.specs.Prelude.{◌≡◌, ◌<◌, ◌≤◌, ◌+◌, ◌-◌, ◌*◌, ◌/◌, ℕ, suc, List, [], ◌∷◌, ◌++◌, length, map, take, drop, get_or, replicate, slice_range}
+use Rattle.std.specs.Prelude.{◌≡◌, ◌<◌, ◌≤◌, ◌+◌, ◌-◌, ◌*◌, ◌/◌, ℕ, zero, suc, List, [], ◌∷◌, ◌++◌, length, map, take, drop, replicate, slice_range}
 use Rattle.std.proofs.Common.{arith, ap, ap₂, sym, refl, ◌∙◌, take-add, drop-drop, append_assoc, append-nil, subst}
 use Rattle.std.proofs.lemmas.Nat.{div-add-mod'}
 use Rattle.std.proofs.lemmas.List.{get_or-map, ext_get_or, length-drop, take_all}
