@@ -135,5 +135,6 @@ pub use p3_tools::helpers::field_to_array;
 pub use p3_tools::helpers::par_add_scaled_slice_in_place;
 pub use p3_tools::helpers::par_scale_slice_in_place;
 pub use p3_tools::helpers::scale_slice_in_place_single_core;
+pub use p3_tools::horner::horner_slice;
 pub use p3_vectorized::vectorized::Vectorized;
 pub use p3_vectorized::vectorized_ext::VectorizedExt;

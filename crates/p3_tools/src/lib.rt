@@ -3,3 +3,4 @@
 
 pub mod coset;
 pub mod helpers;
+pub mod horner;
