@@ -5,7 +5,7 @@ ghost use Rattle.example_shares.specs.Secrets.{value_at, first_points};
 ghost use Rattle.example_shares.specs.ShareLists.{points, values};
 
 use p3_ring::ring::PrimeCharacteristicRing;
-use p3_tools::helpers::HornerIter;
+use p3_tools::horner::horner_slice;
 use std::alloc::{AllocError, Global};
 
 /// A point, and the value of a polynomial there.
@@ -19,7 +19,7 @@ pub struct Share<F> {
 fn evaluate<F: PrimeCharacteristicRing>(coefficients: &[F], point: F) -> F
     ensures { result ≡ value_at F.ops coefficients.now point }
 {
-    coefficients.iter().copied().horner(point)
+    horner_slice(coefficients, point)
 }
 
 /// The shares of the constant coefficient: the values at the points 1 to `count` of the polynomial with the
