@@ -1,3 +1,4 @@
 pub mod BatchProducts
 pub mod Chains
 pub mod Inverses
+pub mod Strands

@@ -4,3 +4,4 @@
 pub mod batch_inverse;
 mod chains;
 pub mod packed_inverse;
+mod strands;
