@@ -116,19 +116,15 @@ const OF_INVERSE_PAIR: Sequence = Sequence {
     ratio: (3, 11),
 };
 
-/// Over the residues modulo 17.
+/// Over the residues modulo 17, which multiply slices by vectors.
 pub(crate) const SCALARS: [Row; 7] = [
     ("zero_vec", Call::ZeroVec, Growths::OnceForItems),
     (
         "collect_n",
         Call::CollectN(OF_THREE),
-        Growths::TwiceFromSixteen,
+        Growths::OnceForItems,
     ),
-    (
-        "collect",
-        Call::Collect(OF_THREE),
-        Growths::TwiceFromSixteen,
-    ),
+    ("collect", Call::Collect(OF_THREE), Growths::OnceForItems),
     (
         "flatten_to_base",
         Call::FlattenToBase(OF_THREE),
