@@ -327,10 +327,10 @@ pub trait PrimeCharacteristicRing: Copy
         sum
     }
 
-    /// Whether `mul_slices` goes by vectors: long lists of powers, long polynomials and long lists to invert go
-    /// by sixteen products side by side where it does. This project's own.
+    /// Whether `mul_slices` of such values goes by vectors: long lists of powers, long polynomials and long lists
+    /// to invert go by sixteen products side by side where it does. This project's own.
     #[inline]
-    fn multiplies_by_vectors() -> bool {
+    fn multiplies_by_vectors(&self) -> bool {
         false
     }
 
