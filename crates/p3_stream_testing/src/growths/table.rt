@@ -116,15 +116,19 @@ const OF_INVERSE_PAIR: Sequence = Sequence {
     ratio: (3, 11),
 };
 
-/// Over the residues modulo 17, which multiply slices by vectors.
+/// Over the residues modulo 17.
 pub(crate) const SCALARS: [Row; 7] = [
     ("zero_vec", Call::ZeroVec, Growths::OnceForItems),
     (
         "collect_n",
         Call::CollectN(OF_THREE),
-        Growths::OnceForItems,
+        Growths::TwiceFromSixteen,
     ),
-    ("collect", Call::Collect(OF_THREE), Growths::OnceForItems),
+    (
+        "collect",
+        Call::Collect(OF_THREE),
+        Growths::TwiceFromSixteen,
+    ),
     (
         "flatten_to_base",
         Call::FlattenToBase(OF_THREE),
