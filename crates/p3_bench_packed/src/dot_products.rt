@@ -5,11 +5,11 @@ ghost use Rattle.p3_theory.specs.Rings.DotProduct.{dot};
 ghost use Rattle.p3_theory.specs.Lanes.RowRing.{item, row_ops};
 ghost use Rattle.p3_bench_packed.specs.Values.{packed_rows};
 
+use crate::lane_arithmetic::LaneArithmetic;
+use crate::lane_dot_products::LaneDotProducts;
 use crate::lane_loops::{add_lanes, mul_lanes};
 use crate::packed::Packed;
 use crate::wide_products::WideProducts;
-use crate::lane_arithmetic::LaneArithmetic;
-use crate::lane_dot_products::LaneDotProducts;
 use p3_ring::ring::PrimeCharacteristicRing;
 
 /// The values of K packings at a lane.

@@ -8,8 +8,8 @@ ghost use Rattle.p3_theory.specs.Lanes.Interleaves.{Interleaves};
 ghost use Rattle.p3_theory.specs.Lanes.RowRing.{row_ops};
 ghost use Rattle.p3_bench_packed.specs.Values.{packed_rows};
 
-use crate::packed::Packed;
 use crate::lane_arithmetic::LaneArithmetic;
+use crate::packed::Packed;
 use p3_ring::ring::PrimeCharacteristicRing;
 use std::ops::{Add, Div, Neg, Sub};
 

@@ -3,12 +3,12 @@ ghost use Rattle.std.specs.Prelude.{◌≡◌, ◌<◌, ◌+◌, ◌-◌, ◌*�
 ghost use Rattle.p3_theory.specs.Rings.Ring.{Invertible};
 ghost use Rattle.p3_bench_prime.specs.Elements.{canon, ops};
 
+use crate::lane_arithmetic::LaneArithmetic;
 use crate::lane_loops::{add_value, div_value, mul_lanes, sub_value};
 use crate::packed::Packed;
 use crate::wide_products::WideProducts;
 use p3_bench_prime::form::{Form, Word};
 use p3_bench_prime::fp::Fp;
-use crate::lane_arithmetic::LaneArithmetic;
 use std::ops::{Add, AddAssign, Div, DivAssign, Mul, MulAssign, Sub, SubAssign};
 
 impl<W: Form<T>, T: Word, const N: usize> Add<Fp<W, T>> for Packed<Fp<W, T>, N> {
