@@ -30,11 +30,12 @@ fn pair_call(run: PairLoop, left: &'static [u64], right: &'static [u64]) -> Call
     Box::new(move |k| run(left, right, k))
 }
 
-/// The rows of packings of N lanes.
+/// The rows of packings of N lanes. The lists hold whole packings.
 fn packing_cases<F: ByHand, const N: usize>(name: &str, field: u32) -> Vec<Case> {
-    let (left, right) = (units(F::ORDER, 1, LENGTH), units(F::ORDER, 2, LENGTH));
+    let length = LENGTH - LENGTH % N;
+    let (left, right) = (units(F::ORDER, 1, length), units(F::ORDER, 2, length));
     let over = move |call: SliceCall| {
-        move |k| unsafe { call(field, N as u32, left.as_ptr(), LENGTH, right.as_ptr(), LENGTH, k) }
+        move |k| unsafe { call(field, N as u32, left.as_ptr(), length, right.as_ptr(), length, k) }
     };
     let loops = F::packing_loops(N);
     let by_hand =
@@ -45,7 +46,7 @@ fn packing_cases<F: ByHand, const N: usize>(name: &str, field: u32) -> Vec<Case>
     };
     let row_at_places = |word: &str, call: SliceCall, copies: [PairLoop; PLACES]| Case {
         name: format!("{name} {word}, {N} lanes"),
-        operations: LENGTH as u64,
+        operations: length as u64,
         library: Box::new(over(call)),
         plain: places::calls(copies, move |copy, k| copy(left, right, k)),
         by_hand: None,
@@ -60,10 +61,10 @@ fn packing_cases<F: ByHand, const N: usize>(name: &str, field: u32) -> Vec<Case>
     vec![
         row_at_places("packed sums", p3_speed_lane_sums, sums).beside(by_hand(|l| l.sums)),
         row_at_places("packed differences", p3_speed_lane_differences, differences).beside(by_hand(|l| l.differences)),
-        row("packed slice products", LENGTH, p3_speed_lane_slice_products, lanes::slice_products::<F, N>)
+        row("packed slice products", length, p3_speed_lane_slice_products, lanes::slice_products::<F, N>)
             .beside(by_hand(|l| Some(l.slice_products))),
         row("packed product chain", N, p3_speed_lane_products, lanes::products::<F, N>).beside(by_hand(|l| Some(l.products))),
-        row("packed dot product", LENGTH, p3_speed_lane_dot_products, lanes::dot_products::<F, N>)
+        row("packed dot product", length, p3_speed_lane_dot_products, lanes::dot_products::<F, N>)
             .beside(by_hand(|l| Some(l.dot_products))),
     ]
 }
@@ -155,8 +156,10 @@ fn baby_bear_cases(rows: [fn(&str, u32) -> Vec<Case>; 2]) -> Vec<Case> {
 pub fn cases() -> Vec<Case> {
     let mut cases = packing_cases::<F17, 4>("f17", 0);
     cases.extend(packing_cases::<F17, 8>("f17", 0));
+    cases.extend(packing_cases::<F17, 16>("f17", 0));
     cases.extend(baby_bear_cases([packing_cases::<BabyBear, 4>, packing_cases::<BabyBearByWords, 4>]));
     cases.extend(baby_bear_cases([packing_cases::<BabyBear, 8>, packing_cases::<BabyBearByWords, 8>]));
+    cases.extend(baby_bear_cases([packing_cases::<BabyBear, 16>, packing_cases::<BabyBearByWords, 16>]));
     cases.extend(packing_cases::<Goldilocks, 4>("goldilocks", 2));
     cases.extend(packing_cases::<Goldilocks, 8>("goldilocks", 2));
     cases.extend(slice_cases::<F17, 4>("f17", 0));

@@ -17,7 +17,7 @@ compile_error!("build in bench/, for x86-64-v2 at least: the loops by hand have 
 use crate::baby_bear::{BabyBear, BabyBearByWords};
 use crate::residues::{F17, Goldilocks, Residue};
 use fields::VectorField;
-use words::{LONGEST_IN_8, Longest, Words, Words4, Words8};
+use words::{LONGEST_IN_8, Longest, Words, Words4, Words8, Words16};
 
 /// A loop over two lists: both, and the rounds.
 pub type PairLoop = fn(&[u64], &[u64], u64) -> u64;
@@ -68,6 +68,7 @@ impl PackingLoops {
         match lanes {
             4 => Some(Self::over::<F, Words4, Words4, 1>()),
             8 => Some(Self::over::<F, Words8, Longest, LONGEST_IN_8>()),
+            16 => Some(Self::over::<F, Words16, Longest, { 2 * LONGEST_IN_8 }>()),
             _ => None,
         }
     }

@@ -2,7 +2,7 @@
 use super::fields::VectorField;
 use super::{ByHand, PairLoop, packed_products};
 use super::{lists, packings};
-use super::words::{Words, Words4, Words8};
+use super::words::{Words, Words4, Words8, Words16};
 use crate::baby_bear::BabyBear;
 use crate::extensions::{BabyBearx4, Extension, F17x4};
 use crate::lane_cases::units;
@@ -84,6 +84,9 @@ fn loops_agree<F: VectorField>() {
     for [left, right] in pairs_of_lists::<F>(1000) {
         packings_agree::<F, Words4, Words4, 1, 4>(&left, &right);
         packings_agree::<F, Words8, Words4, 2, 8>(&left, &right);
+        let (left_16, right_16) = (&left[..992], &right[..992]);
+        packings_agree::<F, Words16, Words4, 4, 16>(left_16, right_16);
+        packings_agree::<F, Words16, Words8, 2, 16>(left_16, right_16);
         lists_agree::<F, Words4>(&left, &right);
         lists_agree::<F, Words8>(&left, &right);
     }

@@ -180,6 +180,9 @@ pub type Words8 = __m256i;
 #[cfg(not(target_feature = "avx2"))]
 pub type Words8 = [__m128i; 2];
 
+/// Sixteen words.
+pub type Words16 = [Words8; 2];
+
 /// The longest vector, and how many of them have eight words.
 #[cfg(target_feature = "avx2")]
 pub type Longest = Words8;

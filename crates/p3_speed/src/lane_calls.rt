@@ -1,7 +1,7 @@
 //! The calls from C of the loops over lanes. The contracts say that they are safe; their answers are
 //! compared at each run. The argument `field` is 0, 1 or 2 for F17, BabyBear and Goldilocks,
-//! `extension` is 0 or 1 for f17x4 and bbx4, and `lanes` is 4 or 8. At every other number the answer is
-//! 0, and so it is where the memory is refused.
+//! `extension` is 0 or 1 for f17x4 and bbx4, and `lanes` is 4 or 8, or 16 for packings of F17 and BabyBear.
+//! At every other number the answer is 0, and so it is where the memory is refused.
 use p3_speed_lanes::batch_loops::run_inversions;
 use p3_speed_lanes::extension_loops::{PackedChain, PackedNumbers};
 use p3_speed_lanes::lane_loops::{LaneLoop, LaneNumbers, PackingLoop};
