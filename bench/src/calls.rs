@@ -10,6 +10,7 @@ unsafe extern "C" {
     pub fn p3_speed_dot_products(field: u32, left: *const u64, left_length: usize, right: *const u64, right_length: usize, rounds: usize) -> u64;
     pub fn p3_speed_linear_combinations(field: u32, left: *const u64, left_length: usize, right: *const u64, right_length: usize, rounds: usize) -> u64;
     pub fn p3_speed_horner_chain(field: u32, numbers: *const u64, length: usize, start: u64, rounds: u64) -> u64;
+    pub fn p3_speed_horner_slice_chain(field: u32, numbers: *const u64, length: usize, start: u64, rounds: u64) -> u64;
     pub safe fn p3_speed_power_lists(field: u32, base: u64, length: usize, rounds: u64) -> u64;
     pub safe fn p3_speed_inverse_chain(field: u32, start: u64, step: u64, count: u64) -> u64;
     pub safe fn p3_speed_root_chain(field: u32, start: u64, step: u64, count: u64) -> u64;

@@ -74,13 +74,16 @@ fn sums_in_place<F: ByHand>(name: &str, i: &Inputs) -> Case {
     }
 }
 
-/// The row of Horner's rule.
-fn horner_case<F: ByHand>(name: &str, i: &Inputs) -> Case {
+/// A call of the library of Horner's rule: the type, the coefficients, the first point and the rounds.
+type HornerCall = unsafe extern "C" fn(u32, *const u64, usize, u64, u64) -> u64;
+
+/// A row of Horner's rule.
+fn horner_case<F: ByHand>(name: &str, word: &str, i: &Inputs, call: HornerCall) -> Case {
     let Inputs { field, left, .. } = *i;
     let point = black_box(3);
     let by_hand = F::list_loops().map(|loops| Box::new(move |k| (loops.horner_chain)(left, point, k)) as Call);
-    case(name, "Horner", 1000,
-        move |k| unsafe { p3_speed_horner_chain(field, left.as_ptr(), LENGTH, point, k) },
+    case(name, word, 1000,
+        move |k| unsafe { call(field, left.as_ptr(), LENGTH, point, k) },
         move |k| primes::horner_chain::<F>(left, point, k))
     .beside(by_hand)
 }
@@ -112,7 +115,8 @@ fn slice_cases<F: ByHand>(name: &str, i: Inputs) -> Vec<Case> {
             move |k| unsafe { p3_speed_linear_combinations(field, at(l), n, at(r), n, k as usize) },
             move |k| primes::linear_combinations::<F>(left, right, k as usize))
         .beside(i.by_hand::<F>(|loops| loops.dot_products)),
-        horner_case::<F>(name, &i),
+        horner_case::<F>(name, "Horner", &i, p3_speed_horner_chain),
+        horner_case::<F>(name, "Horner over a slice", &i, p3_speed_horner_slice_chain),
     ]
 }
 

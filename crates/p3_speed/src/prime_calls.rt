@@ -191,6 +191,28 @@ pub extern "C" fn p3_speed_horner_chain(
     )
 }
 
+/// The same by `horner_slice`.
+#[unsafe(no_mangle)]
+pub extern "C" fn p3_speed_horner_slice_chain(
+    field: u32,
+    alloc: Global,
+    numbers: &[u64],
+    start: u64,
+    rounds: u64,
+) -> u64
+    ensures { ⟦<PrimeFields as NumberedPrimes>⟧.rounds_answer field (SliceRounds.HornerOfSlice numbers.entry start rounds) result }
+{
+    PrimeFields::rounds(
+        field,
+        alloc,
+        SliceRounds::HornerOfSlice {
+            numbers,
+            start,
+            count: rounds,
+        },
+    )
+}
+
 /// Lists of powers of `base`, each from the last item of the list before on: the last item.
 #[unsafe(no_mangle)]
 pub extern "C" fn p3_speed_power_lists(
