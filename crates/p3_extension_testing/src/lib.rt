@@ -3,7 +3,11 @@
 #![tactic(auto)]
 
 #[cfg(test)]
+mod asserts;
+#[cfg(test)]
 mod calls;
+#[cfg(test)]
+mod complex_calls;
 #[cfg(test)]
 mod complex_values;
 #[cfg(test)]
@@ -17,7 +21,13 @@ mod extension_values;
 #[cfg(test)]
 mod extensions;
 #[cfg(test)]
+mod fields;
+#[cfg(test)]
+mod lists;
+#[cfg(test)]
 mod markers;
+#[cfg(test)]
+mod names;
 #[cfg(test)]
 mod powers;
 #[cfg(test)]
@@ -31,8 +41,10 @@ mod square_root_tables;
 #[cfg(test)]
 mod square_roots;
 #[cfg(test)]
-mod tower_values;
+mod streams;
 #[cfg(test)]
 mod trinomial_tables;
+#[cfg(test)]
+mod two_adic_calls;
 #[cfg(test)]
 mod values;

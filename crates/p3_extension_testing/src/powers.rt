@@ -1,28 +1,42 @@
 //! Powers that permute a field.
 
-use p3_bench_prime::baby_bear::BabyBear;
-use p3_bench_prime::goldilocks::Goldilocks;
-use p3_bench_prime::koala_bear::KoalaBear;
-use p3_bench_prime::small::{F17, F31};
-use p3_field::{PermutationMonomial, PrimeField64};
+use crate::values::Residue;
+use p3_bench_prime::baby_bear::BabyBearModulus;
+use p3_bench_prime::form::{OverModulus, Plain, Word};
+use p3_bench_prime::fp::Fp;
+use p3_bench_prime::goldilocks::GoldilocksForm;
+use p3_bench_prime::koala_bear::KoalaBearModulus;
+use p3_bench_prime::monomials::MonomialConstants;
+use p3_bench_prime::montgomery::Montgomery;
+use p3_bench_prime::small::{M17, M31};
+use p3_spaces::monomials::PermutationMonomial;
 
 /// The power N of a number's residue, and the number whose power N is the residue of a second one.
-fn powers_of<F: PermutationMonomial<N> + PrimeField64, const N: u64>(x: u64, y: u64) -> [u64; 2] {
+fn powers_of<F: PermutationMonomial<N> + Residue, const N: u64>(x: u64, y: u64) -> [u64; 2] {
     [
-        F::from_u64(x).injective_exp_n().as_canonical_u64(),
-        F::from_u64(y).injective_exp_root_n().as_canonical_u64(),
+        F::residue(x).injective_exp_n().canonical(),
+        F::residue(y).injective_exp_root_n().canonical(),
     ]
+}
+
+/// The same for the field of a marker: a test at a marker passes the field's constants alone.
+fn powers<W: OverModulus<T>, T: Word, const N: u64>(x: u64, y: u64) -> [u64; 2]
+where
+    W::Modulus: MonomialConstants<N>,
+{
+    powers_of::<Fp<W, T>, N>(x, y)
 }
 
 #[test]
 fn powers_that_permute_small_fields(rt: HostRuntime) {
-    assert_eq!(rt; powers_of::<F17, 3>(2, 8), [8, 2]);
-    assert_eq!(rt; powers_of::<F31, 7>(3, 17), [17, 3]);
+    assert_eq!(rt; powers::<Plain<M17>, u32, 3>(2, 8), [8, 2]);
+    assert_eq!(rt; powers::<Plain<M31>, u32, 7>(3, 17), [17, 3]);
 }
 
 #[test]
 fn powers_that_permute(rt: HostRuntime) {
-    assert_eq!(rt; powers_of::<BabyBear, 7>(3, 2187), [2187, 3]);
-    assert_eq!(rt; powers_of::<KoalaBear, 3>(5, 125), [125, 5]);
-    assert_eq!(rt; powers_of::<Goldilocks, 7>(3, 2187), [2187, 3]);
+    let baby_bear = powers::<Montgomery<BabyBearModulus>, u32, 7>(3, 2187);
+    assert_eq!(rt; baby_bear, [2187, 3]);
+    assert_eq!(rt; powers::<Plain<KoalaBearModulus>, u32, 3>(5, 125), [125, 5]);
+    assert_eq!(rt; powers::<GoldilocksForm, u64, 7>(3, 2187), [2187, 3]);
 }

@@ -1,15 +1,15 @@
 //! Counted square roots: worked examples by hand, and the values of `square_root_tables`.
-ghost use Rattle.std.specs.Prelude.{IsSome};
 ghost use Rattle.std.proofs.Common.{lit<};
 
 use crate::square_root_tables as tables;
 use crate::square_root_tables::Root;
-use p3_bench_prime::form::{Modulus, Plain};
+use crate::values::Residue;
+use p3_base::field::{Field, TwoAdicField};
+use p3_base::sqrt::{tonelli_shanks_counted, tonelli_shanks_two_adic_counted};
+use p3_bench_prime::form::{Form, Modulus, OverModulus, Plain};
 use p3_bench_prime::fp::Fp;
-use p3_bench_prime::small::{F2, F17, F17b, F31, Z15};
-use p3_field::{
-    PrimeField64, TwoAdicField, tonelli_shanks_counted, tonelli_shanks_two_adic_counted,
-};
+use p3_bench_prime::small::{M2, M15, M17, M17b, M31};
+use p3_bench_prime::two_adic::TwoAdicConstants;
 use std::process::Abort;
 
 /// The marker of the order 4, at which two times two is zero.
@@ -29,81 +29,102 @@ impl Modulus for M4 {
     const GENERATOR: u32 = 3;
 }
 
-/// The root that is answered and the turns of the search, as numbers.
-fn counted<F: PrimeField64>(x: u64) -> (Option<u64>, u32)
-    requires { IsSome F.size }
-{
-    let (root, turns) = tonelli_shanks_counted(F::from_u64(x));
-    match root {
-        Some(r) => (Some(r.as_canonical_u64()), turns.count()),
-        None => (None, turns.count()),
+/// The canonical number of an answer.
+fn number<F: Residue>(answer: Option<F>) -> Option<u64> {
+    match answer {
+        Some(root) => Some(root.canonical()),
+        None => None,
+    }
+}
+
+/// The root that is answered and the turns of the search, as numbers, where the order is given.
+fn counted<F: Field + Residue>(x: u64) -> Option<(Option<u64>, u32)> {
+    match F::order() {
+        Some(_) => {
+            let (root, turns) = tonelli_shanks_counted(F::residue(x));
+            Some((number(root), turns.count()))
+        }
+        None => None,
     }
 }
 
 /// The same of the search by the greatest two-adic generator.
-fn two_adic_counted<F: TwoAdicField + PrimeField64>(x: u64) -> (Option<u64>, u32)
-    requires { IsSome F.size }
-{
-    let (root, turns) = tonelli_shanks_two_adic_counted(F::from_u64(x));
-    match root {
-        Some(r) => (Some(r.as_canonical_u64()), turns.count()),
-        None => (None, turns.count()),
+fn two_adic_counted<F: TwoAdicField + Residue>(x: u64) -> Option<(Option<u64>, u32)> {
+    match F::order() {
+        Some(_) => {
+            let (root, turns) = tonelli_shanks_two_adic_counted(F::residue(x));
+            Some((number(root), turns.count()))
+        }
+        None => None,
     }
+}
+
+/// The root and the turns for the residues of a marker: a test at a marker passes its numbers alone.
+fn root<W: Form<u32>>(x: u64) -> Option<(Option<u64>, u32)> {
+    counted::<Fp<W>>(x)
+}
+
+/// The same of the search by the greatest two-adic generator.
+fn two_adic_root<W: OverModulus<u32>>(x: u64) -> Option<(Option<u64>, u32)>
+where
+    W::Modulus: TwoAdicConstants,
+{
+    two_adic_counted::<Fp<W>>(x)
 }
 
 /// Asserts that each row has a value, the root that is answered, if one is, and the turns.
-fn assert_roots<F: PrimeField64>(rt: &impl Abort, rows: &[Root<u64>])
-    requires { IsSome F.size }
-{
+fn assert_roots<W: Form<u32>>(rt: &impl Abort, rows: &[Root<u64>]) {
     for row in rows {
-        let (x, root, turns) = *row;
-        assert_eq!(rt; counted::<F>(x), (root, turns), "{x}");
+        let (x, answer, turns) = *row;
+        assert_eq!(rt; root::<W>(x), Some((answer, turns)), "{x}");
     }
 }
 
 /// The same of the search by the greatest two-adic generator.
-fn assert_two_adic_roots<F: TwoAdicField + PrimeField64>(rt: &impl Abort, rows: &[Root<u64>])
-    requires { IsSome F.size }
+fn assert_two_adic_roots<W: OverModulus<u32>>(rt: &impl Abort, rows: &[Root<u64>])
+where
+    W::Modulus: TwoAdicConstants,
 {
     for row in rows {
-        let (x, root, turns) = *row;
-        assert_eq!(rt; two_adic_counted::<F>(x), (root, turns), "{x}");
+        let (x, answer, turns) = *row;
+        assert_eq!(rt; two_adic_root::<W>(x), Some((answer, turns)), "{x}");
     }
 }
 
 #[test]
 fn residues_of_order_17(rt: HostRuntime) {
-    assert_eq!(rt; counted::<F17>(13), (Some(8), 3));
-    assert_eq!(rt; counted::<F17>(3), (None, 4));
-    assert_eq!(rt; counted::<F17>(0), (Some(0), 0));
-    assert_eq!(rt; counted::<F17>(2), (Some(6), 3));
-    assert_eq!(rt; counted::<F17b>(16), (Some(4), 1));
+    let rows = [
+        (13, Some(8), 3),
+        (3, None, 4),
+        (0, Some(0), 0),
+        (2, Some(6), 3),
+    ];
+    assert_roots::<Plain<M17>>(&rt, &rows);
+    assert_roots::<Plain<M17b>>(&rt, &[(16, Some(4), 1)]);
 }
 
 #[test]
 fn residues(rt: HostRuntime) {
-    assert_eq!(rt; counted::<F31>(2), (Some(8), 0));
-    assert_eq!(rt; counted::<F31>(3), (None, 1));
-    assert_eq!(rt; counted::<F2>(1), (Some(1), 0));
+    assert_roots::<Plain<M31>>(&rt, &[(2, Some(8), 0), (3, None, 1)]);
+    assert_roots::<Plain<M2>>(&rt, &[(1, Some(1), 0)]);
 }
 
 #[test]
 fn residues_of_composite_orders(rt: HostRuntime) {
-    assert_eq!(rt; counted::<Z15>(4), (None, 1));
-    assert_eq!(rt; counted::<Fp<Plain<M4>>>(2), (None, 0));
-    assert_eq!(rt; counted::<Fp<Plain<M4>>>(3), (None, 0));
+    assert_roots::<Plain<M15>>(&rt, &[(4, None, 1)]);
+    assert_roots::<Plain<M4>>(&rt, &[(2, None, 0), (3, None, 0)]);
 }
 
 #[test]
 fn residues_of_tables(rt: HostRuntime) {
-    assert_roots::<F17>(&rt, tables::F17);
-    assert_roots::<F31>(&rt, tables::F31);
-    assert_roots::<Z15>(&rt, tables::Z15);
+    assert_roots::<Plain<M17>>(&rt, tables::F17);
+    assert_roots::<Plain<M31>>(&rt, tables::F31);
+    assert_roots::<Plain<M15>>(&rt, tables::Z15);
 }
 
 #[test]
 fn two_adic_residues_of_tables(rt: HostRuntime) {
-    assert_two_adic_roots::<F17>(&rt, tables::F17_TWO_ADIC);
-    assert_two_adic_roots::<F31>(&rt, tables::F31_TWO_ADIC);
-    assert_two_adic_roots::<Z15>(&rt, tables::Z15_TWO_ADIC);
+    assert_two_adic_roots::<Plain<M17>>(&rt, tables::F17_TWO_ADIC);
+    assert_two_adic_roots::<Plain<M31>>(&rt, tables::F31_TWO_ADIC);
+    assert_two_adic_roots::<Plain<M15>>(&rt, tables::Z15_TWO_ADIC);
 }

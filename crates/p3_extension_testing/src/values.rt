@@ -1,188 +1,70 @@
-//! Extension values by their canonical coefficients, from X^0 upward, and the calls of the tables.
-ghost use Rattle.std.specs.Prelude.{ℕ, Option, IsSome};
+//! Residues by their canonical numbers, and extension values by lists of these.
 
-use p3_bench_prime::form::{Form, ShortForm, Word};
+use crate::lists::{List, MOST, ZERO, at};
+use p3_base::field::PrimeField64;
+use p3_bench_prime::form::{Form, Word};
 use p3_bench_prime::fp::Fp;
-use p3_field::extension::{
-    ExtField, ExtensionShape, FrobeniusExtendable, HasFrobenius, TwoAdicExtendable,
-};
-use p3_field::{
-    ExtensionField, Field, PrimeCharacteristicRing, PrimeField64, TwoAdicField,
-    tonelli_shanks_counted, tonelli_shanks_two_adic_counted,
-};
-use std::alloc::{AllocError, Global};
-use std::fmt::Debug;
+use p3_ext::extension::ExtField;
+use p3_ring::ring::PrimeCharacteristicRing;
 
-/// A residue's canonical value alone: `PrimeField64` has all integer maps among its bounds, which each
-/// call at a type's own name would pass.
-pub trait Canonical: Copy {
+/// A residue and its canonical number alone: `PrimeField64` has all integer maps among its bounds, which
+/// each call at a type's own name would pass.
+pub trait Residue: Copy {
+    /// The residue of a number.
+    fn residue(number: u64) -> Self;
+
+    /// The canonical number.
     fn canonical(self) -> u64;
 }
 
-impl<W: Form<T>, T: Word> Canonical for Fp<W, T> {
+impl<W: Form<T>, T: Word> Residue for Fp<W, T> {
+    fn residue(number: u64) -> Self {
+        Self::from_u64(number)
+    }
+
     fn canonical(self) -> u64 {
         self.as_canonical_u64()
     }
 }
 
-/// A type of values that are made of rows of canonical coefficients. It asks for less of the base than
-/// `Tabled`, whose bounds a call for bytes would pass.
-pub trait OfRow: Copy {
-    type Entries: Copy;
+/// Extension values that lists of coefficients tell.
+pub trait Listed: Copy {
+    /// The value with these coefficients.
+    fn of_list(list: &List) -> Self;
 
-    /// The value with these canonical coefficients.
-    fn of_row(row: Self::Entries) -> Self;
+    /// The same value, by `From`.
+    fn from_list(list: &List) -> Self;
+
+    /// The canonical numbers of the coefficients.
+    fn list(&self) -> List;
 }
 
-impl<W: ShortForm, const D: usize, S: Copy> OfRow for ExtField<Fp<W>, D, S, Fp<W>> {
-    type Entries = [u64; D];
+/// The residues of the first D numbers of a list.
+pub fn coefficients<F: Residue, const D: usize>(list: &List) -> [F; D] {
+    let mut coefficients = [F::residue(0); D];
+    for i in 0..D {
+        coefficients[i] = F::residue(at(list, i));
+    }
+    coefficients
+}
 
-    fn of_row(row: [u64; D]) -> Self {
-        let mut coefficients = [Fp::<W>::zero(); D];
+impl<F: Residue, const D: usize, S: Copy> Listed for ExtField<F, D, S, F> {
+    fn of_list(list: &List) -> Self {
+        ExtField::<F, D, S, F>::new(coefficients(list))
+    }
+
+    fn from_list(list: &List) -> Self {
+        ExtField::<F, D, S, F>::from(coefficients(list))
+    }
+
+    fn list(&self) -> List {
+        let mut list = ZERO;
         for i in 0..D {
-            coefficients[i] = Fp::<W>::from_u64(row[i]);
+            if i < MOST {
+                let coefficient = self.value[i];
+                list[i] = coefficient.canonical();
+            }
         }
-        ExtField::<Fp<W>, D, S, Fp<W>>::new(coefficients)
-    }
-}
-
-/// A type whose values stand in a table, by their canonical coefficients: just the calls that the
-/// tables have, since a bound by the whole field trait meets the step limit at each type, and room
-/// for a value is known of a type and not of a shape and a base.
-pub trait Tabled: Copy {
-    type Row: Copy + PartialEq + Debug;
-
-    /// How many values there are, where that is given.
-    ghost size: { Option ℕ };
-
-    /// The value with these canonical coefficients.
-    fn of(row: Self::Row) -> Self;
-
-    /// The canonical coefficients.
-    fn row(&self) -> Self::Row;
-
-    fn squared(&self) -> Self;
-
-    fn times(self, other: Self) -> Self;
-
-    fn inverse(&self) -> Option<Self>;
-
-    /// The inverse, or zero where there is none.
-    fn inverse_or_zero(&self) -> Self;
-
-    fn image(&self) -> Self;
-
-    fn image_after(&self, count: usize) -> Self;
-
-    fn base_value(&self) -> Option<u64>;
-
-    fn orbit(self, alloc: Global) -> Result<Vec<Self>, AllocError>;
-
-    fn text(&self, alloc: Global) -> Result<String, AllocError>;
-
-    /// The root that is answered and the turns of the search.
-    fn counted(self) -> (Option<Self>, u32)
-        requires { IsSome size };
-}
-
-/// A type with two-adic generators too.
-pub trait TwoAdicTabled: Tabled {
-    fn two_adicity() -> usize;
-
-    /// The two-adic generator for so many bits, where there is one.
-    fn generator(bits: usize) -> Option<Self>;
-
-    /// The root that the search by the greatest generator answers, and its turns.
-    fn two_adic_counted(self) -> (Option<Self>, u32)
-        requires { IsSome Self.size };
-}
-
-impl<F: FrobeniusExtendable<D, S> + Canonical, const D: usize, S: ExtensionShape> Tabled
-    for ExtField<F, D, S, F> {
-    ghost use Rattle.p3_ext.specs.Orders.{extension_size};
-
-    type Row = [u64; D];
-
-    ghost size = { extension_size F.size D };
-
-    fn of(row: [u64; D]) -> Self {
-        let mut coefficients = [F::zero(); D];
-        for i in 0..D {
-            coefficients[i] = F::from_u64(row[i]);
-        }
-        ExtField::<F, D, S, F>::new(coefficients)
-    }
-
-    fn row(&self) -> [u64; D] {
-        let mut row = [0; D];
-        for i in 0..D {
-            let c = self.value[i];
-            row[i] = c.canonical();
-        }
-        row
-    }
-
-    fn squared(&self) -> Self {
-        self.square()
-    }
-
-    fn times(self, other: Self) -> Self {
-        self * other
-    }
-
-    fn inverse(&self) -> Option<Self> {
-        self.try_inverse()
-    }
-
-    fn inverse_or_zero(&self) -> Self {
-        self.pseudo_inv()
-    }
-
-    fn image(&self) -> Self {
-        self.frobenius()
-    }
-
-    fn image_after(&self, count: usize) -> Self {
-        self.repeated_frobenius(count)
-    }
-
-    fn base_value(&self) -> Option<u64> {
-        match ExtensionField::<F>::as_base(self) {
-            Some(c) => Some(c.canonical()),
-            None => None,
-        }
-    }
-
-    fn orbit(self, alloc: Global) -> Result<Vec<Self>, AllocError> {
-        self.galois_orbit(alloc)
-    }
-
-    fn text(&self, alloc: Global) -> Result<String, AllocError> {
-        self.to_string(alloc)
-    }
-
-    fn counted(self) -> (Option<Self>, u32) {
-        let (root, turns) = tonelli_shanks_counted(self);
-        (root, turns.count())
-    }
-}
-
-impl<F: TwoAdicExtendable<D, S> + Canonical, const D: usize, S: ExtensionShape> TwoAdicTabled
-    for ExtField<F, D, S, F> {
-    fn two_adicity() -> usize {
-        <Self as TwoAdicField>::TWO_ADICITY
-    }
-
-    fn generator(bits: usize) -> Option<Self> {
-        if bits <= <Self as TwoAdicField>::TWO_ADICITY {
-            Some(<Self as TwoAdicField>::two_adic_generator(bits))
-        } else {
-            None
-        }
-    }
-
-    fn two_adic_counted(self) -> (Option<Self>, u32) {
-        let (root, turns) = tonelli_shanks_two_adic_counted(self);
-        (root, turns.count())
+        list
     }
 }
