@@ -1,18 +1,18 @@
-//! Calls on packings P of values of an extension of F, implemented once for all packings.
+//! The calls on packings of the values of an extension, and of a field itself, implemented once for all packings.
+use crate::cases::{Call, Case};
 use crate::column_calls::Rooms;
-use crate::operation_calls::extension_total_agrees;
-use crate::quotient_calls::extension_quotient_agrees;
+use crate::extension_operations::quotient_or_total_agrees;
+use crate::numbered::Numbered;
 use crate::row_calls::row_agrees;
-use crate::rows::{Row, word};
 use p3_base::field::Field;
 use p3_base::packed_traits::{Inhabited, Packable, PackedField};
 use p3_ext::extension::{ExtField, ExtensionOverAlgebra, ExtensionShape, FrobeniusExtendable};
 use p3_packed::holds_scalar::HoldsScalar;
 use p3_packed::packed_ext_field::{PackedExtField, Packing};
-use p3_ring::ring::PrimeCharacteristicRing;
+use p3_ring::ring::{Algebra, PrimeCharacteristicRing};
 use std::alloc::{AllocError, Global};
 
-/// The types that calls on packings P of values of an extension of F make values of.
+/// What calls on packings P of values of an extension of F make values of.
 pub(crate) type ExtensionRooms<F, S, P, const D: usize> = Rooms<
     F,
     ExtField<F, D, S, F>,
@@ -23,77 +23,95 @@ pub(crate) type ExtensionRooms<F, S, P, const D: usize> = Rooms<
 fn extension_row_agrees<F, S, P, const D: usize>(
     alloc: Global,
     rooms: Option<ExtensionRooms<F, S, P, D>>,
-    row: Row<'_>,
-) -> Result<Option<bool>, AllocError>
+    case: &Case,
+) -> Result<bool, AllocError>
 where
-    F: FrobeniusExtendable<D, S> + ExtensionOverAlgebra<P, D, S> + Packable,
+    F: FrobeniusExtendable<D, S> + ExtensionOverAlgebra<P, D, S> + Packable + Numbered,
     S: ExtensionShape,
-    P: PackedField<F> + HoldsScalar<F>,
+    P: PackedField<F> + HoldsScalar<F> + Numbered,
 {
-    row_agrees::<F, ExtField<F, D, S, F>, PackedExtField<F, D, S, P>>(alloc, rooms, row)
+    row_agrees::<F, ExtField<F, D, S, F>, PackedExtField<F, D, S, P>>(alloc, rooms, case)
 }
 
-/// Calls on packings of this type of the values of an extension of F: a call at a packing's own name passes
-/// the traits of the field and of the packing once.
-pub(crate) trait PackedCalls<
+/// `quotient_or_total_agrees` over packings P of values of an extension of F. Nothing is read of `_rooms`.
+fn extension_quotient_or_total_agrees<F, S, P, const D: usize>(
+    alloc: Global,
+    _rooms: Option<ExtensionRooms<F, S, P, D>>,
+    case: &Case,
+) -> Result<bool, AllocError>
+where
+    F: FrobeniusExtendable<D, S> + ExtensionOverAlgebra<P, D, S> + Packable + Numbered,
+    S: ExtensionShape,
+    P: PackedField<F> + HoldsScalar<F> + Numbered,
+{
+    quotient_or_total_agrees::<F, ExtField<F, D, S, F>, PackedExtField<F, D, S, P>>(alloc, case)
+}
+
+/// The calls over packings of this type of values of an extension of F. What the extension owes is a bound of
+/// the method: a function over a marker and any such packing passes it from the packing's algebra alone, and
+/// the call at so many lanes passes that algebra once.
+pub(crate) trait ExtensionCalls<
     F: PrimeCharacteristicRing,
     S: ExtensionShape,
     const D: usize,
->: Inhabited {
-    /// The types that calls make values of. Of an associated type it is known that its values have room.
+>: Algebra<F> {
+    /// What the calls make values of. Of an associated type it is known that its values have room.
     type Rooms: Drop;
 
-    /// `row_agrees` over packings of this type, and its quotients, sums and products. Nothing is read of
-    /// `rooms`.
-    fn agrees(
-        alloc: Global,
-        rooms: Option<Self::Rooms>,
-        row: Row<'_>,
-    ) -> Result<Option<bool>, AllocError>;
+    /// Whether a call has its answer. Nothing is read of `rooms`.
+    fn agrees(alloc: Global, rooms: Option<Self::Rooms>, case: &Case) -> Result<bool, AllocError>
+    where
+        F: FrobeniusExtendable<D, S> + ExtensionOverAlgebra<Self, D, S>;
 }
 
 impl<
-    F: FrobeniusExtendable<D, S> + ExtensionOverAlgebra<P, D, S> + Packable,
+    F: Field + Packable + Numbered,
     S: ExtensionShape,
-    P: PackedField<F> + HoldsScalar<F>,
+    P: PackedField<F> + HoldsScalar<F> + Numbered,
     const D: usize,
-> PackedCalls<F, S, D> for P {
+> ExtensionCalls<F, S, D> for P {
     type Rooms = ExtensionRooms<F, S, P, D>;
 
     fn agrees(
         alloc: Global,
         rooms: Option<ExtensionRooms<F, S, P, D>>,
-        row: Row<'_>,
-    ) -> Result<Option<bool>, AllocError> {
-        match word(row.call, 1) {
-            "div" => Ok(extension_quotient_agrees::<F, S, P, D>(rooms, row)),
-            "sum" | "product" => extension_total_agrees::<F, S, P, D>(alloc, rooms, row),
-            _ => extension_row_agrees::<F, S, P, D>(alloc, rooms, row),
+        case: &Case,
+    ) -> Result<bool, AllocError>
+    where
+        F: FrobeniusExtendable<D, S> + ExtensionOverAlgebra<P, D, S>,
+    {
+        match case.call {
+            Call::Divide | Call::DivideByValue | Call::Sum | Call::Product => {
+                extension_quotient_or_total_agrees::<F, S, P, D>(alloc, rooms, case)
+            }
+            _ => extension_row_agrees::<F, S, P, D>(alloc, rooms, case),
         }
     }
 }
 
-/// Calls on packings of this type of the values of F, which is an extension of itself.
+/// The calls over packings of this type of the values of F, which is an extension of itself.
 pub(crate) trait BaseCalls<F: PrimeCharacteristicRing>: Inhabited {
-    /// The types that calls make values of.
+    /// What the calls make values of.
     type BaseRooms: Drop;
 
-    /// `row_agrees` over packings of this type. Nothing is read of `rooms`.
+    /// Whether a call has its answer. Nothing is read of `rooms`.
     fn base_agrees(
         alloc: Global,
         rooms: Option<Self::BaseRooms>,
-        row: Row<'_>,
-    ) -> Result<Option<bool>, AllocError>;
+        case: &Case,
+    ) -> Result<bool, AllocError>;
 }
 
-impl<F: Field + Packable, P: PackedField<F> + Packing<Scalar = F>> BaseCalls<F> for P {
+impl<F: Field + Packable + Numbered, P: PackedField<F> + Packing<Scalar = F> + Numbered> BaseCalls<
+    F,
+> for P {
     type BaseRooms = Rooms<F, F, P>;
 
     fn base_agrees(
         alloc: Global,
         rooms: Option<Rooms<F, F, P>>,
-        row: Row<'_>,
-    ) -> Result<Option<bool>, AllocError> {
-        row_agrees::<F, F, P>(alloc, rooms, row)
+        case: &Case,
+    ) -> Result<bool, AllocError> {
+        row_agrees::<F, F, P>(alloc, rooms, case)
     }
 }

@@ -1,141 +1,104 @@
-//! Calls on the lanes of packed extension values, told by the rows of tables.
-ghost use Rattle.std.specs.Prelude.{◌<◌, ℕ, IsTrue};
-ghost use Rattle.p3_theory.specs.Rings.Ring.{Invertible};
-ghost use Rattle.p3_theory.specs.Lanes.Lanes.{lane};
-
-use crate::operations::has_inverse;
-use crate::rows::Row;
-use crate::texts::{counted, holds, packing, packings, value, values};
-use p3_base::field::Field;
-use p3_batch_inverse::packed_inverse::invert_packed_extension;
-use p3_packings::extension_lanes::{ExtensionLanes, PackedExtensionRing};
-use p3_spaces::basis::BasedVectorSpace;
+//! Calls on the lanes of packed values.
+use crate::cases::{Case, LaneCall};
+use crate::numbered::{Numbered, all_hold, counted, holds, value, value_at, values};
+use p3_packings::extension_lanes::ExtensionLanes;
+use p3_ring::ring::PrimeCharacteristicRing;
 use std::alloc::{AllocError, Global};
 
-/// Whether a row's call on lanes has its answer; `Ok(None)` where the row can't be read, or names no call.
+/// Whether a call on lanes has its answer.
 pub(crate) fn lanes_agree<F, EF, PE>(
     alloc: Global,
-    row: Row<'_>,
-) -> Result<Option<bool>, AllocError>
+    call: LaneCall,
+    case: &Case,
+) -> Result<bool, AllocError>
 where
-    F: Field,
-    EF: Field + BasedVectorSpace<F>,
-    PE: PackedExtensionRing<F, EF>,
+    EF: PrimeCharacteristicRing + Numbered,
+    PE: ExtensionLanes<F, EF> + Numbered,
 {
-    let first = row.argument(0);
-    let given = match row.call {
-        "extract" => return Ok(extracted::<F, EF, PE>(row)),
-        "to_ext_slice" => return written::<F, EF, PE>(alloc, row),
-        "unpack_transpose_into" => return transposed::<F, EF, PE>(alloc, row),
-        "from_ext_fn" => Some(packing::<F, EF, PE>(first)),
-        "from_ext_slice" => of_slice::<F, EF, PE>(alloc, first)?,
-        "set_ext_lane" | "add_assign_lane" => with_lane::<F, EF, PE>(row),
-        "invert_packed_extension" => inverse::<F, EF, PE>(packing::<F, EF, PE>(first)),
-        _ => None,
-    };
-    match given {
-        Some(packing) => Ok(Some(holds::<F, EF, PE>(&packing, row.answer))),
-        None => Ok(None),
+    match call {
+        LaneCall::ToSlice => written::<F, EF, PE>(alloc, case),
+        LaneCall::Transpose => transposed::<F, EF, PE>(alloc, case),
+        LaneCall::FromSlice => of_slice::<F, EF, PE>(alloc, case),
+        _ => Ok(one_lane_agrees::<F, EF, PE>(call, case)),
     }
 }
 
-/// Whether the value of a lane is the row's.
-fn extracted<F: Field, EF: Field + BasedVectorSpace<F>, PE: PackedExtensionRing<F, EF>>(
-    row: Row<'_>,
-) -> Option<bool> {
-    let x = packing::<F, EF, PE>(row.argument(0));
-    let lane = row.argument(1).parse::<usize>().ok()?;
+/// Whether a call on one lane, or one lane after the other, has its answer.
+fn one_lane_agrees<F, EF, PE>(call: LaneCall, case: &Case) -> bool
+where
+    EF: PrimeCharacteristicRing + Numbered,
+    PE: ExtensionLanes<F, EF> + Numbered,
+{
+    let mut x = value::<PE>(case.argument(0));
+    let lane = case.size(1);
     if lane >= PE::LANES {
-        return None;
+        return false;
     }
-    Some(ExtensionLanes::<F, EF>::extract(&x, lane) == value::<F, EF>(row.answer))
+    let written = value::<EF>(case.argument(2));
+    match call {
+        LaneCall::Extract => {
+            let read = ExtensionLanes::<F, EF>::extract(&x, lane);
+            return holds(&read, &case.answer);
+        }
+        LaneCall::AddToLane => ExtensionLanes::<F, EF>::add_assign_lane(&mut x, lane, written),
+        LaneCall::SetLane => x.set_ext_lane(lane, written),
+        _ => x = from_values::<F, EF, PE>(case.argument(0)),
+    }
+    holds(&x, &case.answer)
 }
 
-/// Whether the values that a packing writes to a slice are the row's.
-fn written<F: Field, EF: Field + BasedVectorSpace<F>, PE: PackedExtensionRing<F, EF>>(
-    alloc: Global,
-    row: Row<'_>,
-) -> Result<Option<bool>, AllocError> {
-    let x = packing::<F, EF, PE>(row.argument(0));
+/// The packing made of the values that a list tells.
+fn from_values<F, EF, PE>(numbers: &[u32]) -> PE
+where
+    EF: PrimeCharacteristicRing + Numbered,
+    PE: ExtensionLanes<F, EF>,
+{
+    PE::from_ext_fn(|lane: usize| -> EF { value_at::<EF>(numbers, lane) })
+}
+
+/// Whether the packing made of a slice is the answer.
+fn of_slice<F, EF, PE>(alloc: Global, case: &Case) -> Result<bool, AllocError>
+where
+    EF: PrimeCharacteristicRing + Numbered,
+    PE: ExtensionLanes<F, EF> + Numbered,
+{
+    let lanes = values::<EF>(alloc, case.argument(0))?;
+    if lanes.len() != PE::LANES {
+        return Ok(false);
+    }
+    Ok(holds(&PE::from_ext_slice(&lanes), &case.answer))
+}
+
+/// Whether the values that a packing writes to a slice are the answer.
+fn written<F, EF, PE>(alloc: Global, case: &Case) -> Result<bool, AllocError>
+where
+    EF: PrimeCharacteristicRing + Numbered,
+    PE: ExtensionLanes<F, EF> + Numbered,
+{
+    let x = value::<PE>(case.argument(0));
     let mut out = counted::<EF>(alloc, PE::LANES)?;
-    let expected = values::<F, EF>(alloc, row.answer)?;
     if out.len() != PE::LANES {
-        return Ok(None);
+        return Ok(false);
     }
     ExtensionLanes::<F, EF>::to_ext_slice(&x, &mut out);
-    Ok(Some(out.as_slice() == expected.as_slice()))
+    Ok(all_hold::<EF>(&out, &case.answer))
 }
 
-/// Whether the values of packings are the row's once they are transposed.
-fn transposed<F: Field, EF: Field + BasedVectorSpace<F>, PE: PackedExtensionRing<F, EF>>(
-    alloc: Global,
-    row: Row<'_>,
-) -> Result<Option<bool>, AllocError> {
-    let packings = packings::<F, EF, PE>(alloc, row.argument(1))?;
-    let expected = values::<F, EF>(alloc, row.answer)?;
-    let mut target = counted::<EF>(alloc, expected.len())?;
-    let Ok(width) = row.argument(0).parse::<usize>() else {
-        return Ok(None);
+/// Whether the values of packings, transposed as rows of so many, are the answer.
+fn transposed<F, EF, PE>(alloc: Global, case: &Case) -> Result<bool, AllocError>
+where
+    EF: PrimeCharacteristicRing + Numbered,
+    PE: ExtensionLanes<F, EF> + Numbered,
+{
+    let width = case.size(0);
+    let packings = values::<PE>(alloc, case.argument(1))?;
+    let Some(count) = packings.len().checked_mul(PE::LANES) else {
+        return Ok(false);
     };
-    if width == 0 || target.len() % width != 0 {
-        return Ok(None);
-    }
-    if packings.len().checked_mul(PE::LANES) != Some(target.len()) {
-        return Ok(None);
+    let mut target = counted::<EF>(alloc, count)?;
+    if target.len() != count || width == 0 || count % width != 0 {
+        return Ok(false);
     }
     PE::unpack_transpose_into(&packings, &mut target, width);
-    Ok(Some(target.as_slice() == expected.as_slice()))
-}
-
-/// The packing with the values of a text, where there are as many as lanes.
-fn of_slice<F: Field, EF: Field + BasedVectorSpace<F>, PE: PackedExtensionRing<F, EF>>(
-    alloc: Global,
-    text: &str,
-) -> Result<Option<PE>, AllocError> {
-    let values = values::<F, EF>(alloc, text)?;
-    if values.len() != PE::LANES {
-        return Ok(None);
-    }
-    Ok(Some(PE::from_ext_slice(&values)))
-}
-
-/// The packing with a value written to a lane, or added to it.
-fn with_lane<F: Field, EF: Field + BasedVectorSpace<F>, PE: PackedExtensionRing<F, EF>>(
-    row: Row<'_>,
-) -> Option<PE> {
-    let mut x = packing::<F, EF, PE>(row.argument(0));
-    let lane = row.argument(1).parse::<usize>().ok()?;
-    let value = value::<F, EF>(row.argument(2));
-    if lane >= PE::LANES {
-        return None;
-    }
-    match row.call {
-        "add_assign_lane" => ExtensionLanes::<F, EF>::add_assign_lane(&mut x, lane, value),
-        _ => x.set_ext_lane(lane, value),
-    }
-    Some(x)
-}
-
-/// Whether every lane has an inverse.
-pub(crate) fn have_inverses<F, EF: Field, PE: PackedExtensionRing<F, EF>>(packed: PE) -> bool
-    ensures { IsTrue result → (k : ℕ) → k < PE.LANES → Invertible EF.ops (lane EF.ops PE.ext_lanes k packed) }
-{
-    for lane in 0..PE::LANES {
-        let value = ExtensionLanes::<F, EF>::extract(&packed, lane);
-        if !has_inverse(value) {
-            return false;
-        }
-    }
-    true
-}
-
-/// The inverse of every lane, where each has one.
-fn inverse<F: Field, EF: Field + BasedVectorSpace<F>, PE: PackedExtensionRing<F, EF>>(
-    x: PE,
-) -> Option<PE> {
-    if have_inverses::<F, EF, PE>(x) {
-        Some(invert_packed_extension::<F, EF, PE>(x))
-    } else {
-        None
-    }
+    Ok(all_hold::<EF>(&target, &case.answer))
 }

@@ -6,6 +6,8 @@ mod call_tables;
 #[cfg(test)]
 mod calls;
 #[cfg(test)]
+mod cases;
+#[cfg(test)]
 mod column_calls;
 #[cfg(test)]
 mod columnwise_calls;
@@ -14,15 +16,17 @@ mod columnwise_tables;
 #[cfg(test)]
 mod extension_calls;
 #[cfg(test)]
+mod extension_operations;
+#[cfg(test)]
+mod inverse_calls;
+#[cfg(test)]
 mod lane_calls;
+#[cfg(test)]
+mod numbered;
 #[cfg(test)]
 mod operation_calls;
 #[cfg(test)]
 mod operation_tables;
-#[cfg(test)]
-mod operations;
-#[cfg(test)]
-mod quotient_calls;
 #[cfg(test)]
 mod row_calls;
 pub mod rows;

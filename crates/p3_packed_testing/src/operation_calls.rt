@@ -1,109 +1,98 @@
-//! Operations on packings of extension values, told by the rows of tables: the call's second word is the
-//! operation, and its third what the other side is, where that isn't such a packing.
-use crate::extension_calls::ExtensionRooms;
-use crate::operations::{
-    half, mixed_operation, mixed_sum_of_products, operation, sum_of_products, total,
-};
-use crate::rows::{Row, word};
-use crate::texts::{
-    base_packing, base_packings, coefficient, holds, packing, packings, value, values,
-};
-use p3_base::field::Field;
-use p3_base::packed_traits::{Packable, PackedField, PackedValue};
-use p3_ext::extension::{ExtField, ExtensionOverAlgebra, ExtensionShape, FrobeniusExtendable};
-use p3_packed::holds_scalar::HoldsScalar;
-use p3_packed::packed_ext_field::PackedExtField;
-use p3_packings::extension_lanes::PackedExtensionRing;
-use p3_packings::packed_field_extension::PackedFieldExtension;
-use p3_ring::ring::RingSums;
-use p3_spaces::basis::BasedVectorSpace;
-use p3_spaces::extension_field::ExtensionField;
+//! Operations on packings of extension values, with each other, with packings of the base, with extension
+//! values and with scalars.
+use crate::cases::{Case, MixedOperation, Operation, RightSide};
+use crate::numbered::{Numbered, holds, value, values};
+use p3_base::packed_traits::PackedValue;
+use p3_ring::ring::{Algebra, PrimeCharacteristicRing};
 use std::alloc::{AllocError, Global};
 
-/// Whether an operation has the row's answer; `Ok(None)` where the row can't be read, or names none.
-pub(crate) fn operations_agree<F: Field, EF: ExtensionField<F>, PE: PackedFieldExtension<F, EF>>(
-    alloc: Global,
-    row: Row<'_>,
-) -> Result<Option<bool>, AllocError> {
-    let first = row.argument(0);
-    let given = match word(row.call, 1) {
-        "dot_product" | "mixed_dot_product" => products::<F, EF, PE>(alloc, row)?,
-        "from" => operated::<F, EF, PE>(row.call, first, first),
-        _ => operated::<F, EF, PE>(row.call, first, row.argument(1)),
-    };
-    match given {
-        Some(packing) => Ok(Some(holds::<F, EF, PE>(&packing, row.answer))),
-        None => Ok(None),
+/// What an operation gives on two values, or on a value and a number.
+fn operation<R: PrimeCharacteristicRing>(operation: Operation, x: R, y: R, number: u64) -> R {
+    match operation {
+        Operation::Add => x + y,
+        Operation::Sub => x - y,
+        Operation::Mul => x * y,
+        Operation::Neg => -x,
+        Operation::Double => x.double(),
+        Operation::Square => x.square(),
+        Operation::Cube => x.cube(),
+        Operation::Exp => x.exp_u64(number),
+        Operation::Mul2Exp => x.mul_2exp_u64(number),
     }
 }
 
-/// What an operation answers on two sides, of which the right one is of what the call's third word says.
-fn operated<F: Field, EF: ExtensionField<F>, PE: PackedFieldExtension<F, EF>>(
-    call: &str,
-    left: &str,
-    right: &str,
-) -> Option<PE> {
-    let name = word(call, 1);
-    let x = packing::<F, EF, PE>(left);
-    match word(call, 2) {
-        "packing" => mixed_operation::<PE, PE::Base>(name, x, base_packing::<F, PE::Base>(right)),
-        "scalar" => {
-            let scalar = coefficient::<F>(right, 0);
-            mixed_operation::<PE, PE::Base>(name, x, PE::Base::broadcast(scalar))
-        }
-        "value" => mixed_operation::<PE, EF>(name, x, value::<F, EF>(right)),
-        _ if name == "halve" => half::<PE, EF>(x),
-        _ => operation::<PE>(name, x, packing::<F, EF, PE>(right), right),
+/// Whether an operation has its answer.
+pub(crate) fn operation_agrees<R: PrimeCharacteristicRing + Numbered>(
+    name: Operation,
+    case: &Case,
+) -> bool {
+    let x = value::<R>(case.argument(0));
+    let y = value::<R>(case.argument(1));
+    let found = operation::<R>(name, x, y, case.size(1) as u64);
+    holds(&found, &case.answer)
+}
+
+/// Whether the sum of the products of two lists is the answer.
+pub(crate) fn dot_product_agrees<R: PrimeCharacteristicRing + Numbered>(
+    alloc: Global,
+    case: &Case,
+) -> Result<bool, AllocError> {
+    let xs = values::<R>(alloc, case.argument(0))?;
+    let ys = values::<R>(alloc, case.argument(1))?;
+    Ok(xs.len() == ys.len() && holds(&R::dot_product(&xs, &ys), &case.answer))
+}
+
+/// What an operation gives on a value of an algebra and one of T, or on that of T alone.
+fn mixed_operation<A: Algebra<T>, T: PrimeCharacteristicRing>(
+    operation: MixedOperation,
+    x: A,
+    y: T,
+) -> A {
+    match operation {
+        MixedOperation::Add => x + y,
+        MixedOperation::Sub => x - y,
+        MixedOperation::Mul => x * y,
+        _ => A::from(y),
     }
 }
 
-/// The sum of the products of two lists, of which the second one is of what the call's third word says.
-fn products<F: Field, EF: ExtensionField<F>, PE: PackedFieldExtension<F, EF>>(
+/// Whether the sum of the products of values and values of T is the answer.
+fn mixed_dot_product_agrees<A: Algebra<T> + Numbered, T: PrimeCharacteristicRing + Numbered>(
     alloc: Global,
-    row: Row<'_>,
-) -> Result<Option<PE>, AllocError> {
-    let xs = packings::<F, EF, PE>(alloc, row.argument(0))?;
-    let other = row.argument(1);
-    match word(row.call, 2) {
-        "packing" => {
-            let ys = base_packings::<F, PE::Base>(alloc, other)?;
-            Ok(mixed_sum_of_products::<PE, PE::Base>(&xs, &ys))
-        }
-        "value" => {
-            let ys = values::<F, EF>(alloc, other)?;
-            Ok(mixed_sum_of_products::<PE, EF>(&xs, &ys))
+    case: &Case,
+) -> Result<bool, AllocError> {
+    let xs = values::<A>(alloc, case.argument(0))?;
+    let ys = values::<T>(alloc, case.argument(1))?;
+    Ok(xs.len() == ys.len() && holds(&A::mixed_dot_product(&xs, &ys), &case.answer))
+}
+
+/// Whether an operation on a value of an algebra and one of T has its answer. That of T is the last argument.
+pub(crate) fn mixed_operation_agrees<
+    A: Algebra<T> + Numbered,
+    T: PrimeCharacteristicRing + Numbered,
+>(alloc: Global, operation: MixedOperation, case: &Case) -> Result<bool, AllocError> {
+    let x = value::<A>(case.argument(0));
+    match operation {
+        MixedOperation::DotProduct => mixed_dot_product_agrees::<A, T>(alloc, case),
+        MixedOperation::From => {
+            let y = value::<T>(case.argument(0));
+            Ok(holds(&mixed_operation(operation, x, y), &case.answer))
         }
         _ => {
-            let ys = packings::<F, EF, PE>(alloc, other)?;
-            Ok(sum_of_products::<PE>(&xs, &ys))
+            let y = value::<T>(case.argument(1));
+            Ok(holds(&mixed_operation(operation, x, y), &case.answer))
         }
     }
 }
 
-/// Whether the sum or the product of a list of packings is the row's.
-fn total_agrees<F, EF, PE>(alloc: Global, row: Row<'_>) -> Result<Option<bool>, AllocError>
+/// Whether an operation on a value of an algebra and a scalar in all lanes of a packing has its answer.
+pub(crate) fn scalar_operation_agrees<F, A, P>(operation: MixedOperation, case: &Case) -> bool
 where
-    F: Field,
-    EF: Field + BasedVectorSpace<F>,
-    PE: PackedExtensionRing<F, EF> + RingSums,
+    F: Numbered,
+    A: Algebra<P> + Numbered,
+    P: PrimeCharacteristicRing + PackedValue<Value = F>,
 {
-    let values = packings::<F, EF, PE>(alloc, row.argument(0))?;
-    match total::<PE>(word(row.call, 1), values) {
-        Some(packing) => Ok(Some(holds::<F, EF, PE>(&packing, row.answer))),
-        None => Ok(None),
-    }
-}
-
-/// `total_agrees` over packings P of values of an extension of F. Nothing is read of `_rooms`.
-pub(crate) fn extension_total_agrees<F, S, P, const D: usize>(
-    alloc: Global,
-    _rooms: Option<ExtensionRooms<F, S, P, D>>,
-    row: Row<'_>,
-) -> Result<Option<bool>, AllocError>
-where
-    F: FrobeniusExtendable<D, S> + ExtensionOverAlgebra<P, D, S> + Packable,
-    S: ExtensionShape,
-    P: PackedField<F> + HoldsScalar<F>,
-{
-    total_agrees::<F, ExtField<F, D, S, F>, PackedExtField<F, D, S, P>>(alloc, row)
+    let x = value::<A>(case.argument(0));
+    let y = P::broadcast(value::<F>(case.argument(1)));
+    holds(&mixed_operation(operation, x, y), &case.answer)
 }

@@ -39,8 +39,3 @@ impl<'a> Row<'a> {
 pub fn word(text: &str, index: usize) -> &str {
     text.split_ascii_whitespace().nth(index).unwrap_or("")
 }
-
-/// What stands at an index between the semicolons of a text.
-pub fn part(text: &str, index: usize) -> &str {
-    text.split(';').nth(index).unwrap_or("")
-}

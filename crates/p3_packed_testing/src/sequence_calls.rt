@@ -1,69 +1,91 @@
-//! Powers of an extension value as packings, and the values of packings one after the other, told by the
-//! rows of tables.
-use crate::rows::Row;
-use crate::texts::{holds, packings, value};
+//! Powers of an extension value as packings, and the values of packings one after the other.
+use crate::cases::{Call, Case};
+use crate::numbered::{Numbered, holds_at, value, values, values_told};
 use p3_base::field::Field;
 use p3_packings::packed_field_extension::PackedFieldExtension;
+use p3_ring::powers::{BoundedPowers, Powers};
+use p3_ring::ring::PrimeCharacteristicRing;
 use p3_spaces::extension_field::ExtensionField;
 use std::alloc::{AllocError, Global};
 
-/// Whether the packings or the values that a row's call gives one after the other are the row's;
-/// `Ok(None)` where the row can't be read, or names no call.
-pub(crate) fn sequences_agree<F: Field, EF: ExtensionField<F>, PE: PackedFieldExtension<F, EF>>(
+/// Whether the packings or the values that a call gives one after the other are the answer.
+pub(crate) fn sequences_agree<F, EF, PE>(
     alloc: Global,
-    row: Row<'_>,
-) -> Result<Option<bool>, AllocError> {
-    match row.call {
-        "packed_ext_powers" => Ok(Some(are_powers::<F, EF, PE>(row))),
-        "packed_ext_powers_capped" => Ok(are_capped_powers::<F, EF, PE>(row)),
-        "to_ext_iter" => {
-            let packings = packings::<F, EF, PE>(alloc, row.argument(0))?;
-            Ok(Some(are_values::<F, EF, PE>(packings, row.answer)))
+    call: Call,
+    case: &Case,
+) -> Result<bool, AllocError>
+where
+    F: Field,
+    EF: ExtensionField<F> + Numbered,
+    PE: PackedFieldExtension<F, EF> + Numbered,
+{
+    let numbers = case.argument(0);
+    let base = value::<EF>(numbers);
+    match call {
+        Call::Powers => Ok(are_powers(PE::packed_ext_powers(base), &case.answer)),
+        Call::CappedPowers => {
+            let powers = PE::packed_ext_powers_capped(base, case.size(1));
+            Ok(are_all_powers(powers, &case.answer))
         }
-        _ => Ok(None),
+        _ => {
+            let packings = values::<PE>(alloc, numbers)?;
+            Ok(are_values::<F, EF, PE>(packings, &case.answer))
+        }
     }
 }
 
-/// Whether the first packings of powers are the row's.
-fn are_powers<F: Field, EF: ExtensionField<F>, PE: PackedFieldExtension<F, EF>>(
-    row: Row<'_>,
+/// Whether the next power is the one at an index of those that a list tells.
+fn next_holds<R: PrimeCharacteristicRing + Numbered>(
+    powers: &mut Powers<R>,
+    answer: &[u32],
+    index: usize,
 ) -> bool {
-    let mut powers = PE::packed_ext_powers(value::<F, EF>(row.argument(0)));
-    for part in row.answer.split_terminator(';') {
-        match powers.next() {
-            Some(packing) if holds::<F, EF, PE>(&packing, part) => {}
-            _ => return false,
+    match powers.next() {
+        Some(power) => holds_at(&power, answer, index),
+        None => false,
+    }
+}
+
+/// Whether the first powers are those that a list tells.
+fn are_powers<R: PrimeCharacteristicRing + Numbered>(
+    mut powers: Powers<R>,
+    answer: &[u32],
+) -> bool {
+    for index in 0..values_told::<R>(answer) {
+        if !next_holds(&mut powers, answer, index) {
+            return false;
         }
     }
     true
 }
 
-/// Whether the packings of so many powers are the row's, and no more.
-fn are_capped_powers<F: Field, EF: ExtensionField<F>, PE: PackedFieldExtension<F, EF>>(
-    row: Row<'_>,
-) -> Option<bool> {
-    let length = row.argument(1).parse::<usize>().ok()?;
-    let mut powers = PE::packed_ext_powers_capped(value::<F, EF>(row.argument(0)), length);
-    for part in row.answer.split_terminator(';') {
-        match powers.next() {
-            Some(packing) if holds::<F, EF, PE>(&packing, part) => {}
-            _ => return Some(false),
-        }
-    }
-    Some(powers.next().is_none())
-}
-
-/// Whether the values in the lanes of packings are those of a text.
-fn are_values<F: Field, EF: ExtensionField<F>, PE: PackedFieldExtension<F, EF>>(
-    packings: Vec<PE>,
-    text: &str,
+/// Whether powers are those that a list tells, and no more.
+fn are_all_powers<R: PrimeCharacteristicRing + Numbered>(
+    mut powers: BoundedPowers<R>,
+    answer: &[u32],
 ) -> bool {
-    let mut words = text.split_ascii_whitespace();
-    for found in PE::to_ext_iter(packings.into_iter()) {
-        match words.next() {
-            Some(word) if found == value::<F, EF>(word) => {}
+    for index in 0..values_told::<R>(answer) {
+        match powers.next() {
+            Some(power) if holds_at(&power, answer, index) => {}
             _ => return false,
         }
     }
-    words.next().is_none()
+    powers.next().is_none()
+}
+
+/// Whether the values in the lanes of packings are those that a list tells.
+fn are_values<F, EF, PE>(packings: Vec<PE>, answer: &[u32]) -> bool
+where
+    F: Field,
+    EF: ExtensionField<F> + Numbered,
+    PE: PackedFieldExtension<F, EF>,
+{
+    let mut index: usize = 0;
+    for found in PE::to_ext_iter(packings.into_iter()) {
+        if !holds_at(&found, answer, index) {
+            return false;
+        }
+        index = index.wrapping_add(1);
+    }
+    index == values_told::<EF>(answer)
 }

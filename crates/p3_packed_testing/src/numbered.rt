@@ -1,0 +1,180 @@
+//! Values by the numbers of their coefficients.
+use p3_base::field::PrimeField64;
+use p3_bench_packed::packed::Packed;
+use p3_bench_prime::form::Form;
+use p3_bench_prime::fp::Fp;
+use p3_ext::extension::ExtField;
+use p3_packed::packed_ext_field::PackedExtField;
+use std::alloc::{AllocError, Global};
+
+/// Values that numbers tell: of a packing those of each lane, and of these those of each coefficient.
+pub(crate) trait Numbered: Copy {
+    /// How many numbers a value has.
+    fn count() -> usize;
+
+    /// The value whose numbers are those of a list at an index, and each so many after the one before. Past
+    /// the end of the list they are zero.
+    fn read(numbers: &[u32], first: usize, step: usize) -> Self;
+
+    /// The number at an index, zero past the last one.
+    fn number(&self, index: usize) -> u64;
+}
+
+impl<W: Form<u32>> Numbered for Fp<W> {
+    fn count() -> usize {
+        1
+    }
+
+    fn read(numbers: &[u32], first: usize, _step: usize) -> Self {
+        match numbers.get(first) {
+            Some(number) => Self::new(*number),
+            None => Self::new(0),
+        }
+    }
+
+    fn number(&self, _index: usize) -> u64 {
+        self.as_canonical_u64()
+    }
+}
+
+/// The numbers of each item, one after the other.
+impl<T: Numbered, const N: usize> Numbered for [T; N] {
+    fn count() -> usize {
+        T::count().wrapping_mul(N)
+    }
+
+    fn read(numbers: &[u32], first: usize, step: usize) -> Self {
+        let width = T::count().wrapping_mul(step);
+        std::array::from_fn(|i: usize| -> T {
+            T::read(numbers, first.wrapping_add(i.wrapping_mul(width)), step)
+        })
+    }
+
+    fn number(&self, index: usize) -> u64 {
+        let count = T::count();
+        match self.get(index.checked_div(count).unwrap_or(N)) {
+            Some(item) => item.number(index.checked_rem(count).unwrap_or(0)),
+            None => 0,
+        }
+    }
+}
+
+impl<F: Numbered, const N: usize> Numbered for Packed<F, N> {
+    fn count() -> usize {
+        <[F; N]>::count()
+    }
+
+    fn read(numbers: &[u32], first: usize, step: usize) -> Self {
+        Packed::new(<[F; N]>::read(numbers, first, step))
+    }
+
+    fn number(&self, index: usize) -> u64 {
+        self.value.number(index)
+    }
+}
+
+/// The numbers of a lane are those of the coefficients there.
+impl<F: Copy, const D: usize, S: Copy, A: Numbered> Numbered for ExtField<F, D, S, A> {
+    fn count() -> usize {
+        A::count().wrapping_mul(D)
+    }
+
+    fn read(numbers: &[u32], first: usize, step: usize) -> Self {
+        let width = step.wrapping_mul(D);
+        ExtField::<F, D, S, A>::new(std::array::from_fn(|d: usize| -> A {
+            A::read(numbers, first.wrapping_add(d.wrapping_mul(step)), width)
+        }))
+    }
+
+    fn number(&self, index: usize) -> u64 {
+        match self.value.get(index.checked_rem(D).unwrap_or(D)) {
+            Some(coefficient) => coefficient.number(index.checked_div(D).unwrap_or(0)),
+            None => 0,
+        }
+    }
+}
+
+impl<F: Copy, const D: usize, S: Copy, P: Numbered> Numbered for PackedExtField<F, D, S, P> {
+    fn count() -> usize {
+        P::count().wrapping_mul(D)
+    }
+
+    fn read(numbers: &[u32], first: usize, step: usize) -> Self {
+        let value = ExtField::<F, D, S, P>::read(numbers, first, step);
+        PackedExtField::<F, D, S, P>::new(value.value)
+    }
+
+    fn number(&self, index: usize) -> u64 {
+        self.value.number(index)
+    }
+}
+
+/// The value that a list of numbers tells.
+pub(crate) fn value<T: Numbered>(numbers: &[u32]) -> T {
+    T::read(numbers, 0, 1)
+}
+
+/// The value at an index of those that a list of numbers tells, one after the other.
+pub(crate) fn value_at<T: Numbered>(numbers: &[u32], index: usize) -> T {
+    T::read(numbers, index.wrapping_mul(T::count()), 1)
+}
+
+/// How many values a list of numbers tells.
+pub(crate) fn values_told<T: Numbered>(numbers: &[u32]) -> usize {
+    numbers.len().checked_div(T::count()).unwrap_or(0)
+}
+
+/// The values that a list of numbers tells.
+pub(crate) fn values<T: Numbered>(alloc: Global, numbers: &[u32]) -> Result<Vec<T>, AllocError> {
+    let mut values = Vec::new(alloc);
+    for index in 0..values_told::<T>(numbers) {
+        values.push(value_at::<T>(numbers, index))?;
+    }
+    Ok(values)
+}
+
+/// So many values, the first number of each of which is its index modulo 2^32.
+pub(crate) fn counted<T: Numbered>(alloc: Global, count: usize) -> Result<Vec<T>, AllocError> {
+    let mut values = Vec::new(alloc);
+    let mut number: u32 = 0;
+    for _ in 0..count {
+        values.push(value::<T>(&[number]))?;
+        number = number.wrapping_add(1);
+    }
+    Ok(values)
+}
+
+/// The number at an index of a list, if any.
+fn number_at(numbers: &[u32], index: usize) -> Option<u64> {
+    match numbers.get(index) {
+        Some(number) => Some(*number as u64),
+        None => None,
+    }
+}
+
+/// Whether a value is the one at an index of those that a list tells.
+pub(crate) fn holds_at<T: Numbered>(value: &T, numbers: &[u32], index: usize) -> bool {
+    let count = T::count();
+    let first = index.wrapping_mul(count);
+    for i in 0..count {
+        if number_at(numbers, first.wrapping_add(i)) != Some(value.number(i)) {
+            return false;
+        }
+    }
+    true
+}
+
+/// Whether a value is the one that a list tells.
+pub(crate) fn holds<T: Numbered>(value: &T, numbers: &[u32]) -> bool {
+    numbers.len() == T::count() && holds_at::<T>(value, numbers, 0)
+}
+
+/// Whether values are those that a list tells.
+pub(crate) fn all_hold<T: Numbered>(values: &[T], numbers: &[u32]) -> bool {
+    for (index, value) in values.iter().enumerate() {
+        if !holds_at::<T>(value, numbers, index) {
+            return false;
+        }
+    }
+    values.len().checked_mul(T::count()) == Some(numbers.len())
+}
