@@ -8,7 +8,7 @@ use p3_bench_prime::form::{Form, Word};
 use p3_bench_prime::fp::Fp;
 use p3_bench_prime::lane_words::{MOST_LANES, values_of, words_of};
 use p3_kernels::dot_product_slices::array_dot_products;
-use p3_list_kernels::small_dot_products::array_small_dot_products;
+use p3_kernels::small_dot_products::array_small_dot_products;
 use p3_ring::ring::PrimeCharacteristicRing;
 
 /// Orders up to which sums of four products of residues have 16 bits.

@@ -1,11 +1,33 @@
 //! Arithmetic of words modulo 2^64 - 2^32 + 1, the order of Goldilocks.
-ghost use Rattle.std.specs.Prelude.{◌≡◌, ◌<◌, ◌+◌, ◌-◌, ◌*◌, ◌%◌, ◌^◌};
+ghost use Rattle.std.specs.Prelude.{◌≡◌, ◌≤◌, ◌<◌, ◌+◌, ◌-◌, ◌*◌, ◌%◌, ◌^◌};
 
 /// The order of Goldilocks, 2^64 - 2^32 + 1.
 pub const P: u64 = 18446744069414584321;
 
+/// A number less the order. Of the low words of products one in 2^32 comes here: such calls stay apart, so that the
+/// others go on without a comparison.
+#[cold]
+#[inline(never)]
+fn less_order(number: u64) -> u64
+    requires { P ≤ number }
+    ensures { result ≡ number - P }
+{
+    number - P
+}
+
+/// The difference of two numbers, of which the second is greater, and the order. One product in 2^32 comes here.
+#[cold]
+#[inline(never)]
+fn difference_with_order(number: u64, greater: u64) -> u64
+    requires greater { number < greater }
+    requires below { greater < P }
+    ensures { result ≡ number + (P - greater) }
+{
+    number + (P - greater)
+}
+
 /// The remainder modulo the order. The 128 bits are low + 2^64 * middle + 2^96 * top; modulo the
-/// order 2^64 is 2^32 - 1 and 2^96 is minus one.
+/// order 2^64 is 2^32 - 1 and 2^96 is minus one. Upstream's `reduce128`, whose two rare cases are jumps too.
 #[inline]
 pub fn reduce128(x: u128) -> u64
     ensures below { result < P }
@@ -15,11 +37,11 @@ pub fn reduce128(x: u128) -> u64
     let high = (x >> 64) as u64;
     let middle = high & 0xffff_ffff;
     let top = high >> 32;
-    let rest = if low < P { low } else { low - P };
+    let rest = if low < P { low } else { less_order(low) };
     let less = if rest >= top {
         rest - top
     } else {
-        rest + (P - top)
+        difference_with_order(rest, top)
     };
     let more = middle * 0xffff_ffff;
     let room = P - more;

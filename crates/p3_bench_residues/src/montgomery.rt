@@ -2,7 +2,7 @@
 ghost use Rattle.std.specs.Prelude.{◌≡◌, ◌<◌, ◌+◌, ◌*◌, ◌%◌, ◌^◌};
 
 use crate::remainder::remainder_of_sum;
-use crate::short_words::{reduce_once, subtract_words};
+use crate::short_words::{reduce_once, subtract_with_borrow};
 
 /// The residue that is `low + 2^32 * high` once it is multiplied by 2^32. The inverse is that of the
 /// order modulo 2^32: it gives a multiple of the order that ends in the 32 bits of `low`, so that
@@ -17,7 +17,7 @@ pub fn montgomery_reduce(low: u32, high: u32, order: u32, inverse: u32) -> u32
 {
     let factor = low.wrapping_mul(inverse);
     let multiple = (factor as u64 * order as u64 >> 32) as u32;
-    subtract_words(high, multiple, order)
+    subtract_with_borrow(high, multiple, order)
 }
 
 /// The residue that is a number below 2^32 times the order once it is multiplied by 2^32.

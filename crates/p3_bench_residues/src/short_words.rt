@@ -41,6 +41,21 @@ pub fn subtract_words(left: u32, right: u32, order: u32) -> u32
     difference.min(difference.wrapping_add(order))
 }
 
+/// The same difference by the borrow of the subtraction, which is the shortest way of a single residue; vectors,
+/// which have no borrow, go the other way.
+#[inline]
+pub(crate) fn subtract_with_borrow(left: u32, right: u32, order: u32) -> u32
+    requires fits { order < 2 ^ 31 }
+    requires left { left < order }
+    requires right { right < order }
+    ensures below { result < order }
+    ensures value { result ≡ (left + (order - right)) % order }
+{
+    let (difference, borrowed) = left.overflowing_sub(right);
+    let back = if borrowed { order } else { 0 };
+    difference.wrapping_add(back)
+}
+
 /// The negation of a residue.
 #[inline]
 pub fn negate_word(word: u32, order: u32) -> u32

@@ -2,8 +2,11 @@ pub mod HalfLanes
 pub mod LaneOperations
 pub mod LongLanes
 pub mod PairReductions
+pub mod ProductSums
 pub mod Recasts
 pub mod Reductions
 pub mod Rows
+pub mod SmallDotProducts
+pub mod SmallProducts
 pub mod StoredBlocks
 pub mod WordLanes

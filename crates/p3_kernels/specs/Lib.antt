@@ -1,2 +1,4 @@
 pub mod Pairs
+pub mod ProductSums
+pub mod Residues
 pub mod Words

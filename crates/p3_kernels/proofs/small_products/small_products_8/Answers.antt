@@ -1,0 +1,19 @@
+use Rattle.std.proofs.Common.{arith}
+use Rattle.p3_kernels.proofs.SmallProducts.{halves_short, joined_products}
+use Rattle.p3_kernels.proofs.small_products.small_products_8.Goals as goal
+
+pub short_products-products-requires : goal.short_products-products-requires
+short_products-products-requires c = (
+  omega arith,
+  (
+    (let b = c.requires.left 0 (omega arith) in omega (arith, b)),
+    halves_short 8 c.args.order c.args.left c.args.right c.halfwords_of_8-x.result c.halfwords_of_8-y.result c.requires.fits c.requires.left c.requires.right
+        c.halfwords_of_8-x.ensures.even c.halfwords_of_8-x.ensures.odd c.halfwords_of_8-y.ensures.even c.halfwords_of_8-y.ensures.odd,
+  ),
+)
+
+pub returns-clause-value : goal.returns-clause-value
+returns-clause-value c =
+    joined_products 8 c.args.order c.args.left c.args.right c.halfwords_of_8-x.result c.halfwords_of_8-y.result c.requires.fits c.requires.left c.requires.right
+    c.halfwords_of_8-x.ensures.even c.halfwords_of_8-x.ensures.odd c.halfwords_of_8-y.ensures.even c.halfwords_of_8-y.ensures.odd
+    c.short_products-products.result c.join_halfwords_8.result c.short_products-products.ensures.value c.join_halfwords_8.ensures.words

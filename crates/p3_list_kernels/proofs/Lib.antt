@@ -1,5 +1,0 @@
-pub mod PolynomialSteps
-pub mod PowerSteps
-pub mod ProductSums
-pub mod SmallDotProducts
-pub mod SmallProducts

@@ -1,4 +1,0 @@
-pub mod PolynomialValues
-pub mod Powers
-pub mod ProductSums
-pub mod Residues
