@@ -2,4 +2,3 @@ mod ArrayItems
 mod WordBlocks
 mod WordProducts
 pub mod LaneValues
-mod WrittenParts

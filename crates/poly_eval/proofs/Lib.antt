@@ -1,4 +1,3 @@
-pub mod ListSteps
 pub mod Indices
 pub mod Steps
 pub mod PartValues

@@ -1,9 +1,9 @@
 -- Lists that a loop writes place by place.
 use Rattle.std.proofs.Common.{◌≡◌, ◌<◌, ◌≤◌, ◌+◌, ◌-◌, ◌++◌, ◌≢◌, ℕ, List, length, get_or, take, refl, sym, ap, ◌∙◌, inl, inr, arith}
 use Rattle.std.proofs.Math.ListN.{set}
-use Rattle.std.proofs.lemmas.List.{get_or-set_same, get_or-set_other, get_or-take, get_or_append_left, get_or-append_right, length-take-le}
+use Rattle.std.proofs.lemmas.List.{get_or-set_same, get_or-set_other, get_or-take, get_or_append_left, get_or-append_right, get_or-drop, length-take-le}
 use Rattle.std.proofs.lemmas.Bool.{cases_lt}
-use Rattle.std.proofs.lemmas.Slice.{take-put_mid}
+use Rattle.std.proofs.lemmas.Slice.{drop-put_mid, take-put_mid}
 use borrow.Author.Count.{below_more}
 use borrow.Rule.Slice.PartMut.{put_mid}
 use Rattle.p3_theory.specs.Polynomials.Polynomial.{tabulate}
@@ -52,6 +52,19 @@ module _ {A : Type 0} (s : ℕ → A) (d : A) where
   pub updated-more : (old xs : List A) (i : ℕ) (x : A) → i < length xs → UpdatedBelow old xs i → x ≡ s i → UpdatedBelow old (set xs i x) (i + 1)
   updated-more old xs i x b h e =
       (holds-more xs i x b h.0 e, λ k w. let other : k ≢ i = omega arith in get_or-set_other xs i k x d other ∙ h.1 k (omega arith))
+
+  -- the same, a part more
+  pub updated-part : (old xs part : List A) (i m n : ℕ) → i ≤ length xs → n ≡ i + length part → length part ≡ m → UpdatedBelow old xs i
+      → ((k : ℕ) → k < length part → get_or part k d ≡ s (i + k)) → UpdatedBelow old (put_mid i m xs part) n
+  updated-part old xs part i m n inside e sized before each = (
+    holds-part xs part i m n inside e before.0 each,
+    λ k h.
+        let at : n + (k - n) ≡ k = omega (arith, h) in
+        let whole = put_mid i m xs part in
+        ap (λ j. get_or whole j d) (sym at) ∙ sym (get_or-drop n whole (k - n) d)
+        ∙ ap (λ l. get_or l (k - n) d) (drop-put_mid i m xs part n (omega (arith, e, sized)) inside sized)
+        ∙ get_or-drop n xs (k - n) d ∙ ap (λ j. get_or xs j d) at ∙ before.1 k (omega (arith, h, e)),
+  )
 
   -- where the other places hold the rest of s, all do
   pub updated-all : (old xs : List A) (n i : ℕ) → length xs ≡ n → UpdatedBelow old xs i → ((k : ℕ) → i ≤ k → get_or old k d ≡ s k) → xs ≡ tabulate n s
