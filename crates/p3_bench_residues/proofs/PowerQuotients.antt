@@ -1,6 +1,6 @@
 -- Quotients by powers of two modulo an odd number, and the powers of two in a number.
 use Rattle.std.proofs.Common.{◌≡◌, ◌<◌, ◌≤◌, ◌+◌, ◌-◌, ◌*◌, ◌/◌, ◌%◌, ◌^◌, ℕ, zero, suc, ap, ap₂, arith, ◌∙◌, sym, subst}
-use Rattle.std.specs.Int.{◌∣◌, bit_at, trailing_zeros, w64}
+use Rattle.std.specs.Int.{◌∣◌, trailing_zeros, w64}
 use Rattle.std.proofs.Math.Nat.{
   add-mul-mod_self_left,
   add-mul-mod_self_right,
@@ -12,10 +12,11 @@ use Rattle.std.proofs.Math.Nat.{
   pow-suc,
   zero-mod,
 }
-use Rattle.std.proofs.lemmas.Nat.{mul-mod_first, mul-mod_second, pow-add, shr-shr}
-use Rattle.std.proofs.lemmas.Nat.Bits.{bit_at-trailing_zeros, bit_at-suc, bit_at_lowest}
+use Rattle.std.proofs.lemmas.Nat.{mul-mod_first, mul-mod_second, pow-add}
+use Rattle.std.proofs.lemmas.Nat.Bits.{bit_at-trailing_zeros}
 use Rattle.std.proofs.lemmas.Nat.Gcd.{dvd_of_mod-eq-zero}
 use Rattle.p3_theory.specs.ResidueRings.Modular.{add-mod_first, add-mod_second}
+use Rattle.p3_theory.specs.Roots.PowersOfTwo.{low_zeros}
 
 -- what is left of a product where it is computed modulo w step by step
 pub squared : (m i w : ℕ) → (m * (i * ((m * i % w + 2) % w) % w) + 1) % w ≡ ((m * i + 1) * (m * i + 1)) % w
@@ -102,16 +103,6 @@ module _ (n : ℕ) (odd : n % 2 ≡ 1) where
     where
       regrouped : (c : ℕ) → c * 2 ^ suc k ≡ 2 * c * 2 ^ k
       regrouped c = ap (λ z. c * z) (let p : 2 ^ suc k ≡ 2 * 2 ^ k = omega (arith, pow-suc 2 k) in p) ∙ (let f : c * (2 * 2 ^ k) ≡ 2 * c * 2 ^ k = omega arith in f)
-
-low_zeros : (s n : ℕ) → ((i : ℕ) → i < s → bit_at n i ≡ 0) → n ≡ 2 ^ s * (n / 2 ^ s)
-low_zeros zero n h = omega arith
-low_zeros (suc s) n h =
-    let even : n % 2 ≡ 0 = sym (bit_at_lowest n) ∙ h 0 (omega arith) in
-    let rest = low_zeros s (n / 2) (λ i k. sym (bit_at-suc n i) ∙ h (suc i) (omega arith)) in
-    let half : n / 2 ≡ 2 ^ s * (n / 2 ^ suc s) = rest ∙ ap (λ k. 2 ^ s * k) (shr-shr n 1 s ∙ (let e : 1 + s ≡ suc s = omega arith in ap (λ k. n / 2 ^ k) e)) in
-    let twice : 2 ^ suc s ≡ 2 ^ s + 2 ^ s = omega (arith, pow-suc 2 s) in
-    let whole : 2 ^ suc s * (n / 2 ^ suc s) ≡ (2 ^ s + 2 ^ s) * (n / 2 ^ suc s) = ap (λ k. k * (n / 2 ^ suc s)) twice in
-    omega arith
 
 -- a word is the power of two with its trailing zeros, times what is left of it by the shift
 pub trailing_zeros_dropped : (n : ℕ) → 0 < n → n < 2 ^ 64 → n ≡ 2 ^ trailing_zeros w64 n * (n / 2 ^ trailing_zeros w64 n)

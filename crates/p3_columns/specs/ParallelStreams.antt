@@ -7,6 +7,7 @@ use Rattle.std.proofs.lemmas.List.Elements.{All-append}
 use Rattle.p3_theory.specs.Polynomials.Polynomial.{tabulate}
 use Rattle.p3_theory.specs.Polynomials.Coefficients.{length-tabulate}
 use Rattle.p3_theory.specs.Lists.Places.{to-tabulate}
+use Rattle.p3_theory.specs.Rings.Homomorphism.{map-tabulate}
 use Rattle.p3_spaces.specs.Streams.{column, AllOfLength, AreParallel, row_bytes, row_words, byte_stream, word_stream, little_endian, groups, group, group_count}
 use Rattle.std.proofs.lemmas.List.{drop_all, length-replicate}
 use Rattle.std.proofs.lemmas.Option.{get_or_from_slice_get}
@@ -174,16 +175,12 @@ slice_get-tabulate zero s j h = absurd (omega arith)
 slice_get-tabulate (suc n) s zero h = refl
 slice_get-tabulate (suc n) s (suc j) h = slice_get-tabulate n (λ i. s (suc i)) j (omega arith)
 
-map-entries : {A B : Type 0} (f : A → B) (n : ℕ) (s : ℕ → A) → map f (tabulate n s) ≡ tabulate n (λ i. f (s i))
-map-entries f zero s = refl
-map-entries f (suc n) s = ap (λ l. f (s 0) ∷ l) (map-entries f n (λ i. s (suc i)))
-
 -- the words that groups of m rows of bytes make are the words of the columns
 pub parallel_words : (n m count : ℕ) (stream : ℕ → List ℕ) (rows : List (List ℕ)) → AreParallel n count stream rows
     → AreParallel n (group_count m count) (λ j. word_stream m (stream j)) (map (row_words n) (groups m (replicate n 0) rows))
 parallel_words n m count stream rows p =
     let whole : map (row_words n) (groups m (replicate n 0) rows) ≡ tabulate (group_count m (length rows)) (λ i. row_words n (group m (replicate n 0) rows i)) =
-    map-entries (row_words n) (group_count m (length rows)) (group m (replicate n 0) rows) in
+    map-tabulate (row_words n) (group_count m (length rows)) (group m (replicate n 0) rows) in
     let words = λ (i : ℕ). row_words n (group m (replicate n 0) rows i) in
     record {
       counted = ap length whole ∙ length-tabulate (group_count m (length rows)) words ∙ ap (group_count m) p.counted;
@@ -193,7 +190,7 @@ parallel_words n m count stream rows p =
           ∙ column-tabulate j (group_count m (length rows)) words (λ i. little_endian (map (λ row. slice_index row j) (group m (replicate n 0) rows i))) (λ i. slice_get-tabulate n _ j h)
           ∙ ap (tabulate (group_count m (length rows))) (fun_ext (λ i. ap little_endian
           (entries-column n j h (group m (replicate n 0) rows i) (widths-group n m i 0 rows p.widths) ∙ column-group n j m i 0 h rows p.widths)))
-          ∙ sym (map-entries little_endian (group_count m (length rows)) (group m 0 (column j rows)))
+          ∙ sym (map-tabulate little_endian (group_count m (length rows)) (group m 0 (column j rows)))
           ∙ ap (λ k. map little_endian (tabulate (group_count m k) (group m 0 (column j rows)))) (sym (length-column n j h rows p.widths))
           ∙ ap (word_stream m) (p.columns j h);
     }

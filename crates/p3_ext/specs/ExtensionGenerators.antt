@@ -23,7 +23,7 @@ values_are_generators o f s c a = record {
 }
 
 -- a value's coefficient list keeps the operations
-list_keeps : {F S A : Type 0} {D : ℕ} (o : Ops A) (f : List A) → Hom (ext_ops {F = F} {D = D} {S = S} o f) (quotient_ops o D f) (λ v. v.value)
+pub list_keeps : {F S A : Type 0} {D : ℕ} (o : Ops A) (f : List A) → Hom (ext_ops {F = F} {D = D} {S = S} o f) (quotient_ops o D f) (λ v. v.value)
 list_keeps o f = record { zero = refl; one = refl; add = λ _ _. refl; neg = λ _. refl; mul = λ _ _. refl }
 
 -- generators over values, by X^E = w, from those over their coefficient lists

@@ -90,11 +90,11 @@ module _ (n : ℕ) (h : 1 < n) where
       (represented (PolynomialsModulo n D (map canon fs) g) (ext_ops {F = Unit {0}} {D = D} {S = Unit {0}} O fs) (all_coefficients canon)
       (extension_represented n O canon R D fs g) (ext_laws (ring_of (residue_laws are)) D two fs monic))
 
-abbrev all_below : ℕ → List ℕ → Bool
+abbrev pub all_below : ℕ → List ℕ → Bool
 all_below n [] = true
 all_below n (c ∷ cs) = ltb c n && all_below n cs
 
-AllBelow_of : (n : ℕ) (cs : List ℕ) → all_below n cs ≡ true → AllBelow n cs
+pub AllBelow_of : (n : ℕ) (cs : List ℕ) → all_below n cs ≡ true → AllBelow n cs
 AllBelow_of n [] h = tt
 AllBelow_of n (c ∷ cs) h = let w = and_true _ _ h in (ltb-true c n w.0, AllBelow_of n cs w.1)
 

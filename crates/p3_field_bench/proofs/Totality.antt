@@ -15,6 +15,7 @@ use Rattle.p3_field_bench.specs.Effects.{Outcome, Continues, Faults, At, Inverts
 use Rattle.p3_calculator_fields.specs.States.{State, at_field, register_at}
 use Rattle.p3_calculator_fields.specs.Fields.{FieldSpec, AllBelow, order, dimension, ops}
 use Rattle.p3_calculator_fields.specs.Names.{named_fields, field_named}
+use Rattle.p3_field_bench.proofs.FieldValues.{all_below, AllBelow_of}
 use Rattle.p3_field_bench.specs.Lines.{words}
 use Rattle.p3_field_bench.specs.Standing.{ZeroIsSquare, Sound}
 use Rattle.p3_field_bench.specs.Text.{IsTextFrom, After, fault_line}
@@ -87,14 +88,6 @@ root_or_none s x = elim (decide_lists (dimension s) (order s) (λ y. (ops s).mul
 abbrev pub SoundAfter : Outcome → Type 0
 SoundAfter (Continues st out) = Sound st.field
 SoundAfter (Faults fault) = Unit {0}
-
-abbrev all_below : ℕ → List ℕ → Bool
-all_below n [] = true
-all_below n (c ∷ cs) = ltb c n && all_below n cs
-
-AllBelow_of : (n : ℕ) (cs : List ℕ) → all_below n cs ≡ true → AllBelow n cs
-AllBelow_of n [] h = tt
-AllBelow_of n (c ∷ cs) h = let w = and_true _ _ h in (ltb-true c n w.0, AllBelow_of n cs w.1)
 
 abbrev same_entries : List ℕ → List ℕ → Bool
 same_entries [] [] = true

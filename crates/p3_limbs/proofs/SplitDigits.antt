@@ -2,6 +2,7 @@
 use Rattle.std.proofs.Common.{◌≡◌, ◌<◌, ◌≤◌, ◌+◌, ◌*◌, ◌/◌, ◌%◌, ◌^◌, ℕ, zero, suc, List, [], ◌∷◌, ◌++◌, map, add-one, arith, ap, ap₂, ◌∙◌, sym, refl}
 use Rattle.std.proofs.lemmas.Nat.{div_below, pow_pos}
 use Rattle.std.proofs.Math.Nat.{pow-zero, pow-suc, pow-succ', div-one, mod-lt, mod-eq_of_lt, mod-add-div, div-div-eq-div-mul, mul_comm}
+use mathlib.Core.List.{map-map}
 use Rattle.p3_theory.specs.Rings.Ring.{Ops, RingLaws, ring_of}
 use Rattle.p3_theory.specs.Rings.Homomorphism.{map-tabulate}
 use Rattle.p3_theory.specs.Rings.Multiples.{of_nat}
@@ -53,16 +54,12 @@ num-digits v b (suc k) z h =
     let q : v / b < b ^ k = div_below v b (b ^ k) z (omega (arith, h, pow-suc b k)) in
     ap (λ l. num l b) (digits-first v b k) ∙ ap (λ n. v % b + b * n) (num-digits (v / b) b k z q) ∙ mod-add-div v b
 
-map-after : {R A : Type 0} (f : R → ℕ) (g : ℕ → A) (xs : List R) → map (λ x. g (f x)) xs ≡ map g (map f xs)
-map-after f g [] = refl
-map-after f g (x ∷ xs) = ap (λ l. g (f x) ∷ l) (map-after f g xs)
-
 -- where n digits of r bits hold every number below the order, those of a canonical value give the value back
 pub value-of-digits : {R A : Type 0} (f : R → ℕ) {O : Ops A} (laws : RingLaws O) {canon : A → ℕ} {order : ℕ} (are : AreResidues order O canon) (xs : List R) (x : A) (n r : ℕ)
     → order ≤ 2 ^ (n * r) → map f xs ≡ digits (canon x) (2 ^ r) n → eval O O (λ y. y) (of_nat O (2 ^ r)) (map (λ y. of_nat O (f y)) xs) ≡ x
 value-of-digits f {O = O} laws {canon = canon} {order = order} are xs x n r o h =
     let e : (2 ^ r) ^ n ≡ 2 ^ (n * r) = sym (pow-mul 2 r n) ∙ ap (λ k. 2 ^ k) (mul_comm r n) in
     let l : canon x < (2 ^ r) ^ n = omega (arith, are.below x, o, e) in
-    ap (eval O O (λ y. y) (of_nat O (2 ^ r))) (map-after f (of_nat O) xs ∙ ap (map (of_nat O)) h)
+    ap (eval O O (λ y. y) (of_nat O (2 ^ r))) (sym (map-map (of_nat O) f xs) ∙ ap (map (of_nat O)) h)
     ∙ eval-digits (ring_of laws) (digits (canon x) (2 ^ r) n) (2 ^ r) ∙ ap (of_nat O) (num-digits (canon x) (2 ^ r) n (pow_pos r) l)
     ∙ sym (residue-multiple are x (canon x) (sym (mod-eq_of_lt (are.below x))))

@@ -6,6 +6,7 @@ use Rattle.std.proofs.lemmas.Bool.{cases_lt}
 use Rattle.p3_theory.specs.Rings.Ring.{Ops, Ring}
 use Rattle.p3_theory.specs.Polynomials.Polynomial.{tabulate, at, IsMonic, quotient_ops, quotient_add, quotient_mul, embed, monomial}
 use Rattle.p3_theory.specs.Rings.Powers.{power, sum_of, eval}
+use Rattle.p3_theory.specs.Lists.Places.{get-tabulate}
 use Rattle.p3_theory.specs.FrobeniusMaps.Frobenius.{iterate}
 use Rattle.p3_theory.specs.Polynomials.Sequences as Basics
 use Rattle.p3_theory.specs.Polynomials.Sequences.{add_sequences, scale, tail, zero_sequence}
@@ -20,11 +21,6 @@ use Rattle.p3_theory.specs.Polynomials.Substitution.{emb, sigma_of}
 use Rattle.p3_theory.specs.FrobeniusMaps.FrobeniusTable.{row_sum, frobenius_list, IsFrobeniusTable, TableProof, orbit_list, value_at, dot, row, unknown}
 
 -- lists by place
-pub get-tabulate : {B : Type 0} (n : ℕ) (s : ℕ → B) (k : ℕ) (z : B) → k < n → get_or (tabulate n s) k z ≡ s k
-get-tabulate zero s k z lt = absurd (omega arith)
-get-tabulate (suc n) s zero z lt = refl
-get-tabulate (suc n) s (suc k) z lt = get-tabulate n (λ i. s (suc i)) k z (omega arith)
-
 pub tabulate-place : {B : Type 0} (n : ℕ) (s t : ℕ → B) → tabulate n s ≡ tabulate n t → (k : ℕ) → k < n → s k ≡ t k
 tabulate-place n s t e k lt = sym (get-tabulate n s k (s k) lt) ∙ ap (λ l. get_or l k (s k)) e ∙ get-tabulate n t k (s k) lt
 

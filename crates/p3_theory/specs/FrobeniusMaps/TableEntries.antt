@@ -6,7 +6,7 @@ use Rattle.p3_theory.specs.Polynomials.Polynomial.{at, quotient_ops, monomial, b
 use Rattle.p3_theory.specs.Polynomials.IntegerPolynomials.{over, over-along, over_is_monic, IsMonicOfDegree}
 use Rattle.p3_theory.specs.Rings.Powers.{power}
 use Rattle.p3_theory.specs.ResidueRings.Residues.{residues, IsResidues, residue_ops, residue_laws, of_keeps}
-use Rattle.p3_theory.specs.Rings.Homomorphism.{map-power, at-map, quotient-map}
+use Rattle.p3_theory.specs.Rings.Homomorphism.{map-power, at-map, quotient-map, monomial-map}
 use Rattle.p3_theory.specs.FrobeniusMaps.Frobenius.{iterate}
 use Rattle.p3_theory.specs.FrobeniusMaps.FrobeniusTable.{TableProof, IsFrobeniusTable, orbit_list}
 use Rattle.p3_theory.specs.FrobeniusMaps.FrobeniusTransfer.{laws_along}
@@ -14,12 +14,8 @@ use Rattle.p3_theory.specs.FrobeniusMaps.Iteration.{iterate_out}
 
 -- X^D - w along a map of rings
 module _ {A B : Type 0} {O : Ops A} {P : Ops B} {h : A → B} (H : Hom O P h) where
-  monomial-along : (d : ℕ) → map h (monomial O d) ≡ monomial P d
-  monomial-along zero i = H.one i ∷ []
-  monomial-along (suc d) i = H.zero i ∷ monomial-along d i
-
   pub binomial-along : (D : ℕ) (w : A) → map h (binomial O D w) ≡ binomial P D (h w)
-  binomial-along D w i = H.neg w i ∷ monomial-along (pred D) i
+  binomial-along D w i = H.neg w i ∷ monomial-map O P h H (pred D) i
 
 orbit-entry : {B : Type 0} (s : List B → List B) (n j : ℕ) (v : List B) → j < n → get_or (orbit_list s n v) j [] ≡ iterate s j v
 orbit-entry s zero j v below = absurd (omega (arith, below))

@@ -118,7 +118,7 @@ module _ {A B : Type 0} (O : Ops A) (P : Ops B) (h : A → B) (H : Hom O P h) wh
   value-map D f phi (x ∷ c) = (quotient-map D f).add _ _
       ∙ ap₂ (quotient_add P D) (embed-map D x) ((quotient-map D f).mul phi _ ∙ ap (quotient_mul P D (map h f) (map h phi)) (value-map D f phi c))
 
-  monomial-map : (k : ℕ) → map h (monomial O k) ≡ monomial P k
+  pub monomial-map : (k : ℕ) → map h (monomial O k) ≡ monomial P k
   monomial-map zero = ap (λ x. x ∷ []) H.one
   monomial-map (suc k) = ap₂ (λ x l. x ∷ l) H.zero (monomial-map k)
 

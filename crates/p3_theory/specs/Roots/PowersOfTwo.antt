@@ -9,7 +9,8 @@ use Rattle.std.specs.Int.{bit_at, trailing_zeros, w128}
 use Rattle.p3_theory.specs.Roots.TwoAdic.{DividesOrder}
 use Rattle.p3_theory.specs.Roots.ValueLists.{IsIn, ValueList}
 
-low_zeros : (s n : ℕ) → ((i : ℕ) → i < s → bit_at n i ≡ 0) → n ≡ 2 ^ s * (n / 2 ^ s)
+-- where its lowest s bits are zero, a number is a multiple of 2^s
+pub low_zeros : (s n : ℕ) → ((i : ℕ) → i < s → bit_at n i ≡ 0) → n ≡ 2 ^ s * (n / 2 ^ s)
 low_zeros zero n h = omega arith
 low_zeros (suc s) n h =
     let even : n % 2 ≡ 0 = sym (bit_at_lowest n) ∙ h 0 (omega arith) in

@@ -1,6 +1,7 @@
 use Rattle.p3_ext.specs.Values.{ext_ops}
 use Rattle.p3_theory.specs.Lanes.VectorLanes.{vector_lane}
-use Rattle.p3_run_laws.specs.CoefficientRuns.{list_keeps, read_through}
+use Rattle.p3_ext.specs.ExtensionGenerators.{list_keeps}
+use Rattle.p3_run_laws.specs.CoefficientRuns.{read_through}
 use Rattle.p3_run_laws.proofs.laws.run_lane_steps_by_coefficients.Goals as goal
 
 pub returns : goal.returns
