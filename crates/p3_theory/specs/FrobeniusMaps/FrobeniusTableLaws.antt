@@ -6,7 +6,7 @@ use Rattle.std.proofs.lemmas.Bool.{cases_lt}
 use Rattle.p3_theory.specs.Rings.Ring.{Ops, Ring}
 use Rattle.p3_theory.specs.Polynomials.Polynomial.{tabulate, at, IsMonic, quotient_ops, quotient_add, quotient_mul, embed, monomial}
 use Rattle.p3_theory.specs.Rings.Powers.{power, sum_of, eval}
-use Rattle.p3_theory.specs.Lists.Places.{get-tabulate}
+use Rattle.p3_theory.specs.Lists.Places.{get-tabulate, tabulate-entry, tabulate-same}
 use Rattle.p3_theory.specs.FrobeniusMaps.Frobenius.{iterate}
 use Rattle.p3_theory.specs.Polynomials.Sequences as Basics
 use Rattle.p3_theory.specs.Polynomials.Sequences.{add_sequences, scale, tail, zero_sequence}
@@ -19,14 +19,6 @@ use Rattle.p3_theory.specs.Polynomials.Horner.{horner}
 use Rattle.p3_theory.specs.Polynomials.Substitution as Sg
 use Rattle.p3_theory.specs.Polynomials.Substitution.{emb, sigma_of}
 use Rattle.p3_theory.specs.FrobeniusMaps.FrobeniusTable.{row_sum, frobenius_list, IsFrobeniusTable, TableProof, orbit_list, value_at, dot, row, unknown}
-
--- lists by place
-pub tabulate-place : {B : Type 0} (n : ℕ) (s t : ℕ → B) → tabulate n s ≡ tabulate n t → (k : ℕ) → k < n → s k ≡ t k
-tabulate-place n s t e k lt = sym (get-tabulate n s k (s k) lt) ∙ ap (λ l. get_or l k (s k)) e ∙ get-tabulate n t k (s k) lt
-
-pub tabulate-same : {B : Type 0} (n : ℕ) (s t : ℕ → B) → ((k : ℕ) → k < n → s k ≡ t k) → tabulate n s ≡ tabulate n t
-tabulate-same zero s t h = refl
-tabulate-same (suc n) s t h = ap₂ (λ x l. x ∷ l) (h zero (omega arith)) (tabulate-same n (λ i. s (suc i)) (λ i. t (suc i)) (λ k lt. h (suc k) (omega (arith, lt))))
 
 pub orbit-at : {B : Type 0} (step : B → B) (p : ℕ → B) → ((j : ℕ) → step (p j) ≡ p (suc j)) → (n i : ℕ) → i < n → (z : B)
     → get_or (orbit_list step n (p zero)) i z ≡ p i
@@ -224,6 +216,6 @@ module _ {A : Type 0} (R : Ring A) (d : ℕ) (f : List A) (m : IsMonic R.ops (su
         places a la e zero = refl
         places a la e (suc k) = elim (cases_lt (suc k) D) [
           | inl lt ↦ row-fixed R D (suc k) (row dual k) (row table) a lt
-              (tabulate-place D _ _ (tabulate-place d _ _ T.apart k (omega arith))) (by-table a ∙ e)
+              (tabulate-entry D _ _ (tabulate-entry d _ _ T.apart k (omega arith))) (by-table a ∙ e)
           | inr ge ↦ Q.small R d f m a la (suc k) ge
         ]

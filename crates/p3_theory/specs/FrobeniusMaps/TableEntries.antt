@@ -2,7 +2,7 @@
 use Rattle.std.proofs.Common.{◌≡◌, ◌<◌, ◌+◌, ℕ, zero, suc, pred, List, [], ◌∷◌, map, get_or, refl, sym, ap, subst, arith, ◌∙◌}
 use Rattle.std.specs.Prelude.{ℤ}
 use Rattle.p3_theory.specs.Rings.Ring.{Ops, Hom, ring_of}
-use Rattle.p3_theory.specs.Polynomials.Polynomial.{at, quotient_ops, monomial, binomial}
+use Rattle.p3_theory.specs.Polynomials.Polynomial.{at, quotient_ops, binomial}
 use Rattle.p3_theory.specs.Polynomials.IntegerPolynomials.{over, over-along, over_is_monic, IsMonicOfDegree}
 use Rattle.p3_theory.specs.Rings.Powers.{power}
 use Rattle.p3_theory.specs.ResidueRings.Residues.{residues, IsResidues, residue_ops, residue_laws, of_keeps}

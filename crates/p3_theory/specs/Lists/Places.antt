@@ -1,6 +1,6 @@
 -- Lists of a given length, place by place.
 use Rattle.std.specs.Prelude.{◌≡◌, ◌<◌, ◌∷◌, ℕ, List, [], length, replicate, refl, get_or}
-use Rattle.std.proofs.Common.{ap, arith, ◌∙◌, sym, zero, suc}
+use Rattle.std.proofs.Common.{ap, ap₂, arith, ◌∙◌, sym, zero, suc}
 use Rattle.std.proofs.Math.ListN.{set}
 use Rattle.std.proofs.lemmas.List.{ext_get_or, get_or_default}
 use Rattle.p3_theory.specs.Rings.Ring.{Ops}
@@ -16,6 +16,14 @@ module _ {A : Type 0} where
   get-tabulate zero s k d h = absurd (omega arith)
   get-tabulate (suc D) s zero d h = refl
   get-tabulate (suc D) s (suc k) d h = get-tabulate D (λ i. s (suc i)) k d (omega arith)
+
+  -- tabulated lists are alike where their entries are
+  pub tabulate-same : (n : ℕ) (s t : ℕ → A) → ((k : ℕ) → k < n → s k ≡ t k) → P.tabulate n s ≡ P.tabulate n t
+  tabulate-same zero s t h = refl
+  tabulate-same (suc n) s t h = ap₂ (λ x l. x ∷ l) (h zero (omega arith)) (tabulate-same n (λ i. s (suc i)) (λ i. t (suc i)) (λ k lt. h (suc k) (omega (arith, lt))))
+
+  pub tabulate-entry : (n : ℕ) (s t : ℕ → A) → P.tabulate n s ≡ P.tabulate n t → (k : ℕ) → k < n → s k ≡ t k
+  tabulate-entry n s t e k lt = sym (get-tabulate n s k (s k) lt) ∙ ap (λ l. get_or l k (s k)) e ∙ get-tabulate n t k (s k) lt
 
   pub to-tabulate : (d : A) (D : ℕ) (s : ℕ → A) (r : List A) → length r ≡ D → ((k : ℕ) → k < D → get_or r k d ≡ s k) → r ≡ P.tabulate D s
   to-tabulate d D s r l h =
