@@ -4,8 +4,8 @@ ghost use Rattle.std.specs.Prelude.{◌≡◌, ℕ, ◌+◌, ◌/◌, ◌%◌, �
 ghost use Rattle.p3_kernels.specs.Words.{RowsAreBelow, dot_at, product_at, rows_of};
 ghost use Rattle.p3_kernels.specs.Residues.{AreResidues, IsResidue};
 
-use crate::halfwords::{halfwords_of_4, halfwords_of_8, join_halfwords_4, join_halfwords_8};
 use crate::dot_product_slices::{load_rows_4, load_rows_8};
+use crate::halfwords::{halfwords_of_4, halfwords_of_8, join_halfwords_4, join_halfwords_8};
 use std::simd::prelude::*;
 
 /// The halves of the four words of each of four rows.
