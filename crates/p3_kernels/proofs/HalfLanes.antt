@@ -1,5 +1,5 @@
 -- Lanes by halves: those with an even index and those with an odd one, as pairs and as numbers of 64 bits.
-use Rattle.std.proofs.Common.{get_or, ◌≡◌, ℕ, ◌+◌, ◌-◌, ◌*◌, ◌/◌, ◌%◌, ◌^◌, ◌<◌, inl, inr, List, arith, ◌∙◌, sym, subst}
+use Rattle.std.proofs.Common.{get_or, ◌≡◌, ℕ, ◌+◌, ◌-◌, ◌*◌, ◌/◌, ◌%◌, ◌^◌, ◌<◌, inl, inr, List, arith, sym, subst}
 use Rattle.std.proofs.lemmas.Bool.Decides.{leb_tells}
 use Rattle.p3_kernels.specs.Pairs.{ArePairs}
 

@@ -1,7 +1,6 @@
 -- The lanes of reductions of numbers of 64 bits, from those of each step.
 use Rattle.std.proofs.Common.{get_or, ◌≡◌, ℕ, ◌+◌, ◌-◌, ◌*◌, ◌/◌, ◌%◌, ◌^◌, ◌<◌, List, arith, ◌∙◌, ap, refl}
 use Rattle.std.proofs.lemmas.Nat.{mul-mod_first}
-use Rattle.std.proofs.Math.Nat.{mod-lt}
 use Rattle.p3_kernels.proofs.HalfLanes.{even_high, highs_below, odd_high}
 use Rattle.p3_kernels.proofs.Reductions.{end_below, end_fits, high_below, high_of_sum, number_fits, positive, reduced, sum_reduced}
 use Rattle.p3_kernels.specs.Pairs.{multiple}

@@ -1,6 +1,6 @@
 -- Montgomery's reduction of a number: with a multiple of p that ends it in zeros, where p times j is minus one
 -- modulo 2^32, and less a multiple that ends in the same bits, where p times i is one.
-use Rattle.std.proofs.Common.{◌≡◌, ◌<◌, ◌≤◌, ◌+◌, ◌-◌, ◌*◌, ◌/◌, ◌%◌, ◌^◌, ℕ, ap, arith, ◌∙◌, subst, sym, zero, suc}
+use Rattle.std.proofs.Common.{◌≡◌, ◌<◌, ◌≤◌, ◌+◌, ◌-◌, ◌*◌, ◌/◌, ◌%◌, ◌^◌, ℕ, ap, arith, ◌∙◌, sym, zero, suc}
 use Rattle.std.proofs.Math.Nat.{add-mul-mod_self_left, mod-add-div, mod-lt, mul-le-mul, mul-zero, zero-mod}
 use Rattle.std.proofs.lemmas.Nat.{mul-mod_first, mul-mod_second}
 use Rattle.p3_bench_residues.proofs.Reductions.{high_reduced, multiple_below, reduced as reduced_difference}

@@ -1,4 +1,4 @@
-use Rattle.std.proofs.Common.{arith, get_or, ◌≡◌, ◌+◌, ◌-◌, ◌%◌, ◌<◌, ◌≤◌, ◌∙◌, ap, subst, sym, w64}
+use Rattle.std.proofs.Common.{arith, get_or, ◌+◌, ◌-◌, ◌%◌, ◌<◌, ◌∙◌, ap, subst, sym, w64}
 use Rattle.std.proofs.Math.Nat.{mod-lt}
 use Rattle.std.proofs.lemmas.Simd.{below_from_Fits, get_or-replicate}
 use Rattle.p3_kernels.proofs.LaneOperations.{all_below}
