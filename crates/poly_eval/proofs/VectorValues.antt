@@ -7,7 +7,7 @@ use Rattle.p3_field.specs.Powers.{eval, power, sum_of}
 use Rattle.p3_field.specs.Homomorphism.{map-power, sum-map}
 use Rattle.p3_field.specs.Polynomial.{at}
 use Rattle.p3_field.specs.Lanes.{lane, at_replicate}
-use Rattle.p3_field.specs.Rows.{Row, rows}
+use Rattle.p3_field.specs.Rows.{rows}
 use Rattle.p3_field.specs.RowRing.{constant, item-constant}
 use Rattle.p3_field.specs.VectorLanes.{vector_lane, some-width, part-below}
 
