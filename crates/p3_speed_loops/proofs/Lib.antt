@@ -1,4 +1,3 @@
-mod ListSteps
 mod PlaceLaws
 mod RoundLaws
 mod WrittenPlaces
