@@ -3,6 +3,7 @@ use crate::cases::{Case, ToolCall};
 use crate::numbered::{Numbered, all_hold, holds, holds_at, value, values};
 use p3_base::field::Field;
 use p3_base::packed_traits::Packable;
+use p3_field::{halve_u32, halve_u64};
 use p3_ring::ring::{PrimeCharacteristicRing, RingSums};
 use p3_spaces::exponentiation::{
     exp_1420470955, exp_1717986917, exp_1725656503, exp_10540996611094048183,
@@ -100,4 +101,10 @@ fn is_array<T: Numbered>(array: [T; 4], answer: &[u64]) -> bool {
         && holds_at(&c, answer, 2)
         && holds_at(&d, answer, 3)
         && T::count().checked_mul(4) == Some(answer.len())
+}
+
+#[test]
+fn halves_modulo_17(rt: HostRuntime) {
+    assert_eq!(rt; halve_u32::<17>(5), 11);
+    assert_eq!(rt; halve_u64::<17>(5), 11);
 }
