@@ -114,10 +114,12 @@ fn has_items<F: TwoAdicField + Numbered>(
     if coset.log_size() >= 64 || coset.iter().len() != answer.len() {
         return false;
     }
-    for (i, x) in coset.iter().enumerate() {
-        if !holds_at(&x, answer, i) {
+    let mut index: usize = 0;
+    for x in coset.iter() {
+        if !holds_at(&x, answer, index) {
             return false;
         }
+        index = index.wrapping_add(1);
     }
     true
 }

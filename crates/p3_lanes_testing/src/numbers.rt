@@ -3,14 +3,15 @@ ghost use Rattle.std.specs.Prelude.{◌≡◌, ℕ, ◌<◌, Bool, true, slice_i
 
 /// The words of a list of N numbers; none where it has more or fewer, or one of more than 32 bits.
 pub(crate) fn words<const N: usize>(numbers: &[u64]) -> Option<[u32; N]> {
-    if numbers.len() != N {
-        return None;
-    }
     let mut words = [0; N];
     for i in 0..N {
-        words[i] = u32::try_from(numbers[i]).ok()?;
+        words[i] = u32::try_from(*numbers.get(i)?).ok()?;
     }
-    Some(words)
+    if numbers.len() == N {
+        Some(words)
+    } else {
+        None
+    }
 }
 
 /// Whether each number is below the order.

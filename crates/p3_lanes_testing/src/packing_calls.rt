@@ -38,9 +38,10 @@ pub(crate) struct Columns;
 /// Calls on vectors of packings.
 pub(crate) struct VectorsOfPackings;
 
-/// Whether a call on packings of any number of lanes has its answer.
+/// Whether a call on packings of any number of lanes has its answer. Nothing is read of `_rooms`.
 pub(crate) fn packings_agree<F: Field + Numbered, P: PackedField<F> + Numbered>(
     alloc: Global,
+    _rooms: Option<Rooms<F, P>>,
     case: &Case,
 ) -> Result<bool, AllocError> {
     match case.call {
@@ -51,7 +52,7 @@ pub(crate) fn packings_agree<F: Field + Numbered, P: PackedField<F> + Numbered>(
         Call::Slices(call) => slices_agree::<F, P>(alloc, call, case),
         Call::Powers(call) => powers_agree::<F, P>(alloc, call, case),
         Call::Coefficientwise => coefficients_agree::<F, P>(alloc, &[], case),
-        Call::Columnwise(scales) => counted_columnwise_agree::<F, P>(alloc, scales, case),
+        Call::Columnwise(scales) => counted_columnwise_agree::<F, P>(alloc, &[], scales, case),
         _ => Ok(false),
     }
 }
@@ -59,12 +60,12 @@ pub(crate) fn packings_agree<F: Field + Numbered, P: PackedField<F> + Numbered>(
 impl Group for Packings {
     fn agrees<F: Field + Numbered, P: PackedFieldPow2<F> + Numbered>(
         alloc: Global,
-        _rooms: Option<Rooms<F, P>>,
+        rooms: Option<Rooms<F, P>>,
         case: &Case,
     ) -> Result<bool, AllocError> {
         match case.call {
             Call::Interleave => Ok(blocks_agree::<F, P>(case)),
-            _ => packings_agree::<F, P>(alloc, case),
+            _ => packings_agree::<F, P>(alloc, rooms, case),
         }
     }
 }

@@ -51,10 +51,10 @@ fn over<G: Group, W: Form<T>, T: Word>(
 fn odd_lanes_agree<W: Form<T> + LaneCount<N>, T: Word, const N: usize>(
     alloc: Global,
     _packing: Option<Packed<Fp<W, T>, N>>,
-    _rooms: Option<Rooms<Fp<W, T>, Packed<Fp<W, T>, N>>>,
+    rooms: Option<Rooms<Fp<W, T>, Packed<Fp<W, T>, N>>>,
     case: &Case,
 ) -> Result<bool, AllocError> {
-    packings_agree::<Fp<W, T>, Packed<Fp<W, T>, N>>(alloc, case)
+    packings_agree::<Fp<W, T>, Packed<Fp<W, T>, N>>(alloc, rooms, case)
 }
 
 /// Whether a call of a group over a field has its answer.

@@ -60,9 +60,10 @@ where
     Ok(all_hold(&accumulators, &case.answer))
 }
 
-/// `columnwise_agree` at a number of scales.
+/// `columnwise_agree` at a number of scales. Nothing is read of `_scales`.
 pub(crate) fn counted_columnwise_agree<F, P>(
     alloc: Global,
+    _scales: &[[F; 4]],
     scales: usize,
     case: &Case,
 ) -> Result<bool, AllocError>
