@@ -1,13 +1,44 @@
-//! Cosets of prime fields against lines, generic over the field. A line is the call, its arguments with
-//! bars between them, and its answer; the first two arguments are the shift and the log size.
+//! Cosets of prime fields, generic over the field. The first two arguments of a call are the shift and the log
+//! size.
+use crate::cases::{Case, CosetCall};
+use crate::numbered::{Numbered, holds, holds_at, value};
+use p3_base::field::TwoAdicField;
+use p3_ring::ring::{PrimeCharacteristicRing, RingSums};
+use p3_tools::coset::TwoAdicMultiplicativeCoset;
 
-use crate::texts::{entries, lists, parts};
-use p3_field::coset::TwoAdicMultiplicativeCoset;
-use p3_field::{PrimeField64, RingSums, TwoAdicField};
-use std::process::Abort;
+/// Whether a call has its answer.
+pub(crate) fn coset_agrees<F: TwoAdicField + RingSums + Numbered>(
+    call: CosetCall,
+    case: &Case,
+) -> bool {
+    let shift = value::<F>(case.argument(0));
+    match TwoAdicMultiplicativeCoset::<F>::new(shift, case.size(1)) {
+        Some(coset) => given_coset_agrees::<F>(coset, call, case),
+        None => matches!(call, CosetCall::Refused),
+    }
+}
+
+/// Whether a call on a coset has its answer.
+fn given_coset_agrees<F: TwoAdicField + RingSums + Numbered>(
+    coset: TwoAdicMultiplicativeCoset<F>,
+    call: CosetCall,
+    case: &Case,
+) -> bool {
+    match call {
+        CosetCall::Refused => false,
+        CosetCall::Parts => has_parts::<F>(coset, case),
+        CosetCall::Contains(contains) => {
+            coset.contains(value::<F>(case.argument(2))) == contains
+        }
+        CosetCall::Element => {
+            coset.log_size() < 64 && holds(&coset.element(case.size(2)), &case.answer)
+        }
+        CosetCall::Items => has_items::<F>(coset, &case.answer),
+    }
+}
 
 /// Whether the coset that so many bits shrink it to is there where the log size has the bits.
-fn is_smaller<F: TwoAdicField + PrimeField64>(
+fn is_smaller<F: TwoAdicField>(
     coset: TwoAdicMultiplicativeCoset<F>,
     log_size: usize,
     bits: usize,
@@ -19,7 +50,7 @@ fn is_smaller<F: TwoAdicField + PrimeField64>(
 }
 
 /// Whether the coset of the powers is there where the log size has the bits.
-fn is_power<F: TwoAdicField + PrimeField64>(
+fn is_power<F: TwoAdicField>(
     coset: TwoAdicMultiplicativeCoset<F>,
     log_size: usize,
     bits: usize,
@@ -34,10 +65,7 @@ fn is_power<F: TwoAdicField + PrimeField64>(
 }
 
 /// Whether the smaller cosets and the powers are there, up to five bits.
-fn are_smaller<F: TwoAdicField + PrimeField64>(
-    coset: TwoAdicMultiplicativeCoset<F>,
-    log_size: usize,
-) -> bool {
+fn are_smaller<F: TwoAdicField>(coset: TwoAdicMultiplicativeCoset<F>, log_size: usize) -> bool {
     for bits in 0..6 {
         if !is_smaller(coset, log_size, bits) || !is_power(coset, log_size, bits) {
             return false;
@@ -46,18 +74,19 @@ fn are_smaller<F: TwoAdicField + PrimeField64>(
     true
 }
 
-/// The inverse of the shift, the generator, and the sum and the product of the items.
-fn parts_of<F: TwoAdicField + PrimeField64 + RingSums>(
+/// Whether the answer tells the inverse of the shift, the generator, and the sum and the product of the
+/// items.
+fn are_parts<F: TwoAdicField + RingSums + Numbered>(
     coset: TwoAdicMultiplicativeCoset<F>,
-) -> [u64; 4] {
+    answer: &[u64],
+) -> bool {
     let sum: F = (&coset).into_iter().sum();
     let product: F = coset.into_iter().product();
-    [
-        coset.shift_inverse().as_canonical_u64(),
-        coset.subgroup_generator().as_canonical_u64(),
-        sum.as_canonical_u64(),
-        product.as_canonical_u64(),
-    ]
+    holds_at(&coset.shift_inverse(), answer, 0)
+        && holds_at(&coset.subgroup_generator(), answer, 1)
+        && holds_at(&sum, answer, 2)
+        && holds_at(&product, answer, 3)
+        && answer.len() == 4
 }
 
 /// Whether the coset has its size.
@@ -65,85 +94,32 @@ fn has_size<F: TwoAdicField>(coset: TwoAdicMultiplicativeCoset<F>, log_size: usi
     coset.log_size() < 64 && log_size < 64 && coset.size() == 1 << log_size
 }
 
-/// Whether the text lists the parts, and the coset has its size, its shift and its smaller cosets.
-fn has_parts<F: TwoAdicField + PrimeField64 + RingSums>(
+/// Whether the answer tells the parts, and the coset has its size, its shift and its smaller cosets.
+fn has_parts<F: TwoAdicField + RingSums + Numbered>(
     coset: TwoAdicMultiplicativeCoset<F>,
-    shift: u64,
-    log_size: usize,
-    answer: &str,
+    case: &Case,
 ) -> bool {
+    let log_size = case.size(1);
     has_size(coset, log_size)
-        && coset.shift().as_canonical_u64() == shift
-        && lists(answer, &parts_of(coset))
+        && holds(&coset.shift(), case.argument(0))
+        && are_parts(coset, &case.answer)
         && are_smaller(coset, log_size)
 }
 
-/// Whether the text lists the items of the coset.
-fn has_items<F: TwoAdicField + PrimeField64>(
+/// Whether the answer tells the items of the coset.
+fn has_items<F: TwoAdicField + Numbered>(
     coset: TwoAdicMultiplicativeCoset<F>,
-    answer: &str,
+    answer: &[u64],
 ) -> bool {
-    if coset.log_size() >= 64 || coset.iter().len() != entries(answer) {
+    if coset.log_size() >= 64 || coset.iter().len() != answer.len() {
         return false;
     }
-    let mut words = answer.split(',');
+    let mut index: usize = 0;
     for x in coset.iter() {
-        if words.next().unwrap_or("").parse::<u64>().ok() != Some(x.as_canonical_u64()) {
+        if !holds_at(&x, answer, index) {
             return false;
         }
+        index = index.wrapping_add(1);
     }
     true
-}
-
-/// Whether the text is of the item at an index.
-fn has_element<F: TwoAdicField + PrimeField64>(
-    coset: TwoAdicMultiplicativeCoset<F>,
-    index: usize,
-    answer: &str,
-) -> bool {
-    coset.log_size() < 64 && lists(answer, &[coset.element(index).as_canonical_u64()])
-}
-
-/// Whether a call on a coset has this answer; none where it names no call.
-fn coset_agrees<F: TwoAdicField + PrimeField64 + RingSums>(
-    coset: TwoAdicMultiplicativeCoset<F>,
-    call: &str,
-    third: u64,
-    answer: &str,
-) -> Option<bool> {
-    match call {
-        "coset contains" => Some(coset.contains(F::from_u64(third)) == (answer == "true")),
-        "coset element" => Some(has_element(coset, third as usize, answer)),
-        "coset iter" => Some(has_items(coset, answer)),
-        _ => None,
-    }
-}
-
-/// The shift, the log size and the number of a third argument, zero where there is none.
-fn arguments_of(arguments: &str) -> Option<(u64, usize, u64)> {
-    let mut sides = arguments.split('|');
-    let shift = sides.next()?.parse::<u64>().ok()?;
-    let log_size = sides.next()?.parse::<usize>().ok()?;
-    let third = sides.next().unwrap_or("0").parse::<u64>().ok()?;
-    Some((shift, log_size, third))
-}
-
-/// Whether the call of a line has its answer; none where a text can't be read, or names no call.
-fn agrees<F: TwoAdicField + PrimeField64 + RingSums>(line: &str) -> Option<bool> {
-    let (call, arguments, answer) = parts(line);
-    let (shift, log_size, third) = arguments_of(arguments)?;
-    match TwoAdicMultiplicativeCoset::<F>::new(F::from_u64(shift), log_size) {
-        Some(coset) if call == "coset sizes, sum and product" => {
-            Some(has_parts(coset, shift, log_size, answer))
-        }
-        Some(coset) => coset_agrees(coset, call, third, answer),
-        None => Some(call == "coset" && answer == "None"),
-    }
-}
-
-/// Asserts the lines of a table.
-pub fn assert_cosets<F: TwoAdicField + PrimeField64 + RingSums>(rt: &impl Abort, table: &str) {
-    for line in table.lines() {
-        assert!(rt; agrees::<F>(line) == Some(true), "{line}");
-    }
 }

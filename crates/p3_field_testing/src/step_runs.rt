@@ -2,13 +2,13 @@
 ghost use Rattle.std.specs.Prelude.{IsSome};
 ghost use Rattle.p3_runs.specs.FieldRuns.{OrdersGiven};
 
-use crate::prime_values::is_list;
+use crate::numbered::{Numbered, all_hold};
 use p3_bench_prime::extensions::F17x2;
 use p3_bench_prime::small::F17;
 use p3_field::steps::{
     FieldStep, Step, StepFault, StepRefused, run_field_steps, run_steps, steps_fit,
 };
-use p3_field::{PrimeCharacteristicRing, PrimeField64};
+use p3_field::{Field, PrimeCharacteristicRing};
 use std::process::Abort;
 
 /// Runs the steps where they fit the registers; whether they do.
@@ -21,10 +21,7 @@ fn runs<R: PrimeCharacteristicRing>(regs: &mut [R], steps: &[Step]) -> bool {
 }
 
 /// What a run answers, where its steps fit the registers.
-fn field_run<F: PrimeField64>(
-    regs: &mut [F],
-    steps: &[FieldStep],
-) -> Option<Result<(), StepRefused>>
+fn field_run<F: Field>(regs: &mut [F], steps: &[FieldStep]) -> Option<Result<(), StepRefused>>
     requires { OrdersGiven F.size steps.now }
 {
     if steps_fit(steps, regs.len()) {
@@ -35,7 +32,7 @@ fn field_run<F: PrimeField64>(
 }
 
 /// Asserts runs of steps, whose registers are given.
-fn assert_run<F: PrimeField64>(rt: &impl Abort, regs: &mut [F]) {
+fn assert_run<F: PrimeCharacteristicRing + Numbered>(rt: &impl Abort, regs: &mut [F]) {
     let steps = [
         Step::Square { d: 1, a: 0 },
         Step::Add { d: 2, a: 0, b: 1 },
@@ -46,11 +43,11 @@ fn assert_run<F: PrimeField64>(rt: &impl Abort, regs: &mut [F]) {
     assert!(rt; steps_fit(&steps, 3));
     assert!(rt; !steps_fit(&steps, 2));
     assert!(rt; runs(regs, &steps));
-    assert!(rt; is_list("6,14,5", regs));
+    assert!(rt; all_hold(regs, &[6, 14, 5]));
 }
 
 /// Asserts that the inverse of the second register is refused, and what the first one then holds.
-fn assert_refused_inverse<F: PrimeField64>(rt: &impl Abort, regs: &mut [F])
+fn assert_refused_inverse<F: Field + Numbered>(rt: &impl Abort, regs: &mut [F])
     requires { IsSome F.size }
 {
     let steps = [FieldStep::Inv { d: 0, a: 0 }, FieldStep::Inv { d: 1, a: 1 }];
@@ -61,11 +58,11 @@ fn assert_refused_inverse<F: PrimeField64>(rt: &impl Abort, regs: &mut [F])
         kind: StepFault::NoInverse,
     };
     assert_eq!(rt; field_run(regs, &steps), Some(Err(refused)));
-    assert!(rt; is_list("9,0", regs));
+    assert!(rt; all_hold(regs, &[9, 0]));
 }
 
 /// Asserts that the root of the register is refused, and that it holds what it did.
-fn assert_refused_root<F: PrimeField64>(rt: &impl Abort, regs: &mut [F])
+fn assert_refused_root<F: Field + Numbered>(rt: &impl Abort, regs: &mut [F])
     requires { IsSome F.size }
 {
     let steps = [FieldStep::Sqrt { d: 0, a: 0 }];
@@ -74,11 +71,11 @@ fn assert_refused_root<F: PrimeField64>(rt: &impl Abort, regs: &mut [F])
         kind: StepFault::NoRoot,
     };
     assert_eq!(rt; field_run(regs, &steps), Some(Err(refused)));
-    assert!(rt; is_list("3", regs));
+    assert!(rt; all_hold(regs, &[3]));
 }
 
 /// Asserts a run over a field.
-fn assert_field_run<F: PrimeField64>(rt: &impl Abort, regs: &mut [F])
+fn assert_field_run<F: Field + Numbered>(rt: &impl Abort, regs: &mut [F])
     requires { IsSome F.size }
 {
     let steps = [
@@ -88,7 +85,7 @@ fn assert_field_run<F: PrimeField64>(rt: &impl Abort, regs: &mut [F])
         FieldStep::Inv { d: 0, a: 0 },
     ];
     assert_eq!(rt; field_run(regs, &steps), Some(Ok(())));
-    assert!(rt; is_list("9,2", regs));
+    assert!(rt; all_hold(regs, &[9, 2]));
 }
 
 #[test]
@@ -122,6 +119,5 @@ fn a_run_over_an_extension(rt: HostRuntime) {
         Step::Double { d: 1, a: 1 },
     ];
     assert!(rt; runs(&mut regs, &steps));
-    assert!(rt; regs[0].value == [F17::new(3), F17::new(12)]);
-    assert!(rt; regs[1].value == [F17::new(5), F17::new(3)]);
+    assert!(rt; all_hold(&regs, &[3, 12, 5, 3]));
 }

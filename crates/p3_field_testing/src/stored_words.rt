@@ -1,7 +1,8 @@
-//! Worked values of words in Montgomery's form.
+//! Worked values of the words that stand for residues, plain or in Montgomery's form.
 
+use p3_base::field::PrimeField32;
 use p3_bench_prime::baby_bear::BabyBear;
-use p3_field::PrimeField32;
+use p3_bench_prime::small::F17;
 
 /// Canonical values, and the words that are stored for them.
 static WORDS: [(u32, u32); 6] = [
@@ -23,6 +24,7 @@ fn has_word<F: PrimeField32>(x: F, word: u32, canonical: u32) -> bool {
 
 #[test]
 fn words_of_values(rt: HostRuntime) {
+    assert!(rt; has_word(F17::new(20), 3, 3));
     for row in &WORDS {
         let (canonical, word) = *row;
         assert!(rt;

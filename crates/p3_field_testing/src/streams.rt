@@ -1,0 +1,117 @@
+//! The bytes and words of values, by functions that are generic over what is written.
+use crate::cases::numbers;
+use crate::numbered::{Numbered, all_hold, value, values};
+use crate::stream_tables as tables;
+use p3_bench_prime::baby_bear::BabyBear;
+use p3_bench_prime::extensions::{BabyBearx4, F17x2};
+use p3_bench_prime::goldilocks::Goldilocks;
+use p3_bench_prime::small::{F2, F17};
+use p3_columns::parallel_streams::into_parallel_u64_streams;
+use p3_spaces::streams::RawDataSerializable;
+use std::alloc::{AllocError, Global};
+use std::process::Abort;
+use std::test::Fail;
+
+/// A call that writes values.
+#[derive(Clone, Copy)]
+enum StreamCall {
+    OneValue,
+    Bytes,
+    ShortWords,
+    LongWords,
+}
+
+/// The call of a name.
+fn call_of(name: &str) -> Option<StreamCall> {
+    match name {
+        "into_bytes" => Some(StreamCall::OneValue),
+        "into_byte_stream" => Some(StreamCall::Bytes),
+        "into_u32_stream" => Some(StreamCall::ShortWords),
+        "into_u64_stream" => Some(StreamCall::LongWords),
+        _ => None,
+    }
+}
+
+/// Whether the bytes or words of values are the answer.
+fn stream_agrees<T: RawDataSerializable + Numbered>(
+    alloc: Global,
+    call: StreamCall,
+    arguments: &[u64],
+    answer: &[u64],
+) -> Result<bool, AllocError> {
+    let items = values::<T>(alloc, arguments)?;
+    let items = items.iter().copied();
+    match call {
+        StreamCall::OneValue => {
+            let bytes: Vec<u8> = value::<T>(arguments).into_bytes().collect(alloc)?;
+            Ok(all_hold(&bytes, answer))
+        }
+        StreamCall::Bytes => {
+            let bytes: Vec<u8> = T::into_byte_stream(items).collect(alloc)?;
+            Ok(all_hold(&bytes, answer))
+        }
+        StreamCall::ShortWords => {
+            let words: Vec<u32> = T::into_u32_stream(items).collect(alloc)?;
+            Ok(all_hold(&words, answer))
+        }
+        StreamCall::LongWords => {
+            let words: Vec<u64> = T::into_u64_stream(items).collect(alloc)?;
+            Ok(all_hold(&words, answer))
+        }
+    }
+}
+
+/// Whether a line has numbers and the bytes, or the words, of their values.
+fn agrees<T: RawDataSerializable + Numbered>(
+    alloc: Global,
+    line: &str,
+) -> Result<bool, AllocError> {
+    let Some((name, sides)) = line.split_once(';') else {
+        return Ok(false);
+    };
+    let (Some(call), Some((arguments, answer))) = (call_of(name), sides.split_once(';')) else {
+        return Ok(false);
+    };
+    let arguments = numbers(alloc, arguments)?;
+    let answer = numbers(alloc, answer)?;
+    stream_agrees::<T>(alloc, call, &arguments, &answer)
+}
+
+/// Asserts that each line has numbers and the bytes, or the words, of their values.
+fn assert_streams<T: RawDataSerializable + Numbered>(
+    rt: &(impl Abort + AllocGlobal),
+    table: &str,
+) -> Result<(), Fail> {
+    for line in table.lines() {
+        assert!(rt; agrees::<T>(rt.alloc(), line)?, "{line}");
+    }
+    Ok(())
+}
+
+#[test]
+fn streams_of_residues(rt: HostRuntime) -> Result<(), Fail> {
+    assert_streams::<F2>(&rt, tables::F2)?;
+    assert_streams::<F17>(&rt, tables::F17)?;
+    assert_streams::<BabyBear>(&rt, tables::BABY_BEAR)?;
+    assert_streams::<Goldilocks>(&rt, tables::GOLDILOCKS)
+}
+
+#[test]
+fn streams_of_extension_values(rt: HostRuntime) -> Result<(), Fail> {
+    assert_streams::<F17x2>(&rt, tables::F17X2)?;
+    assert_streams::<BabyBearx4>(&rt, tables::BABY_BEAR_X4)
+}
+
+#[test]
+fn words_side_by_side(rt: HostRuntime) -> Result<(), Fail> {
+    let rows = [
+        [F17::new(1), F17::new(2)],
+        [F17::new(3), F17::new(4)],
+        [F17::new(5), F17::new(6)],
+    ];
+    let words: Vec<[u64; 2]> = into_parallel_u64_streams(rows.iter().copied()).collect(rt.alloc())?;
+    assert_eq!(rt; words.len(), 2);
+    assert_eq!(rt; words[0], [12884901889, 17179869186]);
+    assert_eq!(rt; words[1], [5, 6]);
+    Ok(())
+}
