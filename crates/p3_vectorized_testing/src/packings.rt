@@ -1,5 +1,6 @@
 //! The calls on the values of an extension and on packings of them, implemented once for all packings.
-use crate::lane_calls::{Case, Rooms, agrees};
+use crate::calls::{Call, Rooms, agrees};
+use crate::runs::run_agrees;
 use crate::values::Canonical;
 use p3_base::field::Field;
 use p3_base::packed_traits::{Inhabited, Packable};
@@ -16,31 +17,37 @@ pub(crate) type ExtensionRooms<F, S, P, const D: usize> = Rooms<
     PackedExtField<F, D, S, P>,
 >;
 
-/// `agrees` over packings P of values of an extension of F. Nothing is read of `rooms`.
+/// Whether a call gives what it has to, over packings P of values of an extension of F. Nothing is read of
+/// `_rooms`.
 fn extension_agrees<F, S, P, const D: usize>(
     alloc: Global,
-    rooms: Option<ExtensionRooms<F, S, P, D>>,
-    case: &Case,
+    _rooms: Option<ExtensionRooms<F, S, P, D>>,
+    call: &Call<'_>,
 ) -> Result<bool, AllocError>
 where
     F: FrobeniusExtendable<D, S> + ExtensionOverAlgebra<P, D, S> + Packable + Canonical,
     S: ExtensionShape,
     P: PackedRing<F> + Inhabited + Packing<Scalar = F>,
 {
-    agrees::<F, ExtField<F, D, S, F>, PackedExtField<F, D, S, P>>(alloc, rooms, case)
+    match call {
+        Call::Run(run) => run_agrees::<F, PackedExtField<F, D, S, P>, S, D>(alloc, None, run),
+        _ => agrees::<F, ExtField<F, D, S, F>, PackedExtField<F, D, S, P>>(alloc, call),
+    }
 }
 
 /// The calls over packings of this type of values of an extension of F. What the extension owes is a bound of
 /// the method: a function over a marker and any such packing passes it from the packing's algebra alone, and
 /// the call at so many lanes passes that algebra once.
-pub(crate) trait SplitCalls<F: PrimeCharacteristicRing, S: ExtensionShape, const D: usize>: Algebra<
-    F,
-> {
+pub(crate) trait ExtensionCalls<
+    F: PrimeCharacteristicRing,
+    S: ExtensionShape,
+    const D: usize,
+>: Algebra<F> {
     /// What the calls make values of. Of an associated type it is known that its values have room.
     type Rooms: Copy;
 
-    /// Whether a call gives what the plain numbers say. Nothing is read of `rooms`.
-    fn agree(alloc: Global, rooms: Option<Self::Rooms>, case: &Case) -> Result<bool, AllocError>
+    /// Whether a call gives what it has to. Nothing is read of `rooms`.
+    fn agree(alloc: Global, rooms: Option<Self::Rooms>, call: &Call<'_>) -> Result<bool, AllocError>
     where
         F: FrobeniusExtendable<D, S> + ExtensionOverAlgebra<Self, D, S>;
 }
@@ -50,17 +57,17 @@ impl<
     S: ExtensionShape,
     P: PackedRing<F> + Inhabited + Packing<Scalar = F>,
     const D: usize,
-> SplitCalls<F, S, D> for P {
+> ExtensionCalls<F, S, D> for P {
     type Rooms = ExtensionRooms<F, S, P, D>;
 
     fn agree(
         alloc: Global,
         rooms: Option<ExtensionRooms<F, S, P, D>>,
-        case: &Case,
+        call: &Call<'_>,
     ) -> Result<bool, AllocError>
     where
         F: FrobeniusExtendable<D, S> + ExtensionOverAlgebra<P, D, S>,
     {
-        extension_agrees::<F, S, P, D>(alloc, rooms, case)
+        extension_agrees::<F, S, P, D>(alloc, rooms, call)
     }
 }

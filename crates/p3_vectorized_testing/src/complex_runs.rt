@@ -1,7 +1,9 @@
 //! Runs over vectors of packed extension values: over the complex values of a field, in arrays, and over the
 //! extension of degree 2 of these, each complex value a packing of one lane.
-use crate::lane_runs::run_agrees;
-use crate::run_tables::{F31C, F31CX2, WRONG_AT_F31C, WRONG_AT_F31CX2};
+mod lane_runs;
+mod tables;
+
+use lane_runs::run_agrees;
 use p3_array::array::FieldArray;
 use p3_array::lanes::Lanes;
 use p3_base::packed_traits::{Inhabited, Packable};
@@ -17,6 +19,7 @@ use p3_spaces::basis::BasedVectorSpace;
 use p3_vectorized::vectorized_ext::VectorizedExt;
 use std::alloc::{AllocError, Global};
 use std::test::Fail;
+use tables::{F31C, F31CX2, WRONG_AT_F31C, WRONG_AT_F31CX2};
 
 /// The values of the extension of E by `X^2 = W`.
 type Extension<E> = ExtField<E, 2, Binomial<E>, E>;

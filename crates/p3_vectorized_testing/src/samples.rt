@@ -2,9 +2,10 @@
 //! the same.
 use crate::plain::{List, MOST, Split, X, ZERO, at};
 use p3_runs::steps::Step;
+use std::alloc::{AllocError, Global};
 
 /// How many registers a run has.
-pub(crate) const REGISTERS: usize = 5;
+const REGISTERS: usize = 5;
 
 /// How many steps a run has.
 const STEPS: usize = 14;
@@ -98,7 +99,7 @@ impl Split {
     /// What a register holds in a lane before the run. Register 0 holds a value with an inverse times a factor
     /// `X - root`, and register 1 the product of the other factors, so that their product is zero; register 3
     /// holds X.
-    pub(crate) fn start(&self, seed: u64, register: usize, lane: usize) -> List {
+    fn start(&self, seed: u64, register: usize, lane: usize) -> List {
         let index = self.root_index(lane);
         match register {
             0 => self.product(&self.unit(seed, lane), &self.factor_at(index)),
@@ -109,8 +110,46 @@ impl Split {
     }
 
     /// What the registers hold in a lane before the run.
-    pub(crate) fn starts(&self, seed: u64, lane: usize) -> [List; REGISTERS] {
+    fn starts(&self, seed: u64, lane: usize) -> [List; REGISTERS] {
         std::array::from_fn(|register: usize| -> List { self.start(seed, register, lane) })
+    }
+
+    /// What the registers hold in so many lanes before the run, one register after the other.
+    pub(crate) fn registers_before(
+        &self,
+        alloc: Global,
+        seed: u64,
+        lanes: usize,
+    ) -> Result<Vec<List>, AllocError> {
+        let mut lists = Vec::new(alloc);
+        for register in 0..REGISTERS {
+            for lane in 0..lanes {
+                lists.push(self.start(seed, register, lane))?;
+            }
+        }
+        Ok(lists)
+    }
+
+    /// What they hold after it.
+    pub(crate) fn registers_after(
+        &self,
+        alloc: Global,
+        seed: u64,
+        lanes: usize,
+    ) -> Result<Vec<List>, AllocError> {
+        let mut by_lanes = Vec::new(alloc);
+        for lane in 0..lanes {
+            let mut lists = self.starts(seed, lane);
+            self.run(&mut lists, &steps(seed));
+            by_lanes.push(lists)?;
+        }
+        let mut lists = Vec::new(alloc);
+        for register in 0..REGISTERS {
+            for lane in by_lanes.iter() {
+                lists.push(lane[register])?;
+            }
+        }
+        Ok(lists)
     }
 
     /// Whether registers 0 and 1 hold nonzero values in a lane whose product is zero.

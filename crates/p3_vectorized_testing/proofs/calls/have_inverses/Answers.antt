@@ -3,7 +3,7 @@ use Rattle.std.proofs.Common.{refl, subst, sym}
 use Rattle.std.proofs.lemmas.Option.{get_or_from_slice_get}
 use Rattle.p3_theory.specs.Lanes.Lanes.{lane}
 use Rattle.p3_theory.specs.Rings.Ring.{Invertible}
-use Rattle.p3_split_testing.proofs.lane_calls.have_inverses.Goals as goal
+use Rattle.p3_vectorized_testing.proofs.calls.have_inverses.Goals as goal
 
 pub loop-lane-preserved : goal.loop-lane-preserved
 loop-lane-preserved g c =

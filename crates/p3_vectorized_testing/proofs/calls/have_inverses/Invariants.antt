@@ -1,7 +1,7 @@
 use Rattle.std.proofs.Common.{◌<◌, ℕ}
 use Rattle.p3_theory.specs.Lanes.Lanes.{lane}
 use Rattle.p3_theory.specs.Rings.Ring.{Invertible}
-use Rattle.p3_split_testing.proofs.lane_calls.have_inverses.Given as goal
+use Rattle.p3_vectorized_testing.proofs.calls.have_inverses.Given as goal
 
 abbrev pub invariant-loop-lane : goal.invariant-loop-lane
 invariant-loop-lane g l =
