@@ -1,6 +1,6 @@
 //! Tests of lists of values and of what packings make of them, over prime fields and, for batch inversion, an
 //! extension: arrays, batch inversion, limbs, the calls that make a list, the growths of memory that they ask for,
-//! those that go over slices by packings, and iterators over lanes and bytes.
+//! those that go over slices by packings, iterators over lanes and bytes, and values of polynomials.
 #![tactic(auto)]
 
 #[cfg(test)]
@@ -25,3 +25,5 @@ mod lengths;
 mod limbs;
 #[cfg(test)]
 mod packings;
+#[cfg(test)]
+mod polynomials;

@@ -5,6 +5,13 @@ ghost use Rattle.std.specs.Prelude.{◌≤◌, ◌^◌};
 mod tables;
 
 use p3_base::field::{PrimeField, PrimeField32};
+use p3_bench_prime::baby_bear::BabyBearModulus;
+use p3_bench_prime::form::{Form, Plain, ShortForm, Word};
+use p3_bench_prime::fp::Fp;
+use p3_bench_prime::goldilocks::GoldilocksForm;
+use p3_bench_prime::koala_bear::KoalaBearModulus;
+use p3_bench_prime::montgomery::Montgomery;
+use p3_bench_prime::small::{M2, M15, M17, M31};
 use p3_limbs::limits::{
     absorb_radix_bits, injective_pack_bits, max_absorb_injective_limbs, max_packed_injective_limbs,
     max_shifted_absorb_injective_limbs, max_shifted_packed_injective_limbs,
@@ -13,6 +20,12 @@ use p3_limbs::limits::{
 use p3_limbs::packing::{reduce_32, reduce_packed, reduce_packed_shifted};
 use p3_limbs::splits::{split_32, split_pf_to_field_order_limbs, split_pf_to_packed_limbs};
 use std::alloc::{AllocError, Global};
+use std::process::Abort;
+use std::test::Fail;
+use tables::{
+    BB_INTO_F17, BB_INTO_GL, BB_INTO_KB, F2_INTO_F2, F2_INTO_F17, F2_INTO_GL, F17_INTO_BB,
+    F17_INTO_F2, F17_INTO_F17, F17_INTO_GL, F31_INTO_KB, KB_INTO_BB, KB_INTO_GL, Row, Z15_INTO_BB,
+};
 
 /// Whether the call over a small field F and a large one PF answers this; `Ok(None)` where a text
 /// can't be read, or names no call.
@@ -194,4 +207,35 @@ fn same_limbs<F: PrimeField32>(limbs: &[F], text: &str) -> bool {
         Some(rest) => limbs.is_empty() && rest.is_empty(),
         None => !limbs.is_empty(),
     }
+}
+
+/// Asserts that each row is answered so, over the residues of a short form and of any form: a call at markers
+/// passes what they ask for alone.
+fn assert_rows<W: ShortForm, V: Form<T>, T: Word>(
+    rt: &(impl Abort + AllocGlobal),
+    rows: &[Row],
+) -> Result<(), Fail> {
+    for (call, arguments, answer) in rows {
+        let holds = answers::<Fp<W>, Fp<V, T>>(rt.alloc(), call, arguments, answer)?;
+        assert_eq!(rt; holds, Some(true), "{call} {arguments}");
+    }
+    Ok(())
+}
+
+#[test]
+fn limbs_between_fields(rt: HostRuntime) -> Result<(), Fail> {
+    assert_rows::<Plain<M17>, Montgomery<BabyBearModulus>, u32>(&rt, &F17_INTO_BB)?;
+    assert_rows::<Plain<M2>, Plain<M17>, u32>(&rt, &F2_INTO_F17)?;
+    assert_rows::<Plain<KoalaBearModulus>, Montgomery<BabyBearModulus>, u32>(&rt, &KB_INTO_BB)?;
+    assert_rows::<Montgomery<BabyBearModulus>, GoldilocksForm, u64>(&rt, &BB_INTO_GL)?;
+    assert_rows::<Plain<M17>, GoldilocksForm, u64>(&rt, &F17_INTO_GL)?;
+    assert_rows::<Plain<M2>, GoldilocksForm, u64>(&rt, &F2_INTO_GL)?;
+    assert_rows::<Plain<M2>, Plain<M2>, u32>(&rt, &F2_INTO_F2)?;
+    assert_rows::<Plain<M17>, Plain<M2>, u32>(&rt, &F17_INTO_F2)?;
+    assert_rows::<Plain<M17>, Plain<M17>, u32>(&rt, &F17_INTO_F17)?;
+    assert_rows::<Plain<M31>, Plain<KoalaBearModulus>, u32>(&rt, &F31_INTO_KB)?;
+    assert_rows::<Plain<M15>, Montgomery<BabyBearModulus>, u32>(&rt, &Z15_INTO_BB)?;
+    assert_rows::<Plain<KoalaBearModulus>, GoldilocksForm, u64>(&rt, &KB_INTO_GL)?;
+    assert_rows::<Montgomery<BabyBearModulus>, Plain<KoalaBearModulus>, u32>(&rt, &BB_INTO_KB)?;
+    assert_rows::<Montgomery<BabyBearModulus>, Plain<M17>, u32>(&rt, &BB_INTO_F17)
 }

@@ -1,19 +1,9 @@
 //! Worked rows and outside values of the calls on limbs, by the small field and the large one.
-use super::answers;
-use p3_bench_prime::baby_bear::BabyBearModulus;
-use p3_bench_prime::form::{Form, Plain, ShortForm, Word};
-use p3_bench_prime::fp::Fp;
-use p3_bench_prime::goldilocks::GoldilocksForm;
-use p3_bench_prime::koala_bear::KoalaBearModulus;
-use p3_bench_prime::montgomery::Montgomery;
-use p3_bench_prime::small::{M2, M15, M17, M31};
-use std::alloc::{AllocError, Global};
-use std::test::Fail;
 
 /// The call, its arguments, its answer.
-type Row = (&'static str, &'static str, &'static str);
+pub(crate) type Row = (&'static str, &'static str, &'static str);
 
-const F17_INTO_BB: [Row; 35] = [
+pub(crate) const F17_INTO_BB: [Row; 35] = [
     ("max_packed_injective_limbs", "5", "6"),
     ("max_shifted_packed_injective_limbs", "5", "6"),
     ("reduce_packed", "5|1", "1"),
@@ -59,7 +49,7 @@ const F17_INTO_BB: [Row; 35] = [
     ("split_pf_to_packed_limbs", "2013265920|2|4", "0,0"),
 ];
 
-const F2_INTO_F17: [Row; 27] = [
+pub(crate) const F2_INTO_F17: [Row; 27] = [
     ("max_packed_injective_limbs", "1", "4"),
     ("max_shifted_packed_injective_limbs", "1", "3"),
     ("max_shifted_packed_injective_limbs", "4", "1"),
@@ -89,7 +79,7 @@ const F2_INTO_F17: [Row; 27] = [
     ("reduce_32", "1,1,1,1,0,0,1,1,1,1,1", "9"),
 ];
 
-const KB_INTO_BB: [Row; 29] = [
+pub(crate) const KB_INTO_BB: [Row; 29] = [
     ("reduce_32", "1,2,3", "26843556"),
     ("reduce_32", "", "0"),
     ("max_packed_injective_limbs", "2", "0"),
@@ -141,7 +131,7 @@ const KB_INTO_BB: [Row; 29] = [
     ),
 ];
 
-const BB_INTO_GL: [Row; 37] = [
+pub(crate) const BB_INTO_GL: [Row; 37] = [
     (
         "split_pf_to_packed_limbs",
         "18446744069414584320|3|30",
@@ -209,7 +199,7 @@ const BB_INTO_GL: [Row; 37] = [
     ("pf_packed_limbs_cover_order", "61|1", "false"),
 ];
 
-const F17_INTO_GL: [Row; 28] = [
+pub(crate) const F17_INTO_GL: [Row; 28] = [
     ("max_packed_injective_limbs", "63", "1"),
     ("max_packed_injective_limbs", "3", "20"),
     ("max_packed_injective_limbs", "7", "9"),
@@ -264,7 +254,7 @@ const F17_INTO_GL: [Row; 28] = [
     ),
 ];
 
-const F2_INTO_GL: [Row; 27] = [
+pub(crate) const F2_INTO_GL: [Row; 27] = [
     ("max_packed_injective_limbs", "63", "2"),
     ("squeeze_field_order_num_limbs", "", "62"),
     ("max_packed_injective_limbs", "3", "22"),
@@ -298,7 +288,7 @@ const F2_INTO_GL: [Row; 27] = [
     ("pf_packed_limbs_cover_order", "58|2", "true"),
 ];
 
-const F2_INTO_F2: [Row; 31] = [
+pub(crate) const F2_INTO_F2: [Row; 31] = [
     ("max_packed_injective_limbs", "1", "1"),
     ("max_shifted_packed_injective_limbs", "1", "0"),
     ("pf_packed_limbs_cover_order", "1|1", "true"),
@@ -336,7 +326,7 @@ const F2_INTO_F2: [Row; 31] = [
     ("pf_packed_limbs_cover_order", "54|9", "true"),
 ];
 
-const F17_INTO_F2: [Row; 28] = [
+pub(crate) const F17_INTO_F2: [Row; 28] = [
     ("max_packed_injective_limbs", "5", "0"),
     ("max_shifted_packed_injective_limbs", "1", "0"),
     ("max_shifted_packed_injective_limbs", "5", "0"),
@@ -367,7 +357,7 @@ const F17_INTO_F2: [Row; 28] = [
     ("reduce_packed_shifted", "15|8,0,16,3,16,0,1,16,3,1,15", "1"),
 ];
 
-const F17_INTO_F17: [Row; 28] = [
+pub(crate) const F17_INTO_F17: [Row; 28] = [
     ("squeeze_field_order_num_limbs", "", "0"),
     ("max_packed_injective_limbs", "2", "1"),
     ("max_packed_injective_limbs", "6", "1"),
@@ -398,7 +388,7 @@ const F17_INTO_F17: [Row; 28] = [
     ("reduce_32", "1,9,0,15,5,0,2,16,1,12,2", "12"),
 ];
 
-const F31_INTO_KB: [Row; 27] = [
+pub(crate) const F31_INTO_KB: [Row; 27] = [
     ("max_shifted_packed_injective_limbs", "3", "9"),
     ("max_shifted_packed_injective_limbs", "7", "4"),
     ("max_shifted_packed_injective_limbs", "11", "3"),
@@ -432,7 +422,7 @@ const F31_INTO_KB: [Row; 27] = [
     ("split_32", "116813019|2", "28,0"),
 ];
 
-const Z15_INTO_BB: [Row; 27] = [
+pub(crate) const Z15_INTO_BB: [Row; 27] = [
     ("max_packed_injective_limbs", "4", "7"),
     ("max_packed_injective_limbs", "8", "4"),
     ("max_packed_injective_limbs", "12", "3"),
@@ -466,7 +456,7 @@ const Z15_INTO_BB: [Row; 27] = [
     ("pf_packed_limbs_cover_order", "57|9", "true"),
 ];
 
-const KB_INTO_GL: [Row; 27] = [
+pub(crate) const KB_INTO_GL: [Row; 27] = [
     ("max_packed_injective_limbs", "1", "33"),
     ("max_packed_injective_limbs", "5", "7"),
     ("max_packed_injective_limbs", "9", "4"),
@@ -520,7 +510,7 @@ const KB_INTO_GL: [Row; 27] = [
     ),
 ];
 
-const BB_INTO_KB: [Row; 27] = [
+pub(crate) const BB_INTO_KB: [Row; 27] = [
     ("max_shifted_packed_injective_limbs", "1", "1"),
     ("max_shifted_packed_injective_limbs", "5", "1"),
     ("max_shifted_packed_injective_limbs", "9", "1"),
@@ -570,7 +560,7 @@ const BB_INTO_KB: [Row; 27] = [
     ),
 ];
 
-const BB_INTO_F17: [Row; 27] = [
+pub(crate) const BB_INTO_F17: [Row; 27] = [
     ("max_shifted_packed_injective_limbs", "2", "0"),
     ("max_shifted_packed_injective_limbs", "6", "0"),
     ("max_shifted_packed_injective_limbs", "10", "0"),
@@ -611,122 +601,3 @@ const BB_INTO_F17: [Row; 27] = [
     ),
     ("split_pf_to_packed_limbs", "11|5|18", "11,0,0,0,0"),
 ];
-
-/// Whether each row is answered so, over the residues of a short form and of any form: a call at markers
-/// passes what they ask for alone.
-fn rows_hold<W: ShortForm, V: Form<T>, T: Word>(
-    alloc: Global,
-    rows: &[Row],
-) -> Result<bool, AllocError> {
-    for (call, arguments, answer) in rows {
-        let holds = answers::<Fp<W>, Fp<V, T>>(alloc, call, arguments, answer)?;
-        if holds != Some(true) {
-            return Ok(false);
-        }
-    }
-    Ok(true)
-}
-
-#[test]
-fn f17_into_bb(rt: HostRuntime) -> Result<(), Fail> {
-    assert!(rt;
-        rows_hold::<Plain<M17>, Montgomery<BabyBearModulus>, u32>(rt.alloc(), &F17_INTO_BB)?
-    );
-    Ok(())
-}
-
-#[test]
-fn f2_into_f17(rt: HostRuntime) -> Result<(), Fail> {
-    assert!(rt; rows_hold::<Plain<M2>, Plain<M17>, u32>(rt.alloc(), &F2_INTO_F17)?);
-    Ok(())
-}
-
-#[test]
-fn kb_into_bb(rt: HostRuntime) -> Result<(), Fail> {
-    assert!(rt;
-        rows_hold::<Plain<KoalaBearModulus>, Montgomery<BabyBearModulus>, u32>(
-            rt.alloc(),
-            &KB_INTO_BB
-        )?
-    );
-    Ok(())
-}
-
-#[test]
-fn bb_into_gl(rt: HostRuntime) -> Result<(), Fail> {
-    assert!(rt;
-        rows_hold::<Montgomery<BabyBearModulus>, GoldilocksForm, u64>(rt.alloc(), &BB_INTO_GL)?
-    );
-    Ok(())
-}
-
-#[test]
-fn f17_into_gl(rt: HostRuntime) -> Result<(), Fail> {
-    assert!(rt; rows_hold::<Plain<M17>, GoldilocksForm, u64>(rt.alloc(), &F17_INTO_GL)?);
-    Ok(())
-}
-
-#[test]
-fn f2_into_gl(rt: HostRuntime) -> Result<(), Fail> {
-    assert!(rt; rows_hold::<Plain<M2>, GoldilocksForm, u64>(rt.alloc(), &F2_INTO_GL)?);
-    Ok(())
-}
-
-#[test]
-fn f2_into_f2(rt: HostRuntime) -> Result<(), Fail> {
-    assert!(rt; rows_hold::<Plain<M2>, Plain<M2>, u32>(rt.alloc(), &F2_INTO_F2)?);
-    Ok(())
-}
-
-#[test]
-fn f17_into_f2(rt: HostRuntime) -> Result<(), Fail> {
-    assert!(rt; rows_hold::<Plain<M17>, Plain<M2>, u32>(rt.alloc(), &F17_INTO_F2)?);
-    Ok(())
-}
-
-#[test]
-fn f17_into_f17(rt: HostRuntime) -> Result<(), Fail> {
-    assert!(rt; rows_hold::<Plain<M17>, Plain<M17>, u32>(rt.alloc(), &F17_INTO_F17)?);
-    Ok(())
-}
-
-#[test]
-fn f31_into_kb(rt: HostRuntime) -> Result<(), Fail> {
-    assert!(rt; rows_hold::<Plain<M31>, Plain<KoalaBearModulus>, u32>(rt.alloc(), &F31_INTO_KB)?);
-    Ok(())
-}
-
-#[test]
-fn z15_into_bb(rt: HostRuntime) -> Result<(), Fail> {
-    assert!(rt;
-        rows_hold::<Plain<M15>, Montgomery<BabyBearModulus>, u32>(rt.alloc(), &Z15_INTO_BB)?
-    );
-    Ok(())
-}
-
-#[test]
-fn kb_into_gl(rt: HostRuntime) -> Result<(), Fail> {
-    assert!(rt;
-        rows_hold::<Plain<KoalaBearModulus>, GoldilocksForm, u64>(rt.alloc(), &KB_INTO_GL)?
-    );
-    Ok(())
-}
-
-#[test]
-fn bb_into_kb(rt: HostRuntime) -> Result<(), Fail> {
-    assert!(rt;
-        rows_hold::<Montgomery<BabyBearModulus>, Plain<KoalaBearModulus>, u32>(
-            rt.alloc(),
-            &BB_INTO_KB
-        )?
-    );
-    Ok(())
-}
-
-#[test]
-fn bb_into_f17(rt: HostRuntime) -> Result<(), Fail> {
-    assert!(rt;
-        rows_hold::<Montgomery<BabyBearModulus>, Plain<M17>, u32>(rt.alloc(), &BB_INTO_F17)?
-    );
-    Ok(())
-}

@@ -1,11 +1,12 @@
 //! A row worked by hand, at the eight lanes of vectors: of eight values, and of two arrays of four.
+use p3_array::array::FieldArray;
+use p3_base::field::{Field, PrimeField64};
+use p3_base::packed_traits::{Packable, PackedField, PackedValue};
 use p3_bench_prime::form::{Form, Plain};
 use p3_bench_prime::fp::Fp;
 use p3_bench_prime::small::M17;
-use p3_field::{
-    Field, FieldArray, Packable, PackedField, PackedValue, PrimeCharacteristicRing, PrimeField64,
-    Vectorized,
-};
+use p3_ring::ring::PrimeCharacteristicRing;
+use p3_vectorized::vectorized::Vectorized;
 use poly_eval::eval_vectorized;
 use std::process::Abort;
 

@@ -1,7 +1,7 @@
 //! Values over cosets against plain sums, for every number of coefficients from 0 to 40 and every log size
 //! from 0 to 6 that a field has cosets of.
-use crate::coset_values::Value;
-use crate::plain_sums::{GREATEST_COUNT, Rows};
+use super::coset_values::Value;
+use super::plain_sums::{GREATEST_COUNT, Rows};
 use p3_bench_prime::baby_bear::BabyBearModulus;
 use p3_bench_prime::form::{Form, OverModulus, Plain, Word};
 use p3_bench_prime::fp::Fp;
@@ -10,7 +10,7 @@ use p3_bench_prime::montgomery::Montgomery;
 use p3_bench_prime::small::{M15, M17};
 use p3_bench_prime::two_adic::TwoAdicConstants;
 use p3_bench_prime::two_adic_constants::TwoAdicBinomialConstants;
-use p3_field::extension::BinomialExtensionField;
+use p3_ext::extension::BinomialExtensionField;
 use std::alloc::{AllocError, Global};
 use std::process::Abort;
 use std::test::Fail;
@@ -41,44 +41,36 @@ fn coefficients<T: Value<Row = [u64; D]>, const D: usize>(
     Ok(coeffs)
 }
 
-/// What `eval_coset` lists over the coset of a shift with no coefficient, with one, and so on up to the greatest
-/// number of them, one list after the other.
-fn listed<T: Value<Row = [u64; D]>, const D: usize>(
-    alloc: Global,
-    rows: &Rows<D>,
-    shift: T,
-    log_size: usize,
-) -> Result<Vec<T>, AllocError> {
-    let mut all = Vec::new(alloc);
-    for count in 0..=GREATEST_COUNT {
-        let coeffs: Vec<T> = coefficients(alloc, rows, count)?;
-        let values = shift.list(alloc, &coeffs, log_size)?;
-        all.extend_from_slice(&values)?;
-    }
-    Ok(all)
-}
-
-/// What `eval_coset_into` writes there over so many items, each time over what it wrote before.
-fn written<T: Value<Row = [u64; D]>, const D: usize>(
+/// The generator of the coset of a shift; what `eval_coset` lists over the coset with no coefficient, with one, and
+/// so on up to the greatest number of them, one list after the other; and what `eval_coset_into` writes there over
+/// so many items, each time over what it wrote before. `Ok(None)` where there is no such coset.
+fn listed_and_written<T: Value<Row = [u64; D]>, const D: usize>(
     alloc: Global,
     rows: &Rows<D>,
     shift: T,
     log_size: usize,
     size: usize,
-) -> Result<Vec<T>, AllocError> {
-    let mut all = Vec::new(alloc);
+) -> Result<Option<(T, Vec<T>, Vec<T>)>, AllocError> {
+    let mut generator = None;
+    let mut listed = Vec::new(alloc);
+    let mut written = Vec::new(alloc);
     let mut values = Vec::new(alloc);
     for _ in 0..size {
         values.push(shift)?;
     }
     for count in 0..=GREATEST_COUNT {
         let coeffs: Vec<T> = coefficients(alloc, rows, count)?;
-        if !shift.write(&coeffs, log_size, &mut values) {
-            return Ok(all);
-        }
-        all.extend_from_slice(&values)?;
+        let Some((found, list)) = shift.coset_values(alloc, &coeffs, log_size, &mut values)? else {
+            return Ok(None);
+        };
+        generator = Some(found);
+        listed.extend_from_slice(&list)?;
+        written.extend_from_slice(&values)?;
     }
-    Ok(all)
+    match generator {
+        Some(generator) => Ok(Some((generator, listed, written))),
+        None => Ok(None),
+    }
 }
 
 /// The least number of coefficients with which the item at an index isn't the plain sum at x, if there is one.
@@ -151,19 +143,16 @@ fn assert_coset<T: Value<Row = [u64; D]>, const D: usize>(
     log_size: usize,
     size: usize,
 ) -> Result<(), Fail> {
-    let found = shift.generator(log_size);
+    let rows = &cosets.rows;
+    let found = listed_and_written(rt.alloc(), rows, shift, log_size, size)?;
     assert!(rt;
         found.is_some() == (log_size <= cosets.two_adicity),
         "{log_size}"
     );
-    let Some(generator) = found else {
-        return Ok(());
-    };
-    let rows = &cosets.rows;
-    let listed = listed(rt.alloc(), rows, shift, log_size)?;
-    assert_lists(rt, rows, shift, generator, size, &listed);
-    let written = written(rt.alloc(), rows, shift, log_size, size)?;
-    assert_lists(rt, rows, shift, generator, size, &written);
+    if let Some((generator, listed, written)) = found {
+        assert_lists(rt, rows, shift, generator, size, &listed);
+        assert_lists(rt, rows, shift, generator, size, &written);
+    }
     Ok(())
 }
 
