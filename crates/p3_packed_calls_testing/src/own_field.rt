@@ -30,13 +30,9 @@ fn four_at(x: &FourLanes, lane: usize) -> (u64, u64)
 }
 
 #[test]
-fn products(rt: HostRuntime) {
+fn products_and_lanes(rt: HostRuntime) {
     let square = four() * four();
     assert_eq!(rt; four_at(&square, 0), (6, 2));
     assert_eq!(rt; four_at(&square, 3), (21, 8));
-}
-
-#[test]
-fn a_lane_is_read(rt: HostRuntime) {
     assert_eq!(rt; numbers(four().extract(2)), (3, 1));
 }

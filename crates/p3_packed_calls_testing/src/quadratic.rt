@@ -57,13 +57,9 @@ fn eight_at(x: &EightLanes, lane: usize) -> (u64, u64)
 }
 
 #[test]
-fn sums(rt: HostRuntime) {
+fn sums_and_products(rt: HostRuntime) {
     assert_eq!(rt; four_at(&(four() + four()), 3), (8, 14));
     assert_eq!(rt; eight_at(&(eight() + eight()), 7), (2, 2));
-}
-
-#[test]
-fn products(rt: HostRuntime) {
     let square = four() * four();
     assert_eq!(rt; four_at(&square, 0), (4, 2));
     assert_eq!(rt; four_at(&square, 1), (14, 12));
@@ -82,20 +78,21 @@ fn quotient(x: FourLanes, y: F17x2) -> FourLanes
     x / y
 }
 
+/// A lane is read, the lanes of packings are listed one after the other, and a function goes over lanes.
 #[test]
-fn a_lane_is_read(rt: HostRuntime) {
+fn lanes(rt: HostRuntime) {
     assert_eq!(rt; numbers(four().extract(2)), (3, 5));
     assert_eq!(rt; numbers(eight().extract(5)), (1, 1));
-}
-
-#[test]
-fn lanes_one_after_the_other(rt: HostRuntime) {
     let packings = [four(), four()];
     let mut digits = 0_u64;
     for value in to_ext_iter::<F17, F17x2, FourLanes, _>(packings.iter().copied()) {
         digits = digits.wrapping_mul(10).wrapping_add(numbers(value).0);
     }
     assert_eq!(rt; digits, 12341234);
+    assert_eq!(rt;
+        numbers(sum_of_lanes::<F17, F17x2, FourLanes>(four())),
+        (10, 16)
+    );
 }
 
 #[test]
@@ -106,12 +103,4 @@ fn powers(rt: HostRuntime) {
     assert_eq!(rt; four_at(&powers.current, 2), (13, 4));
     assert_eq!(rt; four_at(&powers.current, 3), (3, 13));
     assert_eq!(rt; four_at(&powers.base, 0), (13, 2));
-}
-
-#[test]
-fn a_function_over_lanes(rt: HostRuntime) {
-    assert_eq!(rt;
-        numbers(sum_of_lanes::<F17, F17x2, FourLanes>(four())),
-        (10, 16)
-    );
 }

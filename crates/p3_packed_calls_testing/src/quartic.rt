@@ -53,7 +53,7 @@ fn eight_at(x: &EightLanes, index: usize, lane: usize) -> u64
 }
 
 #[test]
-fn products(rt: HostRuntime) {
+fn products_and_lanes(rt: HostRuntime) {
     let square = four() * four();
     assert_eq!(rt; four_at(&square, 0, 3), 16);
     assert_eq!(rt; four_at(&square, 2, 3), 31);
@@ -61,10 +61,6 @@ fn products(rt: HostRuntime) {
     let square = eight() * eight();
     assert_eq!(rt; eight_at(&square, 0, 6), 49);
     assert_eq!(rt; eight_at(&square, 3, 6), 14);
-}
-
-#[test]
-fn a_lane_is_read(rt: HostRuntime) {
     let value = four().extract(2);
     assert_eq!(rt; value.value[0].as_canonical_u64(), 3);
 }

@@ -1,4 +1,4 @@
-//! Tests of packings and packed extensions; the rows and texts of their tables.
+//! Tests of packings and packed extensions.
 #![tactic(auto)]
 
 #[cfg(test)]
@@ -29,7 +29,7 @@ mod operation_calls;
 mod operation_tables;
 #[cfg(test)]
 mod row_calls;
-pub mod rows;
+#[cfg(test)]
+mod rows;
 #[cfg(test)]
 mod sequence_calls;
-pub mod texts;

@@ -2,20 +2,20 @@
 
 /// A row of a table.
 #[derive(Clone, Copy)]
-pub struct Row<'a> {
+pub(crate) struct Row<'a> {
     /// The name of the extension.
-    pub field: &'a str,
+    pub(crate) field: &'a str,
     /// The number of lanes.
-    pub lanes: &'a str,
+    pub(crate) lanes: &'a str,
     /// The call, and after it the number of columns or of scales where it has one.
-    pub call: &'a str,
-    pub arguments: &'a str,
-    pub answer: &'a str,
+    pub(crate) call: &'a str,
+    pub(crate) arguments: &'a str,
+    pub(crate) answer: &'a str,
 }
 
 impl<'a> Row<'a> {
     /// The row of a line like `f17x2 4 add_assign_lane: 1,2 1,0 0,1 2,0|1|0,3 = 1,2 1,3 0,1 2,0`.
-    pub fn read(line: &'a str) -> Option<Row<'a>> {
+    pub(crate) fn read(line: &'a str) -> Option<Row<'a>> {
         let (head, sides) = line.split_once(':')?;
         let (arguments, answer) = sides.split_once('=')?;
         let (field, rest) = head.split_once(' ')?;
@@ -30,12 +30,12 @@ impl<'a> Row<'a> {
     }
 
     /// The arguments at an index, which stand between bars.
-    pub fn argument(self, index: usize) -> &'a str {
+    pub(crate) fn argument(self, index: usize) -> &'a str {
         self.arguments.split('|').nth(index).unwrap_or("")
     }
 }
 
 /// The word at an index of a text.
-pub fn word(text: &str, index: usize) -> &str {
+pub(crate) fn word(text: &str, index: usize) -> &str {
     text.split_ascii_whitespace().nth(index).unwrap_or("")
 }

@@ -7,7 +7,7 @@ ghost use Rattle.p3_ext.specs.Values.{ext_ops};
 ghost use Rattle.p3_runs.specs.Runs.{Fit, run};
 ghost use Rattle.p3_bench_prime.specs.Elements.{ops};
 
-use crate::lane_runs::run_by_coefficients;
+use crate::runs::run_by_coefficients;
 use p3_base::field::PrimeField64;
 use p3_base::packed_traits::{Inhabited, Packable, PackedField};
 use p3_bench_packed::packed::Packed;

@@ -1,292 +1,245 @@
-//! Runs over vectors of packings of the bench's extensions. The functions that choose the number of lanes are
-//! generic over the marker of a field: a test then passes the field's constants alone.
-use crate::lane_run_tables as tables;
-use crate::lane_runs::{Vectors, counted_runs_agree};
-use p3_base::packed_traits::{Inhabited, Packable, PackedField};
-use p3_bench_packed::lanes::LaneCount;
-use p3_bench_packed::packed::Packed;
-use p3_bench_prime::baby_bear::BabyBearModulus;
-use p3_bench_prime::binomial_constants::BinomialConstants;
-use p3_bench_prime::form::{OverModulus, Plain};
-use p3_bench_prime::fp::Fp;
-use p3_bench_prime::montgomery::Montgomery;
-use p3_bench_prime::polynomial_constants::PolynomialConstants;
-use p3_bench_prime::small::{M2, M15, M17, M17b, M31};
-use p3_ext::extension::{
-    Binomial, Cubic, ExtField, ExtensionOverAlgebra, ExtensionShape, FrobeniusExtendable,
-    IntegerPolynomial, Modulo, Quintic, Septic,
-};
-use p3_packed::packed_ext_field::{PackedExtField, Packing};
-use p3_packed_testing::rows::Row;
+//! Runs of steps over vectors of packed extension values, and beside each the same run over the values of every
+//! lane alone.
+ghost use Rattle.std.specs.Prelude.{◌≡◌, ◌<◌, ◌*◌, ℕ, length, map};
+ghost use Rattle.p3_theory.specs.Lanes.VectorLanes.{vector_lane};
+ghost use Rattle.p3_theory.specs.Polynomials.Polynomial.{quotient_ops};
+ghost use Rattle.p3_ext.specs.Values.{ext_ops};
+ghost use Rattle.p3_runs.specs.Runs.{Fit, run};
+
+use crate::plain::{List, ZERO};
+use crate::values::{Canonical, Listed};
+use p3_ext::extension::{ExtField, ExtensionShape, FrobeniusExtendable};
+use p3_packings::extension_lanes::PackedExtensionRing;
 use p3_ring::ring::PrimeCharacteristicRing;
+use p3_run_laws::laws::run_lane_steps_by_coefficients;
+use p3_runs::steps::{Step, run_steps, steps_fit};
+use p3_vectorized::vectorized_ext::VectorizedExt;
 use std::alloc::{AllocError, Global};
-use std::process::Abort;
-use std::test::Fail;
 
-/// Runs over vectors of packings of this type of the values of an extension of F.
-pub(crate) trait PackedRuns<
-    F: PrimeCharacteristicRing,
+/// A run, and what the registers hold before it and after it: the lists of the lanes, one register after the
+/// other.
+#[derive(Clone, Copy)]
+pub(crate) struct Run<'a> {
+    /// The number of packings of a vector.
+    pub(crate) packings: usize,
+    pub(crate) steps: &'a [Step],
+    pub(crate) before: &'a [List],
+    pub(crate) after: &'a [List],
+}
+
+/// Vectors of one to three packings.
+pub(crate) type Vectors<F, EF, PE> = (
+    VectorizedExt<F, EF, PE, 1>,
+    VectorizedExt<F, EF, PE, 2>,
+    VectorizedExt<F, EF, PE, 3>,
+);
+
+/// Whether a run leaves what it has to, over vectors of so many packings as it says. Nothing is read of
+/// `_vectors`.
+pub(crate) fn run_agrees<F, PE, S, const D: usize>(
+    alloc: Global,
+    _vectors: Option<Vectors<F, ExtField<F, D, S, F>, PE>>,
+    run: &Run<'_>,
+) -> Result<bool, AllocError>
+where
+    F: FrobeniusExtendable<D, S> + Canonical,
+    PE: PackedExtensionRing<F, ExtField<F, D, S, F>>,
     S: ExtensionShape,
-    const D: usize,
->: Inhabited {
-    /// Vectors of one to three packings.
-    type Vectors: Copy;
-
-    /// `counted_runs_agree` over packings of this type. Nothing is read of `vectors`.
-    fn runs_agree(
-        alloc: Global,
-        vectors: Option<Self::Vectors>,
-        row: Row<'_>,
-    ) -> Result<Option<bool>, AllocError>;
+{
+    match run.packings {
+        1 => vectors_agree::<F, PE, S, D, 1>(alloc, None, run),
+        2 => vectors_agree::<F, PE, S, D, 2>(alloc, None, run),
+        3 => vectors_agree::<F, PE, S, D, 3>(alloc, None, run),
+        _ => Ok(false),
+    }
 }
 
-impl<
-    F: FrobeniusExtendable<D, S> + ExtensionOverAlgebra<P, D, S> + Packable,
+/// Whether a run leaves what it has to, over vectors of N packings and over the values of each lane alone. That
+/// a vector is named tells that it has room; nothing is read of it.
+fn vectors_agree<F, PE, S, const D: usize, const N: usize>(
+    alloc: Global,
+    _vector: Option<VectorizedExt<F, ExtField<F, D, S, F>, PE, N>>,
+    run: &Run<'_>,
+) -> Result<bool, AllocError>
+where
+    F: FrobeniusExtendable<D, S> + Canonical,
+    PE: PackedExtensionRing<F, ExtField<F, D, S, F>>,
     S: ExtensionShape,
-    P: PackedField<F> + Packing<Scalar = F>,
-    const D: usize,
-> PackedRuns<F, S, D> for P {
-    type Vectors = Vectors<F, ExtField<F, D, S, F>, PackedExtField<F, D, S, P>>;
+{
+    let mut registers = registers::<F, ExtField<F, D, S, F>, PE, N>(alloc, run.before)?;
+    if !steps_fit(run.steps, registers.len()) {
+        return Ok(false);
+    }
+    run_by_coefficients::<F, PE, S, D, N>(&mut registers, run.steps);
+    lanes_agree::<F, ExtField<F, D, S, F>, PE, N>(alloc, &registers, run)
+}
 
-    fn runs_agree(
-        alloc: Global,
-        vectors: Option<Vectors<F, ExtField<F, D, S, F>, PackedExtField<F, D, S, P>>>,
-        row: Row<'_>,
-    ) -> Result<Option<bool>, AllocError> {
-        counted_runs_agree::<F, PackedExtField<F, D, S, P>, S, D>(alloc, vectors, row)
+/// The theorem that the library is for: after the run, each register read at lane i, as a list of D
+/// coefficients, is what the steps make of the registers read at that lane before, modulo the extension's
+/// polynomial. So it is at every field that has the extension and at every packing of its values.
+pub(crate) fn run_by_coefficients<F, PE, S, const D: usize, const N: usize>(
+    registers: &mut [VectorizedExt<F, ExtField<F, D, S, F>, PE, N>],
+    steps: &[Step],
+)
+where
+    F: FrobeniusExtendable<D, S>,
+    PE: PackedExtensionRing<F, ExtField<F, D, S, F>>,
+    S: ExtensionShape,
+    requires { Fit (length registers.old) steps.now }
+    ensures { (i : ℕ) → i < PE.LANES * N →
+        map (λ v. (vector_lane PE.ops (ext_ops F.ops F.modulus) PE.ext_lanes PE.LANES i v).value) registers.new
+        ≡ run (quotient_ops F.ops D F.modulus) steps.now (map (λ v. (vector_lane PE.ops (ext_ops F.ops F.modulus) PE.ext_lanes PE.LANES i v).value) registers.old) }
+{
+    run_lane_steps_by_coefficients::<F, PE, D, S, N>(registers, steps)
+}
+
+/// The list at an index, that of zero past the end.
+fn list_at(lists: &[List], index: usize) -> List {
+    match lists.get(index) {
+        Some(list) => *list,
+        None => ZERO,
     }
 }
 
-/// Vectors of packings of N values of the extension of degree D of the residues of a marker.
-type RunVectors<W, S, const D: usize, const N: usize> = Vectors<
-    Fp<W>,
-    ExtField<Fp<W>, D, S, Fp<W>>,
-    PackedExtField<Fp<W>, D, S, Packed<Fp<W>, N>>,
->;
-
-/// A row's run over vectors of packings of N values of the extension by `X^2 = W`. That packings and
-/// vectors are named tells that they have room; nothing is read of them.
-fn quadratic_run_agrees<W: OverModulus<u32> + LaneCount<N>, const N: usize>(
-    alloc: Global,
-    _packing: Option<Packed<Fp<W>, N>>,
-    vectors: Option<RunVectors<W, Binomial<Fp<W>>, 2, N>>,
-    row: Row<'_>,
-) -> Result<Option<bool>, AllocError>
+/// The packing whose lanes are those from a first one on.
+fn packing<F, EF, PE>(lists: &[List], first: usize) -> PE
 where
-    W::Modulus: BinomialConstants<2>,
+    F: Copy,
+    EF: PrimeCharacteristicRing + Listed,
+    PE: PackedExtensionRing<F, EF>,
 {
-    <Packed<Fp<W>, N> as PackedRuns<Fp<W>, Binomial<Fp<W>>, 2>>::runs_agree(alloc, vectors, row)
+    PE::from_ext_fn(|lane: usize| -> EF {
+        let list = list_at(lists, first.wrapping_add(lane));
+        EF::of_list(&list)
+    })
 }
 
-/// The same of the extension by `X^4 = W`.
-fn quartic_run_agrees<W: OverModulus<u32> + LaneCount<N>, const N: usize>(
-    alloc: Global,
-    _packing: Option<Packed<Fp<W>, N>>,
-    vectors: Option<RunVectors<W, Binomial<Fp<W>>, 4, N>>,
-    row: Row<'_>,
-) -> Result<Option<bool>, AllocError>
+/// The vector of these lanes.
+fn vector<F, EF, PE, const N: usize>(lists: &[List]) -> VectorizedExt<F, EF, PE, N>
 where
-    W::Modulus: BinomialConstants<4>,
+    F: Copy,
+    EF: PrimeCharacteristicRing + Listed,
+    PE: PackedExtensionRing<F, EF>,
 {
-    <Packed<Fp<W>, N> as PackedRuns<Fp<W>, Binomial<Fp<W>>, 4>>::runs_agree(alloc, vectors, row)
+    VectorizedExt::new(std::array::from_fn(|k: usize| -> PE {
+        packing::<F, EF, PE>(lists, k.wrapping_mul(PE::LANES))
+    }))
 }
 
-/// The same of the extension modulo a polynomial.
-fn polynomial_run_agrees<
-    W: OverModulus<u32> + LaneCount<N>,
-    S: IntegerPolynomial<D>,
-    const D: usize,
-    const N: usize,
->(
+/// The registers with these lanes.
+fn registers<F, EF, PE, const N: usize>(
     alloc: Global,
-    _packing: Option<Packed<Fp<W>, N>>,
-    vectors: Option<RunVectors<W, Modulo<S, D>, D, N>>,
-    row: Row<'_>,
-) -> Result<Option<bool>, AllocError>
+    lists: &[List],
+) -> Result<Vec<VectorizedExt<F, EF, PE, N>>, AllocError>
 where
-    W::Modulus: PolynomialConstants<D, S>,
+    F: Copy,
+    EF: PrimeCharacteristicRing + Listed,
+    PE: PackedExtensionRing<F, EF>,
 {
-    <Packed<Fp<W>, N> as PackedRuns<Fp<W>, Modulo<S, D>, D>>::runs_agree(alloc, vectors, row)
-}
-
-/// The runs at 4 and 8 lanes.
-fn runs_over_quadratic<W: OverModulus<u32>>(
-    alloc: Global,
-    row: Row<'_>,
-) -> Result<Option<bool>, AllocError>
-where
-    W::Modulus: BinomialConstants<2>,
-{
-    match row.lanes {
-        "4" => quadratic_run_agrees::<W, 4>(alloc, None, None, row),
-        "8" => quadratic_run_agrees::<W, 8>(alloc, None, None, row),
-        _ => Ok(None),
-    }
-}
-
-/// The same at degree 4.
-fn runs_over_quartic<W: OverModulus<u32>>(
-    alloc: Global,
-    row: Row<'_>,
-) -> Result<Option<bool>, AllocError>
-where
-    W::Modulus: BinomialConstants<4>,
-{
-    match row.lanes {
-        "4" => quartic_run_agrees::<W, 4>(alloc, None, None, row),
-        "8" => quartic_run_agrees::<W, 8>(alloc, None, None, row),
-        _ => Ok(None),
-    }
-}
-
-/// The same at degree 3, over packings of four values.
-fn runs_at_degree_3<W: OverModulus<u32>>(
-    alloc: Global,
-    row: Row<'_>,
-) -> Result<Option<bool>, AllocError>
-where
-    W::Modulus: BinomialConstants<3>,
-{
-    match row.lanes {
-        "4" => <Packed<Fp<W>, 4> as PackedRuns<Fp<W>, Binomial<Fp<W>>, 3>>::runs_agree(
-            alloc, None, row,
-        ),
-        _ => Ok(None),
-    }
-}
-
-/// The same at degree 5, over packings of four values.
-fn runs_at_degree_5<W: OverModulus<u32>>(
-    alloc: Global,
-    row: Row<'_>,
-) -> Result<Option<bool>, AllocError>
-where
-    W::Modulus: BinomialConstants<5>,
-{
-    match row.lanes {
-        "4" => <Packed<Fp<W>, 4> as PackedRuns<Fp<W>, Binomial<Fp<W>>, 5>>::runs_agree(
-            alloc, None, row,
-        ),
-        _ => Ok(None),
-    }
-}
-
-/// The same at degree 6, over packings of four values.
-fn runs_at_degree_6<W: OverModulus<u32>>(
-    alloc: Global,
-    row: Row<'_>,
-) -> Result<Option<bool>, AllocError>
-where
-    W::Modulus: BinomialConstants<6>,
-{
-    match row.lanes {
-        "4" => <Packed<Fp<W>, 4> as PackedRuns<Fp<W>, Binomial<Fp<W>>, 6>>::runs_agree(
-            alloc, None, row,
-        ),
-        _ => Ok(None),
-    }
-}
-
-/// The same at degree 8, over packings of four values.
-fn runs_at_degree_8<W: OverModulus<u32>>(
-    alloc: Global,
-    row: Row<'_>,
-) -> Result<Option<bool>, AllocError>
-where
-    W::Modulus: BinomialConstants<8>,
-{
-    match row.lanes {
-        "4" => <Packed<Fp<W>, 4> as PackedRuns<Fp<W>, Binomial<Fp<W>>, 8>>::runs_agree(
-            alloc, None, row,
-        ),
-        _ => Ok(None),
-    }
-}
-
-/// The same by `X^5 = 1 - X^2`.
-fn runs_over_quintic<W: OverModulus<u32>>(
-    alloc: Global,
-    row: Row<'_>,
-) -> Result<Option<bool>, AllocError>
-where
-    W::Modulus: PolynomialConstants<5, Quintic>,
-{
-    match row.lanes {
-        "4" => polynomial_run_agrees::<W, Quintic, 5, 4>(alloc, None, None, row),
-        _ => Ok(None),
-    }
-}
-
-/// The same by `X^3 = X + 1`.
-fn runs_over_cubic<W: OverModulus<u32>>(
-    alloc: Global,
-    row: Row<'_>,
-) -> Result<Option<bool>, AllocError>
-where
-    W::Modulus: PolynomialConstants<3, Cubic>,
-{
-    match row.lanes {
-        "4" => polynomial_run_agrees::<W, Cubic, 3, 4>(alloc, None, None, row),
-        "8" => polynomial_run_agrees::<W, Cubic, 3, 8>(alloc, None, None, row),
-        _ => Ok(None),
-    }
-}
-
-/// The same by `X^7 = X + 1`.
-fn runs_over_septic<W: OverModulus<u32>>(
-    alloc: Global,
-    row: Row<'_>,
-) -> Result<Option<bool>, AllocError>
-where
-    W::Modulus: PolynomialConstants<7, Septic>,
-{
-    match row.lanes {
-        "4" => polynomial_run_agrees::<W, Septic, 7, 4>(alloc, None, None, row),
-        "8" => polynomial_run_agrees::<W, Septic, 7, 8>(alloc, None, None, row),
-        _ => Ok(None),
-    }
-}
-
-/// Whether the run of a line has its registers after; `Ok(None)` where the line can't be read or there is
-/// none.
-fn run_agrees(alloc: Global, line: &str) -> Result<Option<bool>, AllocError> {
-    let Some(row) = Row::read(line) else {
-        return Ok(None);
-    };
-    match row.field {
-        "f17x2" => runs_over_quadratic::<Plain<M17>>(alloc, row),
-        "f17bx2" => runs_over_quadratic::<Plain<M17b>>(alloc, row),
-        "z15x2" => runs_over_quadratic::<Plain<M15>>(alloc, row),
-        "f31x3" => runs_at_degree_3::<Plain<M31>>(alloc, row),
-        "f17x4" => runs_over_quartic::<Plain<M17>>(alloc, row),
-        "f31x5" => runs_at_degree_5::<Plain<M31>>(alloc, row),
-        "f31x6" => runs_at_degree_6::<Plain<M31>>(alloc, row),
-        "f17x8" => runs_at_degree_8::<Plain<M17>>(alloc, row),
-        "f17t5" => runs_over_quintic::<Plain<M17>>(alloc, row),
-        "f2t5" => runs_over_quintic::<Plain<M2>>(alloc, row),
-        "f31t3" => runs_over_cubic::<Plain<M31>>(alloc, row),
-        "f2t7" => runs_over_septic::<Plain<M2>>(alloc, row),
-        "bbx4" => runs_over_quartic::<Montgomery<BabyBearModulus>>(alloc, row),
-        _ => Ok(None),
-    }
-}
-
-/// Every line of a table has its registers after.
-fn assert_table(rt: &(impl Abort + AllocGlobal), table: &str) -> Result<(), Fail> {
-    for line in table.lines() {
-        if !line.is_empty() {
-            assert_eq!(rt; run_agrees(rt.alloc(), line)?, Some(true), "{line}");
+    let mut registers = Vec::new(alloc);
+    let lanes = PE::LANES.wrapping_mul(N);
+    if lanes != 0 {
+        for part in lists.chunks(lanes) {
+            registers.push(vector::<F, EF, PE, N>(part))?;
         }
     }
-    Ok(())
+    Ok(registers)
 }
 
-#[test]
-fn runs_over_vectors(rt: HostRuntime) -> Result<(), Fail> {
-    assert_table(&rt, tables::RUNS_BY_HAND)?;
-    assert_table(&rt, tables::RUNS_OVER_F17X2)?;
-    assert_table(&rt, tables::RUNS_OVER_F31T3)?;
-    assert_table(&rt, tables::RUNS_OVER_F2T7)?;
-    assert_table(&rt, tables::RUNS_OVER_OTHERS)?;
-    assert_table(&rt, tables::RUNS_OVER_BBX4)
+/// The value of a register at a lane, where there is one.
+fn at_lane<F: Copy, EF: PrimeCharacteristicRing, PE: PackedExtensionRing<F, EF>, const N: usize>(
+    register: &VectorizedExt<F, EF, PE, N>,
+    lane: usize,
+) -> Option<EF> {
+    if lane < PE::LANES.checked_mul(N)? {
+        Some(register.extract(lane))
+    } else {
+        None
+    }
+}
+
+/// Whether the registers hold the lists after the run at every lane, and the steps make the same of the values of
+/// that lane alone.
+fn lanes_agree<F, EF, PE, const N: usize>(
+    alloc: Global,
+    registers: &[VectorizedExt<F, EF, PE, N>],
+    run: &Run<'_>,
+) -> Result<bool, AllocError>
+where
+    F: Copy,
+    EF: PrimeCharacteristicRing + Listed,
+    PE: PackedExtensionRing<F, EF>,
+{
+    let Some(lanes) = PE::LANES.checked_mul(N) else {
+        return Ok(false);
+    };
+    for lane in 0..lanes {
+        let lists = every(alloc, run.after, lane, lanes)?;
+        let alone = every(alloc, run.before, lane, lanes)?;
+        if !hold(registers, lane, &lists) || !makes::<EF>(alloc, &alone, run.steps, &lists)? {
+            return Ok(false);
+        }
+    }
+    Ok(lanes.checked_mul(registers.len()) == Some(run.after.len()))
+}
+
+/// Every list from `first` on, `step` after `step`.
+fn every(
+    alloc: Global,
+    lists: &[List],
+    first: usize,
+    step: usize,
+) -> Result<Vec<List>, AllocError> {
+    let mut found = Vec::new(alloc);
+    for (i, list) in lists.iter().enumerate() {
+        if step != 0 && i % step == first {
+            found.push(*list)?;
+        }
+    }
+    Ok(found)
+}
+
+/// Whether registers hold these lists at a lane.
+fn hold<F, EF, PE, const N: usize>(
+    registers: &[VectorizedExt<F, EF, PE, N>],
+    lane: usize,
+    lists: &[List],
+) -> bool
+where
+    F: Copy,
+    EF: PrimeCharacteristicRing + Listed,
+    PE: PackedExtensionRing<F, EF>,
+{
+    for (register, list) in registers.iter().zip(lists) {
+        let Some(value) = at_lane(register, lane) else {
+            return false;
+        };
+        if value.list() != *list {
+            return false;
+        }
+    }
+    registers.len() == lists.len()
+}
+
+/// Whether the steps make these lists of the values of others.
+fn makes<EF: PrimeCharacteristicRing + Listed>(
+    alloc: Global,
+    before: &[List],
+    steps: &[Step],
+    after: &[List],
+) -> Result<bool, AllocError> {
+    let mut values: Vec<EF> = Vec::new(alloc);
+    for list in before {
+        values.push(EF::of_list(list))?;
+    }
+    if !steps_fit(steps, values.len()) {
+        return Ok(false);
+    }
+    run_steps(&mut values, steps);
+    for (value, list) in values.iter().zip(after) {
+        if value.list() != *list {
+            return Ok(false);
+        }
+    }
+    Ok(values.len() == after.len())
 }

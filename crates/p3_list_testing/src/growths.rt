@@ -1,0 +1,95 @@
+//! The calls that take memory: each of the growths that a call asks for is refused in turn, at many lengths.
+mod calls;
+mod numbers;
+mod table;
+
+use crate::canonical::Canonical;
+use calls::{Callee, Scalars, Splits};
+use numbers::Pair;
+use p3_base::field::PrimeField32;
+use p3_base::packed_traits::Packable;
+use p3_bench_prime::extensions::F17x2;
+use p3_bench_prime::goldilocks::Goldilocks;
+use p3_bench_prime::small::F17;
+use p3_ext::extension::{BinomialExtensionField, BinomiallyExtendable};
+use p3_field_testing::refusing::Refusing;
+use p3_spaces::in_memory::InMemory;
+use std::alloc::Global;
+use std::process::Abort;
+use std::test::Fail;
+use table::{Call, LIMBS, PAIRS, Row, SCALARS, answered, growths_at};
+
+/// The lengths that are tried.
+const LENGTHS: [usize; 25] = [
+    0, 1, 2, 3, 4, 5, 6, 7, 8, 9, 10, 11, 12, 13, 14, 15, 16, 17, 100, 1000, 1023, 1024, 1025,
+    1027, 2049,
+];
+
+/// Whether a call answers its items where as many growths pass as it asks for, and asks for no more, or is
+/// refused at the first growth that doesn't pass, and no block is kept.
+fn is_right<C: Callee>(
+    alloc: Global,
+    passing: u64,
+    callee: C,
+    call: Call,
+    items: &[Pair],
+    needed: u64,
+) -> bool {
+    let heap = Refusing::after(alloc, passing);
+    let ample = Refusing::after(alloc, u64::MAX);
+    let is_right = match callee.answers(&heap, &ample, call, items) {
+        Ok(is_answered) => is_answered && needed <= passing && heap.growths() == needed,
+        Err(_) => passing < needed && heap.growths() == passing + 1,
+    };
+    is_right && heap.blocks() == 0 && ample.blocks() == 0
+}
+
+/// Whether a call answers its items where memory is left.
+fn is_ample<C: Callee>(alloc: Global, callee: C, call: Call, items: &[Pair]) -> bool {
+    match callee.answers(alloc, alloc, call, items) {
+        Ok(is_answered) => is_answered,
+        Err(_) => false,
+    }
+}
+
+/// Asserts of each call, at each length, that it answers its items where its growths pass, or one more, and
+/// is refused where fewer do, and that after each of these calls one with memory answers the items.
+fn assert_growths<C: Callee>(
+    rt: &(impl Abort + AllocGlobal),
+    callee: C,
+    rows: &[Row],
+) -> Result<(), Fail> {
+    for (name, call, growths) in rows {
+        for count in LENGTHS {
+            let items = answered(rt.alloc(), *call, count)?;
+            let needed = growths_at(*growths, count);
+            for passing in 0..=needed.saturating_add(1) {
+                assert!(rt;
+                    is_right(rt.alloc(), passing, callee, *call, &items, needed),
+                    "{name} {count} {passing}"
+                );
+                assert!(rt;
+                    is_ample(rt.alloc(), callee, *call, &items),
+                    "{name} {count}"
+                );
+            }
+        }
+    }
+    Ok(())
+}
+
+/// Asserts the calls over a field of 17 elements, over its extension, of which X is given, and of splits into
+/// values of it.
+fn assert_calls<F: BinomiallyExtendable<2> + PrimeField32 + Canonical + InMemory + Packable>(
+    rt: &(impl Abort + AllocGlobal),
+    x: BinomialExtensionField<F, 2>,
+) -> Result<(), Fail> {
+    assert_growths(rt, Scalars::<F>::of_field(), &SCALARS)?;
+    assert_growths(rt, x, &PAIRS)?;
+    assert_growths(rt, Splits::<Goldilocks, F>::of_fields(), &LIMBS)
+}
+
+#[test]
+fn growths_of_calls(rt: HostRuntime) -> Result<(), Fail> {
+    assert_calls::<F17>(&rt, F17x2::new([F17::new(0), F17::new(1)]))
+}

@@ -1,0 +1,215 @@
+//! Runs over vectors of packings of the bench's extensions, told by the rows of tables.
+use crate::calls::Call;
+use crate::extensions::{
+    at_degree_2, at_degree_3, at_degree_4, at_degree_5, at_degree_6, at_degree_8, over_cubic,
+    over_quintic, over_septic,
+};
+use crate::plain::{List, MOST, ZERO};
+use crate::run_tables as tables;
+use crate::runs::Run;
+use p3_bench_prime::baby_bear::BabyBearModulus;
+use p3_bench_prime::form::Plain;
+use p3_bench_prime::montgomery::Montgomery;
+use p3_bench_prime::small::{M2, M15, M17, M17b, M31};
+use p3_runs::steps::Step;
+use std::alloc::{AllocError, Global};
+use std::process::Abort;
+use std::test::Fail;
+
+/// The extensions, by their names.
+#[derive(Clone, Copy)]
+enum BenchExtension {
+    F17x2,
+    F17bx2,
+    Z15x2,
+    F31x3,
+    F17x4,
+    BbX4,
+    F31x5,
+    F31x6,
+    F17x8,
+    F31t3,
+    F17t5,
+    F2t5,
+    F2t7,
+}
+
+impl BenchExtension {
+    /// The extension of a name.
+    fn of_name(name: &str) -> Option<Self> {
+        match name {
+            "f17x2" => Some(Self::F17x2),
+            "f17bx2" => Some(Self::F17bx2),
+            "z15x2" => Some(Self::Z15x2),
+            "f31x3" => Some(Self::F31x3),
+            "f17x4" => Some(Self::F17x4),
+            "bbx4" => Some(Self::BbX4),
+            "f31x5" => Some(Self::F31x5),
+            "f31x6" => Some(Self::F31x6),
+            "f17x8" => Some(Self::F17x8),
+            "f31t3" => Some(Self::F31t3),
+            "f17t5" => Some(Self::F17t5),
+            "f2t5" => Some(Self::F2t5),
+            "f2t7" => Some(Self::F2t7),
+            _ => None,
+        }
+    }
+
+    /// Whether a call gives what it has to, over packings of so many values; false where there are no such
+    /// packings here.
+    fn agrees(self, alloc: Global, lanes: usize, call: &Call<'_>) -> Result<bool, AllocError> {
+        match self {
+            Self::F17x2 => at_degree_2::<Plain<M17>>(alloc, lanes, call),
+            Self::F17bx2 => at_degree_2::<Plain<M17b>>(alloc, lanes, call),
+            Self::Z15x2 => at_degree_2::<Plain<M15>>(alloc, lanes, call),
+            Self::F31x3 => at_degree_3::<Plain<M31>>(alloc, lanes, call),
+            Self::F17x4 => at_degree_4::<Plain<M17>>(alloc, lanes, call),
+            Self::BbX4 => at_degree_4::<Montgomery<BabyBearModulus>>(alloc, lanes, call),
+            Self::F31x5 => at_degree_5::<Plain<M31>>(alloc, lanes, call),
+            Self::F31x6 => at_degree_6::<Plain<M31>>(alloc, lanes, call),
+            Self::F17x8 => at_degree_8::<Plain<M17>>(alloc, lanes, call),
+            Self::F31t3 => over_cubic::<Plain<M31>>(alloc, lanes, call),
+            Self::F17t5 => over_quintic::<Plain<M17>>(alloc, lanes, call),
+            Self::F2t5 => over_quintic::<Plain<M2>>(alloc, lanes, call),
+            Self::F2t7 => over_septic::<Plain<M2>>(alloc, lanes, call),
+        }
+    }
+}
+
+/// The step of a name with one register read.
+fn unary_step(name: &str, d: usize, a: usize) -> Option<Step> {
+    match name {
+        "Neg" => Some(Step::Neg { d, a }),
+        "Square" => Some(Step::Square { d, a }),
+        "Double" => Some(Step::Double { d, a }),
+        _ => None,
+    }
+}
+
+/// The step of a name with a number or a second register read.
+fn binary_step(name: &str, d: usize, a: usize, last: u64) -> Option<Step> {
+    let b = last as usize;
+    match name {
+        "Exp" => Some(Step::Exp { d, a, e: last }),
+        "Mul2Exp" => Some(Step::Mul2Exp { d, a, e: last }),
+        "Add" => Some(Step::Add { d, a, b }),
+        "Sub" => Some(Step::Sub { d, a, b }),
+        "Mul" => Some(Step::Mul { d, a, b }),
+        _ => None,
+    }
+}
+
+/// The step of a word, as `Add:0:1:2`.
+fn step(word: &str) -> Option<Step> {
+    let mut parts = word.split(':');
+    let name = parts.next()?;
+    let d = parts.next()?.parse::<usize>().ok()?;
+    let a = parts.next()?.parse::<usize>().ok()?;
+    match parts.next() {
+        Some(last) => binary_step(name, d, a, last.parse::<u64>().ok()?),
+        None => unary_step(name, d, a),
+    }
+}
+
+/// The steps of a text; none where a word can't be read.
+fn steps_of(alloc: Global, text: &str) -> Result<Option<Vec<Step>>, AllocError> {
+    let mut steps = Vec::new(alloc);
+    for word in text.split_ascii_whitespace() {
+        let Some(step) = step(word) else {
+            return Ok(None);
+        };
+        steps.push(step)?;
+    }
+    Ok(Some(steps))
+}
+
+/// The coefficient list of a word.
+fn list_of(word: &str) -> List {
+    let mut list = ZERO;
+    for (i, number) in word.split(',').enumerate() {
+        if i < MOST {
+            list[i] = number.parse::<u64>().unwrap_or(0);
+        }
+    }
+    list
+}
+
+/// The coefficient lists of a text.
+fn lists_of(alloc: Global, text: &str) -> Result<Vec<List>, AllocError> {
+    let mut lists = Vec::new(alloc);
+    for word in text.split_ascii_whitespace() {
+        lists.push(list_of(word))?;
+    }
+    Ok(lists)
+}
+
+/// A row of a table.
+#[derive(Clone, Copy)]
+struct Row<'a> {
+    extension: BenchExtension,
+    /// The number of lanes of a packing.
+    lanes: usize,
+    /// The number of packings of a vector.
+    packings: usize,
+    before: &'a str,
+    steps: &'a str,
+    after: &'a str,
+}
+
+impl<'a> Row<'a> {
+    /// The row of a line like `f17x2 4 run_lane_steps 1: 0,1 1,1 2,1 3,1|Neg:0:0 = 0,16 16,16 15,16 14,16`.
+    fn read(line: &'a str) -> Option<Row<'a>> {
+        let (head, sides) = line.split_once(':')?;
+        let (arguments, after) = sides.split_once('=')?;
+        let (before, steps) = arguments.split_once('|')?;
+        let mut words = head.split(' ');
+        Some(Row {
+            extension: BenchExtension::of_name(words.next()?)?,
+            lanes: words.next()?.parse::<usize>().ok()?,
+            packings: words.nth(1)?.parse::<usize>().ok()?,
+            before,
+            steps,
+            after,
+        })
+    }
+}
+
+/// Whether the run of a line has its registers after; `Ok(None)` where the line can't be read or there is
+/// none.
+fn run_agrees(alloc: Global, line: &str) -> Result<Option<bool>, AllocError> {
+    let Some(row) = Row::read(line) else {
+        return Ok(None);
+    };
+    let Some(steps) = steps_of(alloc, row.steps)? else {
+        return Ok(None);
+    };
+    let before = lists_of(alloc, row.before)?;
+    let after = lists_of(alloc, row.after)?;
+    let call = Call::Run(Run {
+        packings: row.packings,
+        steps: &steps,
+        before: &before,
+        after: &after,
+    });
+    Ok(Some(row.extension.agrees(alloc, row.lanes, &call)?))
+}
+
+/// Every line of a table has its registers after.
+fn assert_table(rt: &(impl Abort + AllocGlobal), table: &str) -> Result<(), Fail> {
+    for line in table.lines() {
+        if !line.is_empty() {
+            assert_eq!(rt; run_agrees(rt.alloc(), line)?, Some(true), "{line}");
+        }
+    }
+    Ok(())
+}
+
+#[test]
+fn runs_over_vectors(rt: HostRuntime) -> Result<(), Fail> {
+    assert_table(&rt, tables::RUNS_BY_HAND)?;
+    assert_table(&rt, tables::RUNS_OVER_F17X2)?;
+    assert_table(&rt, tables::RUNS_OVER_F31T3)?;
+    assert_table(&rt, tables::RUNS_OVER_F2T7)?;
+    assert_table(&rt, tables::RUNS_OVER_OTHERS)?;
+    assert_table(&rt, tables::RUNS_OVER_BBX4)
+}
