@@ -79,7 +79,6 @@ pub(crate) enum ToolCall {
     ParAddScaled,
     Scale,
     ParScale,
-    FieldToArray,
 }
 
 /// A call on a coset. Its first arguments are the shift and the log size.
@@ -190,7 +189,6 @@ fn tool_call_of(name: &str) -> Option<ToolCall> {
         "par_add_scaled_slice_in_place" => Some(ToolCall::ParAddScaled),
         "scale_slice_in_place_single_core" => Some(ToolCall::Scale),
         "par_scale_slice_in_place" => Some(ToolCall::ParScale),
-        "field_to_array 4" => Some(ToolCall::FieldToArray),
         _ => None,
     }
 }

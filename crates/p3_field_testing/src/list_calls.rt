@@ -69,19 +69,40 @@ fn total<R: RingSums>(call: ListCall, left: &[R], right: &[R]) -> Option<R> {
     }
 }
 
-/// The sums of products of two lists, by the calls on algebras, in chunks and not, by the chunk that is
-/// given, and by the call on rings.
-fn sums<R: PrimeCharacteristicRing>(values: &[R], coefficients: &[R]) -> [R; 6]
+/// The calls that give the sum of the products of two lists.
+#[derive(Clone, Copy)]
+enum SumCall {
+    Ring,
+    Algebra,
+    Batched,
+    ChunkedProduct,
+    ChunkedCombination,
+    GivenChunk,
+}
+
+/// All of them.
+const SUM_CALLS: [SumCall; 6] = [
+    SumCall::Ring,
+    SumCall::Algebra,
+    SumCall::Batched,
+    SumCall::ChunkedProduct,
+    SumCall::ChunkedCombination,
+    SumCall::GivenChunk,
+];
+
+/// The sum of the products of two lists, by a call on rings or on algebras, in chunks or not, and by the chunk
+/// that is given.
+fn sum_of_products<R: PrimeCharacteristicRing>(call: SumCall, values: &[R], coefficients: &[R]) -> R
     requires { length values.now ≡ length coefficients.now }
 {
-    [
-        R::dot_product(values, coefficients),
-        <R as Algebra<R>>::mixed_dot_product(values, coefficients),
-        <R as Algebra<R>>::batched_linear_combination(values, coefficients),
-        chunked_mixed_dot_product::<4, R, R>(values, coefficients),
-        chunked_linear_combination::<4, R, R>(values, coefficients),
-        dispatch_chunked_mixed_dot_product(values, coefficients, 4),
-    ]
+    match call {
+        SumCall::Ring => R::dot_product(values, coefficients),
+        SumCall::Algebra => <R as Algebra<R>>::mixed_dot_product(values, coefficients),
+        SumCall::Batched => <R as Algebra<R>>::batched_linear_combination(values, coefficients),
+        SumCall::ChunkedProduct => chunked_mixed_dot_product::<4, R, R>(values, coefficients),
+        SumCall::ChunkedCombination => chunked_linear_combination::<4, R, R>(values, coefficients),
+        SumCall::GivenChunk => dispatch_chunked_mixed_dot_product(values, coefficients, 4),
+    }
 }
 
 /// Whether every call answers this sum of the products of two lists.
@@ -93,8 +114,8 @@ fn are_sums<R: PrimeCharacteristicRing + Numbered>(
     if values.len() != coefficients.len() {
         return false;
     }
-    for sum in sums(values, coefficients) {
-        if !holds(&sum, answer) {
+    for call in SUM_CALLS {
+        if !holds(&sum_of_products(call, values, coefficients), answer) {
             return false;
         }
     }

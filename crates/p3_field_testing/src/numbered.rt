@@ -63,7 +63,7 @@ impl Numbered for u8 {
 
     fn read(numbers: &[u64], first: usize) -> u8 {
         match numbers.get(first) {
-            Some(number) => *number as u8,
+            Some(number) => u8::try_from(*number).unwrap_or(0),
             None => 0,
         }
     }
@@ -80,7 +80,7 @@ impl Numbered for u32 {
 
     fn read(numbers: &[u64], first: usize) -> u32 {
         match numbers.get(first) {
-            Some(number) => *number as u32,
+            Some(number) => u32::try_from(*number).unwrap_or(0),
             None => 0,
         }
     }

@@ -407,5 +407,4 @@ par_add_scaled_slice_in_place;31,62|10,20|3;61,122
 scale_slice_in_place_single_core;61,122|3;183,366
 par_scale_slice_in_place;183,366|3;549,1098
 horner_acc;2,3,5|73|6;15968
-dot_product of iterators;2,4|3,5,7;26
-field_to_array 4;9;9,0,0,0";
+dot_product of iterators;2,4|3,5,7;26";
