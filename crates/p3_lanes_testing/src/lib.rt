@@ -3,50 +3,44 @@
 #![tactic(auto)]
 
 #[cfg(test)]
-mod algebra_calls;
-#[cfg(test)]
-mod cases;
-#[cfg(test)]
-mod columns;
-#[cfg(test)]
-mod extension_powers;
-#[cfg(test)]
-mod interleaves;
-#[cfg(test)]
 mod kernel_tables;
 #[cfg(test)]
 mod kernels;
 #[cfg(test)]
-mod lane_calls;
-#[cfg(test)]
-mod numbered;
-#[cfg(test)]
 mod numbers;
+#[cfg(test)]
+mod operations;
+#[cfg(test)]
+mod packing_blocks;
 #[cfg(test)]
 mod packing_calls;
 #[cfg(test)]
+mod packing_columns;
+#[cfg(test)]
+mod packing_list_calls;
+#[cfg(test)]
 mod packing_list_tables;
+#[cfg(test)]
+mod packing_quotients;
+#[cfg(test)]
+mod packing_slices;
 #[cfg(test)]
 mod packing_sum_tables;
 #[cfg(test)]
+mod packing_sums;
+#[cfg(test)]
 mod packing_tables;
 #[cfg(test)]
-mod packings;
-#[cfg(test)]
-mod power_calls;
+mod packing_types;
 #[cfg(test)]
 mod power_growths;
 #[cfg(test)]
-mod quotients;
+mod power_lists;
 #[cfg(test)]
 mod rows;
 #[cfg(test)]
-mod slice_calls;
-#[cfg(test)]
-mod sums;
-#[cfg(test)]
 mod vector_blocks;
 #[cfg(test)]
-mod vector_tables;
+mod vector_calls;
 #[cfg(test)]
-mod vectors;
+mod vector_tables;

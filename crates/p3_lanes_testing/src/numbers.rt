@@ -1,16 +1,27 @@
-//! Arrays of words, told by lists of numbers.
+//! Lists of numbers, read from the texts of the tables.
 ghost use Rattle.std.specs.Prelude.{◌≡◌, ℕ, ◌<◌, Bool, true, slice_index};
 
-/// The words of a list of N numbers; none where it has more or fewer, or one of more than 32 bits.
-pub(crate) fn words<const N: usize>(numbers: &[u64]) -> Option<[u32; N]> {
-    let mut words = [0; N];
-    for i in 0..N {
-        words[i] = u32::try_from(*numbers.get(i)?).ok()?;
+/// The N numbers of a text with commas; none where it has more or fewer, or another word. A text that
+/// ends with two points has its number N times.
+pub(crate) fn numbers<const N: usize>(text: &str) -> Option<[u32; N]> {
+    if let Some(word) = text.strip_suffix("..") {
+        let number = word.parse::<u32>().ok()?;
+        return Some([number; N]);
     }
-    if numbers.len() == N {
-        Some(words)
-    } else {
-        None
+    if text.split_terminator(',').count() != N {
+        return None;
+    }
+    for word in text.split_terminator(',') {
+        word.parse::<u32>().ok()?;
+    }
+    Some(std::array::from_fn(|i: usize| -> u32 { number_at(text, i) }))
+}
+
+/// The number at an index of a text.
+fn number_at(text: &str, index: usize) -> u32 {
+    match text.split_terminator(',').nth(index) {
+        Some(word) => word.parse::<u32>().unwrap_or(0),
+        None => 0,
     }
 }
 

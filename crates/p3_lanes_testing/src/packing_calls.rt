@@ -1,101 +1,125 @@
-//! Calls on packings of a field's values, and the groups that the calls form.
-use crate::algebra_calls::algebra_agrees;
-use crate::cases::{Call, Case};
-use crate::columns::{ColumnRooms, counted_columns_agree};
-use crate::interleaves::blocks_agree;
-use crate::lane_calls::lanes_agree;
-use crate::numbered::Numbered;
-use crate::power_calls::powers_agree;
-use crate::quotients::{quotient_agrees, scalar_quotient_agrees};
-use crate::slice_calls::slices_agree;
-use crate::sums::{coefficients_agree, counted_columnwise_agree};
-use crate::vectors::{Vectors, counted_vectors_agree};
+//! Calls on packings of a prime field's values, told by the rows of tables.
+use crate::operations::{mixed_product, operation, product};
+use crate::packing_blocks::blocks_agree;
+use crate::packing_columns::{Rooms, counted_columns_agree};
+use crate::packing_list_calls::{added, are_powers, scaled};
+use crate::packing_quotients::{quotient, scalar_quotient};
+use crate::packing_slices::{lengths_agree, loaded, slices_agree, stored};
+use crate::packing_sums::{counted_columnwise_agree, sums_agree};
+use crate::power_growths::lists_grow;
+use crate::power_lists::are_taken;
+use crate::rows::{Row, Shape, entry, holds, packing, packings, value_at, values};
+use crate::vector_calls::{Vectors, counted_vectors_agree};
 use p3_base::field::Field;
-use p3_base::packed_traits::{PackedField, PackedFieldPow2};
+use p3_base::packed_traits::{PackedField, PackedFieldPow2, PackedValue};
+use p3_ring::ring::PrimeCharacteristicRing;
 use std::alloc::{AllocError, Global};
 
-/// What calls on packings P of values of F make values of: where a signature names them, it is known that they
-/// have room.
-pub(crate) type Rooms<F, P> = (ColumnRooms<F, P>, Vectors<F, P>);
-
-/// Calls on packings whose number of lanes is a power of two, implemented once for all packings. The groups
-/// are apart so that each is compiled for those fields alone that rows name with it.
-pub(crate) trait Group {
-    /// Whether a call over packings P of values of F has its answer. Nothing is read of `rooms`.
-    fn agrees<F: Field + Numbered, P: PackedFieldPow2<F> + Numbered>(
-        alloc: Global,
-        rooms: Option<Rooms<F, P>>,
-        case: &Case,
-    ) -> Result<bool, AllocError>;
-}
-
-/// Calls on packings one by one, in lists, and on slices.
-pub(crate) struct Packings;
-
-/// Calls on columns of rows.
-pub(crate) struct Columns;
-
-/// Calls on vectors of packings.
-pub(crate) struct VectorsOfPackings;
-
-/// Whether a call on packings of any number of lanes has its answer. Nothing is read of `_rooms`.
-pub(crate) fn packings_agree<F: Field + Numbered, P: PackedField<F> + Numbered>(
+/// What a call that answers a packing answers; `Ok(None)` where the row names no such call.
+fn answered<F: Field, P: PackedField<F>>(
     alloc: Global,
-    _rooms: Option<Rooms<F, P>>,
-    case: &Case,
-) -> Result<bool, AllocError> {
-    match case.call {
-        Call::Algebra(call) => algebra_agrees::<F, P>(alloc, call, case),
-        Call::Lanes(call) => lanes_agree::<F, P>(alloc, call, case),
-        Call::Divide => Ok(quotient_agrees::<F, P>(case)),
-        Call::DivideByScalar => Ok(scalar_quotient_agrees::<F, P>(case)),
-        Call::Slices(call) => slices_agree::<F, P>(alloc, call, case),
-        Call::Powers(call) => powers_agree::<F, P>(alloc, call, case),
-        Call::Coefficientwise => coefficients_agree::<F, P>(alloc, &[], case),
-        Call::Columnwise(scales) => counted_columnwise_agree::<F, P>(alloc, &[], scales, case),
-        _ => Ok(false),
+    row: Row<'_>,
+) -> Result<Option<P>, AllocError> {
+    let (first, second) = (row.argument(0), row.argument(1));
+    match row.call {
+        "dot_product" | "mixed_dot_product" => Ok(Some(sum_of_products::<F, P>(alloc, row)?)),
+        "load_block" => loaded::<F, P>(alloc, first, second),
+        "set_lane" => Ok(with_lane::<F, P>(first, second, row.argument(2))),
+        _ => Ok(operated::<F, P>(row.call, first, second)),
     }
 }
 
-impl Group for Packings {
-    fn agrees<F: Field + Numbered, P: PackedFieldPow2<F> + Numbered>(
-        alloc: Global,
-        rooms: Option<Rooms<F, P>>,
-        case: &Case,
-    ) -> Result<bool, AllocError> {
-        match case.call {
-            Call::Interleave => Ok(blocks_agree::<F, P>(case)),
-            _ => packings_agree::<F, P>(alloc, rooms, case),
-        }
+/// The sum of the products of a list of packings and one of packings, or of scalars.
+fn sum_of_products<F: Field, P: PackedField<F>>(
+    alloc: Global,
+    row: Row<'_>,
+) -> Result<P, AllocError> {
+    let xs = packings::<F, P>(alloc, row.argument(0))?;
+    if row.call == "dot_product" {
+        let ys = packings::<F, P>(alloc, row.argument(1))?;
+        return Ok(product(&xs, &ys));
+    }
+    let scalars: Vec<F> = values(alloc, row.argument(1))?;
+    Ok(mixed_product(&xs, &scalars))
+}
+
+/// What an operation on packings answers.
+fn operated<F: Field, P: PackedField<F>>(call: &str, left: &str, right: &str) -> Option<P> {
+    let x = packing::<F, P>(left);
+    let y = packing::<F, P>(right);
+    let before = value_at::<F>(left, 0)?;
+    let after = entry::<F>(right, 0);
+    match call {
+        "broadcast" => Some(P::broadcast(before)),
+        "div" => quotient::<F, P>(x, y),
+        "div scalar" => scalar_quotient::<F, P>(x, right),
+        _ => operation::<F, P>(call, x, y, before, after, right),
     }
 }
 
-impl Group for Columns {
-    fn agrees<F: Field + Numbered, P: PackedFieldPow2<F> + Numbered>(
-        alloc: Global,
-        _rooms: Option<Rooms<F, P>>,
-        case: &Case,
-    ) -> Result<bool, AllocError> {
-        match case.call {
-            Call::Columns(call, count) => {
-                counted_columns_agree::<F, P>(alloc, None, count, call, case)
-            }
-            _ => Ok(false),
-        }
+/// The packing with a value written to a lane.
+fn with_lane<F: Field, P: PackedField<F>>(lanes: &str, lane: &str, value: &str) -> Option<P> {
+    let mut x = packing::<F, P>(lanes);
+    let lane = lane.parse::<usize>().ok()?;
+    if lane >= P::WIDTH {
+        return None;
+    }
+    x.set_lane(lane, value_at::<F>(value, 0)?);
+    Some(x)
+}
+
+/// Whether a call on slices or lists has the row's answer.
+fn lists_agree<F: Field, P: PackedField<F>>(
+    alloc: Global,
+    row: Row<'_>,
+) -> Result<Option<bool>, AllocError> {
+    match row.call {
+        "store_block" => stored::<F, P>(alloc, row),
+        "packed_powers" | "packed_shifted_powers" => Ok(are_powers::<F, P>(row)),
+        "collect" => are_taken::<F, P>(alloc, F::zero(), row),
+        "growths of collect" => Ok(lists_grow::<F, P>(alloc, row)),
+        "scale_slice_in_place_single_core" => scaled::<F, P>(alloc, row),
+        "add_scaled_slice_in_place" => added::<F, P>(alloc, row),
+        "add_slices" => slices_agree::<F, P>(alloc, row),
+        "slices of every length" => lengths_agree::<F, P>(alloc, row),
+        _ => match answered::<F, P>(alloc, row)? {
+            Some(x) => Ok(Some(holds::<F, P>(&x, row.answer))),
+            None => Ok(None),
+        },
     }
 }
 
-impl Group for VectorsOfPackings {
-    fn agrees<F: Field + Numbered, P: PackedFieldPow2<F> + Numbered>(
-        alloc: Global,
-        _rooms: Option<Rooms<F, P>>,
-        case: &Case,
-    ) -> Result<bool, AllocError> {
-        match case.call {
-            Call::Vector(count, call) => {
-                counted_vectors_agree::<F, P>(alloc, None, count, call, case)
-            }
-            _ => Ok(false),
+/// Whether a row's call on packings or columns has its answer. Nothing is read of `rooms`.
+pub(crate) fn row_agrees<F: Field, P: PackedField<F>>(
+    alloc: Global,
+    rooms: Option<Rooms<F, P>>,
+    row: Row<'_>,
+) -> Result<Option<bool>, AllocError> {
+    if let Shape::Columns = row.shape() {
+        return counted_columns_agree::<F, P>(alloc, rooms, row);
+    }
+    match row.call {
+        "coeffwise_dot_product" => sums_agree::<F, P>(alloc, &[], row),
+        call if call.starts_with("generic_batched") => {
+            counted_columnwise_agree::<F, P>(alloc, row)
         }
+        _ => lists_agree::<F, P>(alloc, row),
+    }
+}
+
+/// `row_agrees`, and the calls of packings whose number of lanes is a power of two, and those of vectors of
+/// them. Nothing is read of `rooms` and `vectors`.
+pub(crate) fn any_agrees<F: Field, P: PackedFieldPow2<F>>(
+    alloc: Global,
+    rooms: Option<Rooms<F, P>>,
+    vectors: Option<Vectors<F, P>>,
+    row: Row<'_>,
+) -> Result<Option<bool>, AllocError> {
+    if let Shape::Vector = row.shape() {
+        return counted_vectors_agree::<F, P>(alloc, vectors, row);
+    }
+    match row.call {
+        "interleave" => Ok(blocks_agree::<F, P>(row)),
+        _ => row_agrees::<F, P>(alloc, rooms, row),
     }
 }

@@ -1,5 +1,18 @@
-//! The rows of the tables.
+//! The rows of the tables, and what stands in them.
+use p3_base::field::Field;
+use p3_base::packed_traits::PackedField;
+use p3_ring::ring::PrimeCharacteristicRing;
 use std::alloc::{AllocError, Global};
+
+/// What a row's call is on.
+#[derive(Clone, Copy)]
+pub(crate) enum Shape {
+    Packing,
+    /// Columns of rows, as packings.
+    Columns,
+    /// A vector of packings.
+    Vector,
+}
 
 /// A row of a table.
 #[derive(Clone, Copy)]
@@ -24,42 +37,77 @@ impl<'a> Row<'a> {
             field,
             lanes,
             call,
-            arguments,
-            answer,
+            arguments: arguments.trim(),
+            answer: answer.trim(),
         })
     }
 
-    /// The numbers of the answer.
-    pub(crate) fn answer(self, alloc: Global) -> Result<Vec<u64>, AllocError> {
-        numbers(alloc, self.answer)
+    /// The arguments at an index, which stand between bars.
+    pub(crate) fn argument(self, index: usize) -> &'a str {
+        self.arguments.split('|').nth(index).unwrap_or("")
     }
 
-    /// The numbers of each argument. Arguments stand between bars.
-    pub(crate) fn arguments(self, alloc: Global) -> Result<Vec<Vec<u64>>, AllocError> {
-        let mut arguments = Vec::new(alloc);
-        for text in self.arguments.split('|') {
-            arguments.push(numbers(alloc, text)?)?;
+    /// What the call is on.
+    pub(crate) fn shape(self) -> Shape {
+        if self.call.starts_with("pack_columns") || self.call.starts_with("unpack_into") {
+            Shape::Columns
+        } else if self.call.starts_with("vectorized") {
+            Shape::Vector
+        } else {
+            Shape::Packing
         }
-        Ok(arguments)
     }
 }
 
-/// The numbers of a text, whatever stands between them.
-fn numbers(alloc: Global, text: &str) -> Result<Vec<u64>, AllocError> {
-    let mut numbers = Vec::new(alloc);
-    let mut number: Option<u64> = None;
-    for byte in text.bytes() {
-        let digit = byte.wrapping_sub(b'0');
-        if digit < 10 {
-            let tens = number.unwrap_or(0).wrapping_mul(10);
-            number = Some(tens.wrapping_add(digit as u64));
-        } else if let Some(whole) = number {
-            numbers.push(whole)?;
-            number = None;
+/// The word at an index of a text.
+pub(crate) fn word(text: &str, index: usize) -> &str {
+    text.split_ascii_whitespace().nth(index).unwrap_or("")
+}
+
+/// The value at an index of a text.
+pub(crate) fn value_at<F: Field>(text: &str, index: usize) -> Option<F> {
+    let word = text.split_terminator(',').nth(index)?;
+    Some(F::from_u64(word.parse::<u64>().ok()?))
+}
+
+/// The value at an index of a text, zero past its end.
+pub(crate) fn entry<F: Field>(text: &str, index: usize) -> F {
+    value_at::<F>(text, index).unwrap_or(F::zero())
+}
+
+/// The values of a text.
+pub(crate) fn values<F: Field>(alloc: Global, text: &str) -> Result<Vec<F>, AllocError> {
+    text.split_terminator(',')
+        .map(|word: &str| -> F { entry::<F>(word, 0) })
+        .collect(alloc)
+}
+
+/// The packing with the values of a text, zero past its end.
+pub(crate) fn packing<F: Field, P: PackedField<F>>(text: &str) -> P {
+    P::from_fn(|lane: usize| -> F { entry::<F>(text, lane) })
+}
+
+/// The packings of a text.
+pub(crate) fn packings<F: Field, P: PackedField<F>>(
+    alloc: Global,
+    text: &str,
+) -> Result<Vec<P>, AllocError> {
+    text.split_ascii_whitespace()
+        .map(|word: &str| -> P { packing::<F, P>(word) })
+        .collect(alloc)
+}
+
+/// Whether the lanes of a packing are the values of a text.
+pub(crate) fn holds<F: Field, P: PackedField<F>>(packing: &P, text: &str) -> bool {
+    for lane in 0..P::WIDTH {
+        match value_at::<F>(text, lane) {
+            Some(value) => {
+                if packing.extract(lane) != value {
+                    return false;
+                }
+            }
+            None => return false,
         }
     }
-    if let Some(whole) = number {
-        numbers.push(whole)?;
-    }
-    Ok(numbers)
+    true
 }

@@ -1,22 +1,10 @@
 //! Vectors interleaved by blocks of lanes.
 ghost use Rattle.std.specs.Prelude.{◌≡◌, ◌%◌, ◌<◌};
 
-use crate::numbers::words;
+use crate::numbers::numbers;
 use crate::rows::Row;
 use p3_lanes::interleaves::{interleave_u32, interleave_u64, interleave_u128, interleave_u256};
-use std::alloc::{AllocError, Global};
 use std::simd::prelude::*;
-
-/// The lanes of the blocks by which a call interleaves.
-fn block_of(call: &str) -> Option<usize> {
-    match call {
-        "interleave_u32" => Some(1),
-        "interleave_u64" => Some(2),
-        "interleave_u128" => Some(4),
-        "interleave_u256" => Some(8),
-        _ => None,
-    }
-}
 
 /// The first of two values.
 fn first_of<T: Copy>(both: (T, T)) -> T {
@@ -28,45 +16,32 @@ fn second_of<T: Copy>(both: (T, T)) -> T {
     both.1
 }
 
-/// Whether two vectors, interleaved by single lanes or by blocks of 2, 4 or 8, are the answer; none where
-/// pairs of such blocks don't fill N lanes.
-fn interleaved<const N: usize>(
-    block: usize,
-    left: &[u64],
-    right: &[u64],
-    answer: &[u64],
-) -> Option<bool>
+/// Whether the vectors, interleaved by single lanes or by blocks of 2, 4 or 8, are what the row says; none
+/// where pairs of such blocks don't fill N lanes.
+fn interleaved<const N: usize>(row: Row<'_>) -> Option<bool>
     requires { N < 18 }
 {
-    let x = Simd::from_array(words::<N>(left)?);
-    let y = Simd::from_array(words::<N>(right)?);
-    let even = Simd::from_array(words::<N>(answer.get(..N)?)?);
-    let odd = Simd::from_array(words::<N>(answer.get(N..)?)?);
-    let both = match block {
-        1 if N % 2 == 0 => interleave_u32::<N>(x, y),
-        2 if N % 4 == 0 => interleave_u64::<N>(x, y),
-        4 if N % 8 == 0 => interleave_u128::<N>(x, y),
-        8 if N % 16 == 0 => interleave_u256::<N>(x, y),
+    let (first, second) = row.answer.split_once('|')?;
+    let x = Simd::from_array(numbers::<N>(row.argument(0))?);
+    let y = Simd::from_array(numbers::<N>(row.argument(1))?);
+    let even = Simd::from_array(numbers::<N>(first)?);
+    let odd = Simd::from_array(numbers::<N>(second)?);
+    let both = match row.call {
+        "interleave_u32" if N % 2 == 0 => interleave_u32::<N>(x, y),
+        "interleave_u64" if N % 4 == 0 => interleave_u64::<N>(x, y),
+        "interleave_u128" if N % 8 == 0 => interleave_u128::<N>(x, y),
+        "interleave_u256" if N % 16 == 0 => interleave_u256::<N>(x, y),
         _ => return None,
     };
     Some(first_of(both) == even && second_of(both) == odd)
 }
 
-/// Whether vectors, interleaved as the row says, are what it says.
-pub(crate) fn blocks_agree(alloc: Global, row: Row<'_>) -> Result<bool, AllocError> {
-    let Some(block) = block_of(row.call) else {
-        return Ok(false);
-    };
-    let arguments = row.arguments(alloc)?;
-    let [left, right] = arguments.as_slice() else {
-        return Ok(false);
-    };
-    let answer = row.answer(alloc)?;
-    let found = match row.lanes {
-        "4" => interleaved::<4>(block, left, right, &answer),
-        "8" => interleaved::<8>(block, left, right, &answer),
-        "16" => interleaved::<16>(block, left, right, &answer),
+/// `interleaved` at the row's number of lanes.
+pub(crate) fn blocks_agree(row: Row<'_>) -> Option<bool> {
+    match row.lanes {
+        "4" => interleaved::<4>(row),
+        "8" => interleaved::<8>(row),
+        "16" => interleaved::<16>(row),
         _ => None,
-    };
-    Ok(found == Some(true))
+    }
 }

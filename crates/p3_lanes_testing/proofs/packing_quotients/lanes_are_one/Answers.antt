@@ -3,7 +3,7 @@ use Rattle.std.proofs.Common.{◌≡◌, ◌∙◌, arith, refl}
 use Rattle.std.proofs.lemmas.Option.{get_or_from_slice_get}
 use Rattle.p3_theory.specs.Lanes.Lanes.{lane}
 use Rattle.p3_lanes_testing.proofs.Units.{one_by_lanes}
-use Rattle.p3_lanes_testing.proofs.quotients.lanes_are_one.Goals as goal
+use Rattle.p3_lanes_testing.proofs.packing_quotients.lanes_are_one.Goals as goal
 
 pub loop-lane-preserved : goal.loop-lane-preserved
 loop-lane-preserved g c =

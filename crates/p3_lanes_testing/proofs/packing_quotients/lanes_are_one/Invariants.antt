@@ -1,6 +1,6 @@
 use Rattle.std.proofs.Common.{◌≡◌, ◌<◌, ℕ}
 use Rattle.p3_theory.specs.Lanes.Lanes.{lane}
-use Rattle.p3_lanes_testing.proofs.quotients.lanes_are_one.Given as goal
+use Rattle.p3_lanes_testing.proofs.packing_quotients.lanes_are_one.Given as goal
 
 abbrev pub invariant-loop-lane : goal.invariant-loop-lane
 invariant-loop-lane g l =

@@ -1,5 +1,5 @@
 use Rattle.std.proofs.Common.{◌∙◌, sym}
-use Rattle.p3_lanes_testing.proofs.quotients.lanes_have_inverses.Goals as goal
+use Rattle.p3_lanes_testing.proofs.packing_quotients.lanes_have_inverses.Goals as goal
 
 pub returns : goal.returns
 returns g c t =

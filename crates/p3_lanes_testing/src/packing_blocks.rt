@@ -1,8 +1,7 @@
 //! Packings interleaved by blocks of lanes.
 ghost use Rattle.std.specs.Prelude.{◌≡◌, ◌%◌};
 
-use crate::cases::Case;
-use crate::numbered::{Numbered, holds_at, value, values_told};
+use crate::rows::{Row, holds, packing};
 use p3_base::field::Field;
 use p3_base::packed_traits::{PackedFieldPow2, PackedValue};
 
@@ -17,16 +16,13 @@ fn interleaved<F: Field, P: PackedFieldPow2<F>>(x: P, y: P, block: usize) -> Opt
     }
 }
 
-/// Whether two packings, interleaved by blocks of so many lanes, are the answer.
-pub(crate) fn blocks_agree<F: Field, P: PackedFieldPow2<F> + Numbered>(case: &Case) -> bool {
-    let x = value::<P>(case.argument(0));
-    let y = value::<P>(case.argument(1));
-    match interleaved::<F, P>(x, y, case.size(2)) {
-        Some((first, second)) => {
-            holds_at(&first, &case.answer, 0)
-                && holds_at(&second, &case.answer, 1)
-                && values_told::<P>(&case.answer) == 2
-        }
-        None => false,
-    }
+/// Whether two packings, interleaved by the row's blocks, are what the row says; none where the blocks
+/// don't fill a packing.
+pub(crate) fn blocks_agree<F: Field, P: PackedFieldPow2<F>>(row: Row<'_>) -> Option<bool> {
+    let x = packing::<F, P>(row.argument(0));
+    let y = packing::<F, P>(row.argument(1));
+    let (first, second) = row.answer.split_once('|')?;
+    let block = row.argument(2).parse::<usize>().ok()?;
+    let both = interleaved::<F, P>(x, y, block)?;
+    Some(holds::<F, P>(&both.0, first) && holds::<F, P>(&both.1, second))
 }

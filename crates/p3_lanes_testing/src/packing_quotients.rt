@@ -2,12 +2,10 @@
 ghost use Rattle.std.specs.Prelude.{◌≡◌, ◌<◌, IsTrue};
 ghost use Rattle.p3_theory.specs.Rings.Ring.{Invertible};
 
-use crate::algebra_calls::has_inverse;
-use crate::cases::Case;
-use crate::numbered::{Numbered, holds, value};
+use crate::rows::value_at;
 use p3_base::field::Field;
 use p3_base::packed_traits::{PackedField, PackedValue};
-use p3_ring::ring::PrimeCharacteristicRing;
+use p3_ring::ring::{Algebra, PrimeCharacteristicRing};
 
 /// The packing of the inverses of the lanes, zero where a lane has none.
 fn lane_inverses<F: Field, P: PackedField<F>>(packing: &P) -> P {
@@ -43,18 +41,17 @@ fn lanes_have_inverses<F: Field, P: PackedField<F>>(packing: P) -> bool
     lanes_are_one::<F, P>(product)
 }
 
-/// Whether the quotient of two packings is the answer; false where a lane of the divisor has no inverse.
-pub(crate) fn quotient_agrees<F: Field, P: PackedField<F> + Numbered>(case: &Case) -> bool {
-    let x = value::<P>(case.argument(0));
-    let y = value::<P>(case.argument(1));
-    lanes_have_inverses::<F, P>(y) && holds(&(x / y), &case.answer)
+/// The quotient of two packings; none where a lane of the divisor has no inverse.
+pub(crate) fn quotient<F: Field, P: PackedField<F>>(left: P, right: P) -> Option<P> {
+    if !lanes_have_inverses::<F, P>(right) {
+        return None;
+    }
+    Some(left / right)
 }
 
-/// Whether the quotient of a packing by a scalar is the answer; false where that has no inverse.
-pub(crate) fn scalar_quotient_agrees<F: Field + Numbered, P: PackedField<F> + Numbered>(
-    case: &Case,
-) -> bool {
-    let x = value::<P>(case.argument(0));
-    let scalar = value::<F>(case.argument(1));
-    has_inverse(scalar) && holds(&(x / scalar), &case.answer)
+/// The quotient of a packing by the value of a text; none where that has no inverse.
+pub(crate) fn scalar_quotient<F: Field, P: PackedField<F>>(left: P, right: &str) -> Option<P> {
+    let scalar = value_at::<F>(right, 0)?;
+    scalar.try_inverse()?;
+    Some(left / scalar)
 }
