@@ -1,3 +1,4 @@
 mod BlockTotals
 mod LaneProducts
+mod PowerBlocks
 mod WrittenWords

@@ -10,7 +10,12 @@ use std::alloc::{AllocError, Global};
 pub fn all_stand<F: Stored<T>, T: Copy>(words: &[T]) -> bool
     ensures { IsTrue result ↔ AllStand F.words words.now }
 {
-    words.iter().all(|word| F::stands(*word))
+    let mut all = true;
+    for i in 0..words.len() {
+        let stands = F::stands(words[i]);
+        all = stands && all;
+    }
+    all
 }
 
 /// Writes the values that the words stand for.

@@ -1,0 +1,24 @@
+use Rattle.std.proofs.Common.{◌≡◌, ◌+◌, ◌-◌, ◌≤◌, length, take, drop, arith, rules, ap, sym, ◌∙◌}
+use Rattle.std.proofs.lemmas.Slice.{drop-put_mid}
+use Rattle.p3_tools.proofs.GroupSteps.{combined_part}
+use Rattle.p3_words.specs.Words.{on_words}
+use Rattle.p3_words.proofs.pairs.apply_blocks.Goals as goal
+
+pub loop-start-preserved : goal.loop-start-preserved
+loop-start-preserved g c =
+    let f = on_words g.F.Stored.words (g.S.PairStep.gives c.args.step.now) in
+    let old = c.loop-start.left in
+    let other = c.args.right.now in
+    let part = c.apply_block.new.left in
+    let i = c.loop-start.start in
+    let n = c.min-count.result in
+    let held = c.loop-start.invariant in
+    let fits : i + n ≤ length old = omega (arith, c.min-count.ensures, c.loop-start-test.true) in
+    let long : length part ≡ n = search (rules, fits) in
+    record {
+      inside = search (rules, fits, long);
+      long = search (rules, held.long, long, fits);
+      some = omega (arith, c.apply_block.ensures.left_room, held.some);
+      rooms = omega (arith, c.apply_block.ensures.left_room, c.apply_block.ensures.right_room, held.rooms);
+      written = combined_part f old other c.args.left.now part i n (i + n - i) (omega arith) fits long c.apply_block.ensures.words held.written;
+    }
