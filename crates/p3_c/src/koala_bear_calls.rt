@@ -4,14 +4,16 @@ ghost use Rattle.p3_theory.specs.Rings.DotProduct.{dot};
 ghost use Rattle.p3_theory.specs.Rings.Operators.{sum_list, product_list};
 ghost use Rattle.p3_theory.specs.Rings.Powers.{eval};
 ghost use Rattle.p3_c.specs.Statuses.{Answers, Tells};
-ghost use Rattle.p3_words.specs.Calls.{Checks, AnswersOne, AnswersPair, AnswersAt, AnswersInverse, AnswersRoot, WritesPairs, WritesScaledPairs, WritesScaled, WritesWords, WritesNumbers, WritesPowers, WritesInverses, WritesCoset, WritesValues};
+ghost use Rattle.p3_words.specs.Calls.{Checks, AnswersOne, AnswersPair, AnswersAt, AnswersInverse, AnswersRoot, WritesPairs, WritesScaledPairs, WritesScaled, WritesWords, WritesNumbers, WritesPowers, WritesInverses};
+ghost use Rattle.p3_word_cosets.specs.Calls.{WritesCoset, WritesValues};
 
 use crate::status::{answer, status};
 use p3_base::field::{Field, TwoAdicField};
 use p3_ring::ring::PrimeCharacteristicRing;
+use p3_word_cosets::cosets;
 use p3_words::koala_bear::KoalaBear;
 use p3_words::stored::Stored;
-use p3_words::{cosets, inverses, numbers, pairs, points, totals};
+use p3_words::{inverses, numbers, pairs, points, totals};
 use std::alloc::Global;
 
 /// How many values are worked on at once.

@@ -32,7 +32,7 @@ pub(crate) fn read<F: Stored<T>, T: Copy>(words: &[T], values: &mut [F])
 
 /// Writes the words that stand for the values.
 #[inline(always)]
-pub(crate) fn write<F: Stored<T>, T: Copy>(values: &[F], words: &mut [T])
+pub fn write<F: Stored<T>, T: Copy>(values: &[F], words: &mut [T])
     requires { length values.now ≡ length words.old }
     ensures { words.new ≡ map F.words.word values.now }
 {
@@ -43,7 +43,7 @@ pub(crate) fn write<F: Stored<T>, T: Copy>(values: &[F], words: &mut [T])
 
 /// The values that the words stand for as a vector; `Err` where the memory for them is refused.
 #[inline]
-pub(crate) fn values_of<F: Stored<T>, T: Copy>(
+pub fn values_of<F: Stored<T>, T: Copy>(
     alloc: Global,
     words: &[T],
 ) -> Result<Vec<F>, AllocError>

@@ -4,7 +4,6 @@
 #![tactic(auto)]
 
 pub mod blocks;
-pub mod cosets;
 pub mod inverses;
 pub mod koala_bear;
 pub mod numbers;

@@ -1,11 +1,13 @@
 //! The fields whose values are stored as words, and how their words stand for values.
 ghost use Rattle.std.specs.Prelude.{◌≡◌, ◌<◌, ◌↔◌, IsTrue};
-ghost use Rattle.p3_bench_prime.specs.Elements.{word_number};
+ghost use Rattle.p3_bench_prime.specs.Elements.{canon};
+ghost use Rattle.p3_words.specs.Fields.{value_of};
 ghost use Rattle.p3_words.specs.Words.{Words, Stands};
 
-use p3_base::field::PrimeField64;
+use p3_base::field::{PrimeField32, PrimeField64};
+use p3_bench_prime::form::Form;
 use p3_bench_prime::fp::Fp;
-use p3_bench_prime::goldilocks::Goldilocks;
+use p3_bench_prime::goldilocks::{Goldilocks, GoldilocksForm};
 use p3_bench_prime::lane_words::values_of;
 use p3_bench_prime::montgomery::{Montgomery, MontgomeryModulus};
 use p3_ring::ring::PrimeCharacteristicRing;
@@ -43,10 +45,19 @@ pub trait Stored<T: Copy>: PrimeCharacteristicRing {
 #[inline(always)]
 fn montgomery_value<M: MontgomeryModulus>(word: u32) -> Fp<Montgomery<M>>
     requires { word < M.ORDER }
-    ensures { word_number result ≡ word }
+    ensures { result ≡ value_of ⟦<Montgomery<M> as Form<u32>>⟧ word }
 {
     let values = values_of::<Montgomery<M>, u32, 1>(&[word]);
     values[0]
+}
+
+/// The value in Montgomery's form with this canonical number.
+#[inline(always)]
+fn montgomery_of_number<M: MontgomeryModulus>(number: u32) -> Fp<Montgomery<M>>
+    requires { number < M.ORDER }
+    ensures { canon ⟦<Montgomery<M> as Form<u32>>⟧ result ≡ number }
+{
+    Fp::new(number)
 }
 
 impl<M: MontgomeryModulus> Stored<u32> for Fp<Montgomery<M>> {
@@ -66,18 +77,28 @@ impl<M: MontgomeryModulus> Stored<u32> for Fp<Montgomery<M>> {
 
     #[inline(always)]
     fn to_word(self) -> u32 {
-        self.to_unique_u64() as u32
+        self.to_unique_u32()
     }
 
     #[inline(always)]
     fn of_number(number: u32) -> Self {
-        Self::new(number)
+        montgomery_of_number(number)
     }
 
     #[inline(always)]
     fn to_number(self) -> u32 {
-        self.as_canonical_u64() as u32
+        self.as_canonical_u32()
     }
+}
+
+/// The residue modulo 2^64 - 2^32 + 1 with this word, which is its canonical number.
+#[inline(always)]
+fn goldilocks_value(word: u64) -> Goldilocks
+    requires { word < ⟦<GoldilocksForm as Form<u64>>⟧.ORDER }
+    ensures value { result ≡ value_of ⟦<GoldilocksForm as Form<u64>>⟧ word }
+    ensures number { canon ⟦<GoldilocksForm as Form<u64>>⟧ result ≡ word }
+{
+    Goldilocks::new(word)
 }
 
 impl Stored<u64> for Goldilocks {
@@ -92,7 +113,7 @@ impl Stored<u64> for Goldilocks {
 
     #[inline(always)]
     fn of_word(word: u64) -> Self {
-        Self::new(word)
+        goldilocks_value(word)
     }
 
     #[inline(always)]
@@ -102,7 +123,7 @@ impl Stored<u64> for Goldilocks {
 
     #[inline(always)]
     fn of_number(number: u64) -> Self {
-        Self::new(number)
+        goldilocks_value(number)
     }
 
     #[inline(always)]

@@ -5,4 +5,4 @@ abbrev pub invariant-loop-i : goal.invariant-loop-i
 invariant-loop-i g l =
     let w = g.F.Stored.words in
     let o = g.F.PrimeCharacteristicRing.ops in
-    l.words ≡ map (λ x. w.word (o.mul (w.value x) l.factor)) (take l.i l.initial.words) ++ drop l.i l.initial.words
+    l.words ≡ map (λ x. w.word (o.mul (w.value x) l.by)) (take l.i l.initial.words) ++ drop l.i l.initial.words

@@ -1,14 +1,14 @@
 //! The points of a coset, and the values of a polynomial over it.
 ghost use Rattle.std.specs.Prelude.{◌≡◌, ◌<◌, ◌≤◌, ◌^◌, IfOk, length};
-ghost use Rattle.p3_words.specs.Calls.{FindsCoset, HasSize, WritesCoset, WritesValues};
+ghost use Rattle.p3_word_cosets.specs.Calls.{FindsCoset, HasSize, WritesCoset, WritesValues};
 ghost use Rattle.p3_words.specs.Words.{Stands};
 
-use crate::blocks::{all_stand, values_of, write};
-use crate::points::write_powers;
-use crate::refusal::Refusal;
-use crate::stored::Stored;
 use p3_base::field::TwoAdicField;
 use p3_tools::coset::TwoAdicMultiplicativeCoset;
+use p3_words::blocks::{all_stand, values_of, write};
+use p3_words::points::write_powers;
+use p3_words::refusal::Refusal;
+use p3_words::stored::Stored;
 use poly_eval::eval_coset;
 use std::alloc::Global;
 
