@@ -2,7 +2,9 @@
 use Rattle.std.proofs.Common.{◌≡◌, ◌+◌, ◌<◌, ℕ, Bool, ◌&&◌, List, [], ◌∷◌, ◌++◌, length, map, take, drop, get_or, refl, sym, ap, ap₂, subst, ◌∙◌, arith, append_assoc}
 use Rattle.std.specs.Prelude.{◌↔◌, IsTrue, All}
 use Rattle.std.proofs.Math.ListN.{set}
-use Rattle.std.proofs.lemmas.List.{length-map, length-take, get_or-take, drop_more, map_more, set_at}
+use Rattle.std.proofs.lemmas.Grind.{take-set_at}
+use Rattle.std.proofs.lemmas.List.{length-map, length-take, get_or-take, get_or-drop, drop_more, drop-drop, map_more, map-append, set_at}
+use lib.Seq.{drop-set-lt}
 use Rattle.std.proofs.lemmas.List.Elements.{All-more}
 use Rattle.p3_theory.specs.Lists.PairedLists.{zip_with}
 use Rattle.p3_theory.specs.RingSolver.SolverSound.{and_true}
@@ -39,3 +41,22 @@ stand-more P ws i w s a b inside is stands before e =
               subst P (get_or-take (i + 1) ws k d (omega (arith, below)) ∙ sym (get_or-take i ws k d below)) (h k d (omega (arith, long, below))) in
           e ∙ ap₂ (λ x y. x && y) (stands.1 last) (before.1 front),
     )
+
+-- a loop that writes v over each item n, where f v is g n
+pub related-more : {T X : Type 0} (f g : T → X) (ws ys : List T) (i : ℕ) (n v : T) → i < length ws → length ys ≡ length ws → map f (take i ys) ≡ map g (take i ws) → drop i ys ≡ drop i ws
+    → n ≡ get_or ys i n → f v ≡ g n → (map f (take (i + 1) (set ys i v)) ≡ map g (take (i + 1) ws)) × (drop (i + 1) (set ys i v) ≡ drop (i + 1) ws)
+related-more f g ws ys i n v inside same done rest is e =
+    let here : i + 0 ≡ i = omega arith in
+    let room : i < length ys = omega (arith, inside, same) in
+    let read : get_or ys i n ≡ get_or ws i n = ap (λ j. get_or ys j n) (sym here) ∙ sym (get_or-drop i ys 0 n) ∙ ap (λ l. get_or l 0 n) rest ∙ get_or-drop i ws 0 n ∙ ap (λ j. get_or ws j n) here in (
+      ap (map f) (take-set_at ys i (i + 1) v (omega arith) room) ∙ map-append f (take i ys) (v ∷ []) ∙ ap₂ (λ a b. a ++ b ∷ []) done (e ∙ ap g (is ∙ read))
+          ∙ sym (map_more g ws i n inside),
+      drop-set-lt (i + 1) ys i v (omega arith) ∙ sym (drop-drop 1 i ys) ∙ ap (drop 1) rest ∙ drop-drop 1 i ws,
+    )
+
+-- a word that no round has written yet is one of the first list
+pub stand-left : {T : Type 0} (P : T → Type 0) (ws ys : List T) (i : ℕ) (n : T) → i < length ws → drop i ys ≡ drop i ws → n ≡ get_or ys i n → All P ws → P n
+stand-left P ws ys i n inside rest is h =
+    let here : i + 0 ≡ i = omega arith in
+    let read : get_or ys i n ≡ get_or ws i n = ap (λ j. get_or ys j n) (sym here) ∙ sym (get_or-drop i ys 0 n) ∙ ap (λ l. get_or l 0 n) rest ∙ get_or-drop i ws 0 n ∙ ap (λ j. get_or ws j n) here in
+    subst P (sym (is ∙ read)) (h i n inside)

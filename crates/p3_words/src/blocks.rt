@@ -1,9 +1,17 @@
 //! Blocks of words as values, and back.
-ghost use Rattle.std.specs.Prelude.{◌≡◌, ◌↔◌, ◌≤◌, IsTrue, IfOk, All, length, map};
+ghost use Rattle.std.specs.Prelude.{◌≡◌, ◌↔◌, ◌&&◌, IsTrue, IfOk, length, map};
 ghost use Rattle.p3_words.specs.Words.{AllStand};
 
 use crate::stored::Stored;
 use std::alloc::{AllocError, Global};
+
+/// Whether both hold.
+#[inline(always)]
+fn both(left: bool, right: bool) -> bool
+    ensures { result ≡ (left && right) }
+{
+    left && right
+}
 
 /// Whether each word is below the order.
 #[inline]
@@ -13,7 +21,7 @@ pub fn all_stand<F: Stored<T>, T: Copy>(words: &[T]) -> bool
     let mut all = true;
     for i in 0..words.len() {
         let stands = F::stands(words[i]);
-        all = stands && all;
+        all = both(stands, all);
     }
     all
 }
