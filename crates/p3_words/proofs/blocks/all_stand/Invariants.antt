@@ -1,5 +1,5 @@
 use Rattle.std.proofs.Common.{take}
-use Rattle.std.specs.Prelude.{◌↔◌, IsTrue, All}
+use Rattle.std.specs.Prelude.{◌↔◌, IsTrue}
 use Rattle.p3_words.specs.Words.{AllStand}
 use Rattle.p3_words.proofs.blocks.all_stand.Given as goal
 

@@ -1,4 +1,4 @@
-use Rattle.std.proofs.Common.{◌≡◌, ◌++◌, length, map, arith, ap₂, sym, ◌∙◌, append-nil}
+use Rattle.std.proofs.Common.{◌++◌, map, arith, ap₂, sym, ◌∙◌, append-nil}
 use Rattle.std.proofs.lemmas.List.{take_all, drop_all}
 use Rattle.p3_words.proofs.WrittenWords.{written-more}
 use Rattle.p3_words.proofs.blocks.read.Goals as goal
