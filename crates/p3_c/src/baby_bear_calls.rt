@@ -62,7 +62,10 @@ pub extern "C" fn p3_bb_product(values: &[u32], product: &mut u32) -> i32
 {
     let mut room = [BabyBear::zero(); BLOCK];
     let mut lanes = [BabyBear::zero(); LANES];
-    answer(totals::product::<BabyBear, u32>(values, &mut room, &mut lanes), product)
+    answer(
+        totals::product::<BabyBear, u32>(values, &mut room, &mut lanes),
+        product,
+    )
 }
 
 /// The sum of the products, index by index.
@@ -72,7 +75,10 @@ pub extern "C" fn p3_bb_dot(left: &[u32], right: &[u32], dot: &mut u32) -> i32
 {
     let mut left_room = [BabyBear::zero(); BLOCK];
     let mut right_room = [BabyBear::zero(); BLOCK];
-    answer(totals::dot_product::<BabyBear, u32>(left, right, &mut left_room, &mut right_room), dot)
+    answer(
+        totals::dot_product::<BabyBear, u32>(left, right, &mut left_room, &mut right_room),
+        dot,
+    )
 }
 
 /// Adds to each value of the left slice that of the right one at its index.
@@ -119,7 +125,10 @@ pub extern "C" fn p3_bb_horner(coefficients: &[u32], point: u32, value: &mut u32
     ensures { Answers (AnswersAt ⟦<BabyBear as Stored<u32>>⟧.words (λ x cs. eval ⟦<BabyBear as PrimeCharacteristicRing>⟧.ops ⟦<BabyBear as PrimeCharacteristicRing>⟧.ops (λ c. c) x cs) point coefficients.now) value.old value.new result }
 {
     let mut room = [BabyBear::zero(); BLOCK];
-    answer(points::horner::<BabyBear, u32>(coefficients, point, &mut room), value)
+    answer(
+        points::horner::<BabyBear, u32>(coefficients, point, &mut room),
+        value,
+    )
 }
 
 /// Writes the start, its product with the base, that one's product with the base, and so on to the slice's end.
@@ -178,11 +187,5 @@ pub extern "C" fn p3_bb_eval_coset(
 ) -> i32
     ensures { Tells (WritesValues ⟦<BabyBear as PrimeCharacteristicRing>⟧.ops ⟦<BabyBear as Stored<u32>>⟧.words ⟦<BabyBear as TwoAdicField>⟧.TWO_ADICITY ⟦<BabyBear as TwoAdicField>⟧.two_adic coefficients.now shift log_size values.old values.new) result }
 {
-    status(cosets::coset_values::<BabyBear, u32>(
-        alloc,
-        coefficients,
-        shift,
-        log_size,
-        values,
-    ))
+    status(cosets::coset_values::<BabyBear, u32>(alloc, coefficients, shift, log_size, values))
 }

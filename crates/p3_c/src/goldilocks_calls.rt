@@ -62,7 +62,10 @@ pub extern "C" fn p3_gl_product(values: &[u64], product: &mut u64) -> i32
 {
     let mut room = [Goldilocks::zero(); BLOCK];
     let mut lanes = [Goldilocks::zero(); LANES];
-    answer(totals::product::<Goldilocks, u64>(values, &mut room, &mut lanes), product)
+    answer(
+        totals::product::<Goldilocks, u64>(values, &mut room, &mut lanes),
+        product,
+    )
 }
 
 /// The sum of the products, index by index.
@@ -72,7 +75,10 @@ pub extern "C" fn p3_gl_dot(left: &[u64], right: &[u64], dot: &mut u64) -> i32
 {
     let mut left_room = [Goldilocks::zero(); BLOCK];
     let mut right_room = [Goldilocks::zero(); BLOCK];
-    answer(totals::dot_product::<Goldilocks, u64>(left, right, &mut left_room, &mut right_room), dot)
+    answer(
+        totals::dot_product::<Goldilocks, u64>(left, right, &mut left_room, &mut right_room),
+        dot,
+    )
 }
 
 /// Adds to each value of the left slice that of the right one at its index.
@@ -110,7 +116,13 @@ pub extern "C" fn p3_gl_add_scaled(left: &mut [u64], right: &[u64], factor: u64)
 {
     let mut left_room = [Goldilocks::zero(); BLOCK];
     let mut right_room = [Goldilocks::zero(); BLOCK];
-    status(pairs::add_scaled::<Goldilocks, u64>(left, right, factor, &mut left_room, &mut right_room))
+    status(pairs::add_scaled::<Goldilocks, u64>(
+        left,
+        right,
+        factor,
+        &mut left_room,
+        &mut right_room,
+    ))
 }
 
 /// The value at the point of the polynomial with these coefficients, the constant one first.
@@ -119,7 +131,10 @@ pub extern "C" fn p3_gl_horner(coefficients: &[u64], point: u64, value: &mut u64
     ensures { Answers (AnswersAt ⟦<Goldilocks as Stored<u64>>⟧.words (λ x cs. eval ⟦<Goldilocks as PrimeCharacteristicRing>⟧.ops ⟦<Goldilocks as PrimeCharacteristicRing>⟧.ops (λ c. c) x cs) point coefficients.now) value.old value.new result }
 {
     let mut room = [Goldilocks::zero(); BLOCK];
-    answer(points::horner::<Goldilocks, u64>(coefficients, point, &mut room), value)
+    answer(
+        points::horner::<Goldilocks, u64>(coefficients, point, &mut room),
+        value,
+    )
 }
 
 /// Writes the start, its product with the base, that one's product with the base, and so on to the slice's end.
@@ -178,11 +193,5 @@ pub extern "C" fn p3_gl_eval_coset(
 ) -> i32
     ensures { Tells (WritesValues ⟦<Goldilocks as PrimeCharacteristicRing>⟧.ops ⟦<Goldilocks as Stored<u64>>⟧.words ⟦<Goldilocks as TwoAdicField>⟧.TWO_ADICITY ⟦<Goldilocks as TwoAdicField>⟧.two_adic coefficients.now shift log_size values.old values.new) result }
 {
-    status(cosets::coset_values::<Goldilocks, u64>(
-        alloc,
-        coefficients,
-        shift,
-        log_size,
-        values,
-    ))
+    status(cosets::coset_values::<Goldilocks, u64>(alloc, coefficients, shift, log_size, values))
 }

@@ -62,7 +62,10 @@ pub extern "C" fn p3_kb_product(values: &[u32], product: &mut u32) -> i32
 {
     let mut room = [KoalaBear::zero(); BLOCK];
     let mut lanes = [KoalaBear::zero(); LANES];
-    answer(totals::product::<KoalaBear, u32>(values, &mut room, &mut lanes), product)
+    answer(
+        totals::product::<KoalaBear, u32>(values, &mut room, &mut lanes),
+        product,
+    )
 }
 
 /// The sum of the products, index by index.
@@ -72,7 +75,10 @@ pub extern "C" fn p3_kb_dot(left: &[u32], right: &[u32], dot: &mut u32) -> i32
 {
     let mut left_room = [KoalaBear::zero(); BLOCK];
     let mut right_room = [KoalaBear::zero(); BLOCK];
-    answer(totals::dot_product::<KoalaBear, u32>(left, right, &mut left_room, &mut right_room), dot)
+    answer(
+        totals::dot_product::<KoalaBear, u32>(left, right, &mut left_room, &mut right_room),
+        dot,
+    )
 }
 
 /// Adds to each value of the left slice that of the right one at its index.
@@ -110,7 +116,13 @@ pub extern "C" fn p3_kb_add_scaled(left: &mut [u32], right: &[u32], factor: u32)
 {
     let mut left_room = [KoalaBear::zero(); BLOCK];
     let mut right_room = [KoalaBear::zero(); BLOCK];
-    status(pairs::add_scaled::<KoalaBear, u32>(left, right, factor, &mut left_room, &mut right_room))
+    status(pairs::add_scaled::<KoalaBear, u32>(
+        left,
+        right,
+        factor,
+        &mut left_room,
+        &mut right_room,
+    ))
 }
 
 /// The value at the point of the polynomial with these coefficients, the constant one first.
@@ -119,7 +131,10 @@ pub extern "C" fn p3_kb_horner(coefficients: &[u32], point: u32, value: &mut u32
     ensures { Answers (AnswersAt ⟦<KoalaBear as Stored<u32>>⟧.words (λ x cs. eval ⟦<KoalaBear as PrimeCharacteristicRing>⟧.ops ⟦<KoalaBear as PrimeCharacteristicRing>⟧.ops (λ c. c) x cs) point coefficients.now) value.old value.new result }
 {
     let mut room = [KoalaBear::zero(); BLOCK];
-    answer(points::horner::<KoalaBear, u32>(coefficients, point, &mut room), value)
+    answer(
+        points::horner::<KoalaBear, u32>(coefficients, point, &mut room),
+        value,
+    )
 }
 
 /// Writes the start, its product with the base, that one's product with the base, and so on to the slice's end.
@@ -178,11 +193,5 @@ pub extern "C" fn p3_kb_eval_coset(
 ) -> i32
     ensures { Tells (WritesValues ⟦<KoalaBear as PrimeCharacteristicRing>⟧.ops ⟦<KoalaBear as Stored<u32>>⟧.words ⟦<KoalaBear as TwoAdicField>⟧.TWO_ADICITY ⟦<KoalaBear as TwoAdicField>⟧.two_adic coefficients.now shift log_size values.old values.new) result }
 {
-    status(cosets::coset_values::<KoalaBear, u32>(
-        alloc,
-        coefficients,
-        shift,
-        log_size,
-        values,
-    ))
+    status(cosets::coset_values::<KoalaBear, u32>(alloc, coefficients, shift, log_size, values))
 }

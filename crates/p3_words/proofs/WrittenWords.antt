@@ -37,8 +37,8 @@ stand-more P ws i w s a b inside is stands before e =
       λ h.
           let last : P w = subst P (get_or-take (i + 1) ws i w (omega arith) ∙ sym is) (h i w (omega (arith, long))) in
           let front : All P (take i ws) = λ k d lt.
-              let below : k < i = omega (arith, lt, length-take i ws) in
-              subst P (get_or-take (i + 1) ws k d (omega (arith, below)) ∙ sym (get_or-take i ws k d below)) (h k d (omega (arith, long, below))) in
+          let below : k < i = omega (arith, lt, length-take i ws) in
+          subst P (get_or-take (i + 1) ws k d (omega (arith, below)) ∙ sym (get_or-take i ws k d below)) (h k d (omega (arith, long, below))) in
           e ∙ ap₂ (λ x y. x && y) (stands.1 last) (before.1 front),
     )
 

@@ -51,10 +51,7 @@ pub fn write<F: Stored<T>, T: Copy>(values: &[F], words: &mut [T])
 
 /// The values that the words stand for as a vector; `Err` where the memory for them is refused.
 #[inline]
-pub fn values_of<F: Stored<T>, T: Copy>(
-    alloc: Global,
-    words: &[T],
-) -> Result<Vec<F>, AllocError>
+pub fn values_of<F: Stored<T>, T: Copy>(alloc: Global, words: &[T]) -> Result<Vec<F>, AllocError>
     requires { AllStand F.words words.now }
     ensures { IfOk result (λ values. values.items ≡ map F.words.value words.now) }
 {

@@ -20,7 +20,7 @@ loop-i-preserved g c =
     let x = c.of_number.result in
     let v = c.to_word.result in
     let more = related-more (λ x. w.canon (w.value x)) w.number c.args.words.now old i n.result v c.loop-i-test.true held.long
-        held.numbers held.rest n.is (ap (λ u. w.canon (w.value u)) c.to_word.ensures ∙ ap w.canon (w.value_word x) ∙ c.of_number.ensures) in
+    held.numbers held.rest n.is (ap (λ u. w.canon (w.value u)) c.to_word.ensures ∙ ap w.canon (w.value_word x) ∙ c.of_number.ensures) in
     record {
       long = search (rules, held.long);
       stand = subst (AllStand w) (sym (take-set_at old i (i + 1) v (omega arith) (omega (arith, c.loop-i-test.true, held.long))))

@@ -14,5 +14,5 @@ loop-i-preserved g c =
     let held = c.loop-i.invariant in
     let x = c.index-words-i in
     let more = related-more w.number (λ x. w.canon (w.value x)) c.args.words.now c.loop-i.words c.loop-i.i x.result c.to_number.result c.loop-i-test.true held.long
-        held.numbers held.rest x.is (c.to_number.ensures ∙ ap w.canon c.of_word.ensures) in
-    record { long = search (rules, held.long); numbers = more.0; rest = more.1; }
+    held.numbers held.rest x.is (c.to_number.ensures ∙ ap w.canon c.of_word.ensures) in
+    record { long = search (rules, held.long); numbers = more.0; rest = more.1 }
