@@ -7,4 +7,4 @@ pub write-requires : goal.write-requires
 write-requires g c =
     let k = c.in_ok-coset.coset.log_size in
     ap length (c.deref-2.ensures.value ∙ c.in-Ok-eval_coset.ensures) ∙ length-map _ _ ∙ length-tabulate (2 ^ k) _
-    ∙ ap (λ j. 2 ^ j) c.in_ok-coset.ensures.2 ∙ sym c.in_ok-check_size.ensures.1
+    ∙ ap (λ j. 2 ^ j) c.in_ok-coset.ensures.1.1 ∙ sym c.in_ok-check_size.ensures.1
