@@ -1,5 +1,5 @@
 -- What a call from C tells by its status.
-use Rattle.std.specs.Prelude.{◌≡◌, ℕ, ℤ, pos, Result, Ok, Err}
+use Rattle.std.specs.Prelude.{◌≡◌, ℤ, pos, Result, Ok, Err, ⊤}
 use Rattle.p3_words.specs.declared.refusal.Refusal.{Refusal}
 use Rattle.p3_words.specs.declared.refusal.Refusal.TheVariants.{Length, Word, NoInverse, NoRoot, LogSize, Memory}
 
@@ -27,5 +27,5 @@ abbrev pub Answers : {T : Type 0} → (Result T Refusal → Type 0) → T → T 
 Answers {T} P old new status = (r : Result T Refusal) × P r × (status ≡ status_of r) × (new ≡ or_old r old)
 
 -- a call that writes over a slice, of whose answer P holds, tells it by the status
-abbrev pub Tells : {U : Type 0} → (Result U Refusal → Type 0) → ℤ → Type 0
-Tells {U} P status = (r : Result U Refusal) × P r × (status ≡ status_of r)
+abbrev pub Tells : (Result ⊤ Refusal → Type 0) → ℤ → Type 0
+Tells P status = (r : Result ⊤ Refusal) × P r × (status ≡ status_of r)

@@ -1,6 +1,5 @@
 //! The calls over the values of Goldilocks, each its own word of 64 bits.
-ghost use Rattle.std.specs.Prelude.{◌≡◌};
-ghost use Rattle.p3_theory.specs.Rings.DotProduct.{dot};
+ghost use Rattle.p3_theory.specs.Rings.DotProduct as products;
 ghost use Rattle.p3_theory.specs.Rings.Operators.{sum_list, product_list};
 ghost use Rattle.p3_theory.specs.Rings.Powers.{eval};
 ghost use Rattle.p3_c.specs.Statuses.{Answers, Tells};
@@ -71,7 +70,7 @@ pub extern "C" fn p3_gl_product(values: &[u64], product: &mut u64) -> i32
 /// The sum of the products, index by index.
 #[unsafe(no_mangle)]
 pub extern "C" fn p3_gl_dot(left: &[u64], right: &[u64], dot: &mut u64) -> i32
-    ensures { Answers (AnswersPair ⟦<Goldilocks as Stored<u64>>⟧.words (λ xs ys. dot ⟦<Goldilocks as PrimeCharacteristicRing>⟧.ops xs ys) left.now right.now) dot.old dot.new result }
+    ensures { Answers (AnswersPair ⟦<Goldilocks as Stored<u64>>⟧.words (λ xs ys. products.dot ⟦<Goldilocks as PrimeCharacteristicRing>⟧.ops xs ys) left.now right.now) dot.old dot.new result }
 {
     let mut left_room = [Goldilocks::zero(); BLOCK];
     let mut right_room = [Goldilocks::zero(); BLOCK];

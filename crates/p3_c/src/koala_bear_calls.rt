@@ -1,6 +1,5 @@
 //! The calls over the values of KoalaBear, in Montgomery's form of 32 bits.
-ghost use Rattle.std.specs.Prelude.{◌≡◌};
-ghost use Rattle.p3_theory.specs.Rings.DotProduct.{dot};
+ghost use Rattle.p3_theory.specs.Rings.DotProduct as products;
 ghost use Rattle.p3_theory.specs.Rings.Operators.{sum_list, product_list};
 ghost use Rattle.p3_theory.specs.Rings.Powers.{eval};
 ghost use Rattle.p3_c.specs.Statuses.{Answers, Tells};
@@ -71,7 +70,7 @@ pub extern "C" fn p3_kb_product(values: &[u32], product: &mut u32) -> i32
 /// The sum of the products, index by index.
 #[unsafe(no_mangle)]
 pub extern "C" fn p3_kb_dot(left: &[u32], right: &[u32], dot: &mut u32) -> i32
-    ensures { Answers (AnswersPair ⟦<KoalaBear as Stored<u32>>⟧.words (λ xs ys. dot ⟦<KoalaBear as PrimeCharacteristicRing>⟧.ops xs ys) left.now right.now) dot.old dot.new result }
+    ensures { Answers (AnswersPair ⟦<KoalaBear as Stored<u32>>⟧.words (λ xs ys. products.dot ⟦<KoalaBear as PrimeCharacteristicRing>⟧.ops xs ys) left.now right.now) dot.old dot.new result }
 {
     let mut left_room = [KoalaBear::zero(); BLOCK];
     let mut right_room = [KoalaBear::zero(); BLOCK];
