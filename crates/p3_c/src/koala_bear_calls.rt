@@ -1,0 +1,196 @@
+//! The calls over the values of KoalaBear, in Montgomery's form of 32 bits.
+ghost use Rattle.p3_theory.specs.Rings.DotProduct as products;
+ghost use Rattle.p3_theory.specs.Rings.Operators.{sum_list, product_list};
+ghost use Rattle.p3_theory.specs.Rings.Powers.{eval};
+ghost use Rattle.p3_c.specs.Statuses.{Answers, Tells};
+ghost use Rattle.p3_words.specs.Calls.{Checks, AnswersOne, AnswersPair, AnswersAt, AnswersInverse, AnswersRoot, WritesPairs, WritesScaledPairs, WritesScaled, WritesWords, WritesNumbers, WritesPowers, WritesInverses};
+ghost use Rattle.p3_word_cosets.specs.Calls.{WritesCoset, WritesValues};
+
+use crate::status::{answer, status};
+use p3_base::field::{Field, TwoAdicField};
+use p3_ring::ring::PrimeCharacteristicRing;
+use p3_word_cosets::cosets;
+use p3_words::koala_bear::KoalaBear;
+use p3_words::stored::Stored;
+use p3_words::{inverses, numbers, pairs, points, totals};
+use std::alloc::Global;
+
+/// How many values are worked on at once.
+const BLOCK: usize = 256;
+
+/// How many products go side by side.
+const LANES: usize = 32;
+
+/// Writes over each canonical number the word of its value.
+#[unsafe(no_mangle)]
+pub extern "C" fn p3_kb_from_canonical(values: &mut [u32]) -> i32
+    ensures { Tells (WritesWords ⟦<KoalaBear as Stored<u32>>⟧.words values.old values.new) result }
+{
+    status(numbers::from_canonical::<KoalaBear, u32>(values))
+}
+
+/// Writes over each word the canonical number of its value.
+#[unsafe(no_mangle)]
+pub extern "C" fn p3_kb_to_canonical(values: &mut [u32]) -> i32
+    ensures { Tells (WritesNumbers ⟦<KoalaBear as Stored<u32>>⟧.words values.old values.new) result }
+{
+    status(numbers::to_canonical::<KoalaBear, u32>(values))
+}
+
+/// Whether each word is below the order.
+#[unsafe(no_mangle)]
+pub extern "C" fn p3_kb_check(values: &[u32]) -> i32
+    ensures { Tells (Checks ⟦<KoalaBear as Stored<u32>>⟧.words values.now) result }
+{
+    status(numbers::check::<KoalaBear, u32>(values))
+}
+
+/// The sum of the values; of none it is zero.
+#[unsafe(no_mangle)]
+pub extern "C" fn p3_kb_sum(values: &[u32], sum: &mut u32) -> i32
+    ensures { Answers (AnswersOne ⟦<KoalaBear as Stored<u32>>⟧.words (λ xs. sum_list ⟦<KoalaBear as PrimeCharacteristicRing>⟧.ops xs) values.now) sum.old sum.new result }
+{
+    let mut room = [KoalaBear::zero(); BLOCK];
+    answer(totals::sum::<KoalaBear, u32>(values, &mut room), sum)
+}
+
+/// The product of the values; of none it is one.
+#[unsafe(no_mangle)]
+pub extern "C" fn p3_kb_product(values: &[u32], product: &mut u32) -> i32
+    ensures { Answers (AnswersOne ⟦<KoalaBear as Stored<u32>>⟧.words (λ xs. product_list ⟦<KoalaBear as PrimeCharacteristicRing>⟧.ops xs) values.now) product.old product.new result }
+{
+    let mut room = [KoalaBear::zero(); BLOCK];
+    let mut lanes = [KoalaBear::zero(); LANES];
+    answer(
+        totals::product::<KoalaBear, u32>(values, &mut room, &mut lanes),
+        product,
+    )
+}
+
+/// The sum of the products, index by index.
+#[unsafe(no_mangle)]
+pub extern "C" fn p3_kb_dot(left: &[u32], right: &[u32], dot: &mut u32) -> i32
+    ensures { Answers (AnswersPair ⟦<KoalaBear as Stored<u32>>⟧.words (λ xs ys. products.dot ⟦<KoalaBear as PrimeCharacteristicRing>⟧.ops xs ys) left.now right.now) dot.old dot.new result }
+{
+    let mut left_room = [KoalaBear::zero(); BLOCK];
+    let mut right_room = [KoalaBear::zero(); BLOCK];
+    answer(
+        totals::dot_product::<KoalaBear, u32>(left, right, &mut left_room, &mut right_room),
+        dot,
+    )
+}
+
+/// Adds to each value of the left slice that of the right one at its index.
+#[unsafe(no_mangle)]
+pub extern "C" fn p3_kb_add(left: &mut [u32], right: &[u32]) -> i32
+    ensures { Tells (WritesPairs ⟦<KoalaBear as Stored<u32>>⟧.words (λ x y. ⟦<KoalaBear as PrimeCharacteristicRing>⟧.ops.add x y) left.old right.now left.new) result }
+{
+    let mut left_room = [KoalaBear::zero(); BLOCK];
+    let mut right_room = [KoalaBear::zero(); BLOCK];
+    status(pairs::add::<KoalaBear, u32>(left, right, &mut left_room, &mut right_room))
+}
+
+/// Multiplies each value of the left slice by that of the right one at its index.
+#[unsafe(no_mangle)]
+pub extern "C" fn p3_kb_mul(left: &mut [u32], right: &[u32]) -> i32
+    ensures { Tells (WritesPairs ⟦<KoalaBear as Stored<u32>>⟧.words (λ x y. ⟦<KoalaBear as PrimeCharacteristicRing>⟧.ops.mul x y) left.old right.now left.new) result }
+{
+    let mut left_room = [KoalaBear::zero(); BLOCK];
+    let mut right_room = [KoalaBear::zero(); BLOCK];
+    status(pairs::multiply::<KoalaBear, u32>(left, right, &mut left_room, &mut right_room))
+}
+
+/// Multiplies each value by the factor.
+#[unsafe(no_mangle)]
+pub extern "C" fn p3_kb_scale(values: &mut [u32], factor: u32) -> i32
+    ensures { Tells (WritesScaled ⟦<KoalaBear as Stored<u32>>⟧.words (λ c x. ⟦<KoalaBear as PrimeCharacteristicRing>⟧.ops.mul x c) factor values.old values.new) result }
+{
+    status(pairs::scale::<KoalaBear, u32>(values, factor))
+}
+
+/// Adds to each value of the left slice that of the right one at its index times the factor.
+#[unsafe(no_mangle)]
+pub extern "C" fn p3_kb_add_scaled(left: &mut [u32], right: &[u32], factor: u32) -> i32
+    ensures { Tells (WritesScaledPairs ⟦<KoalaBear as Stored<u32>>⟧.words (λ c x y. ⟦<KoalaBear as PrimeCharacteristicRing>⟧.ops.add x (⟦<KoalaBear as PrimeCharacteristicRing>⟧.ops.mul y c)) factor left.old right.now left.new) result }
+{
+    let mut left_room = [KoalaBear::zero(); BLOCK];
+    let mut right_room = [KoalaBear::zero(); BLOCK];
+    status(pairs::add_scaled::<KoalaBear, u32>(
+        left,
+        right,
+        factor,
+        &mut left_room,
+        &mut right_room,
+    ))
+}
+
+/// The value at the point of the polynomial with these coefficients, the constant one first.
+#[unsafe(no_mangle)]
+pub extern "C" fn p3_kb_horner(coefficients: &[u32], point: u32, value: &mut u32) -> i32
+    ensures { Answers (AnswersAt ⟦<KoalaBear as Stored<u32>>⟧.words (λ x cs. eval ⟦<KoalaBear as PrimeCharacteristicRing>⟧.ops ⟦<KoalaBear as PrimeCharacteristicRing>⟧.ops (λ c. c) x cs) point coefficients.now) value.old value.new result }
+{
+    let mut room = [KoalaBear::zero(); BLOCK];
+    answer(
+        points::horner::<KoalaBear, u32>(coefficients, point, &mut room),
+        value,
+    )
+}
+
+/// Writes the start, its product with the base, that one's product with the base, and so on to the slice's end.
+#[unsafe(no_mangle)]
+pub extern "C" fn p3_kb_powers(base: u32, start: u32, powers: &mut [u32]) -> i32
+    ensures { Tells (WritesPowers ⟦<KoalaBear as PrimeCharacteristicRing>⟧.ops ⟦<KoalaBear as Stored<u32>>⟧.words base start powers.old powers.new) result }
+{
+    let mut room = [KoalaBear::zero(); BLOCK];
+    status(points::powers::<KoalaBear, u32>(base, start, powers, &mut room))
+}
+
+/// The inverse of the value.
+#[unsafe(no_mangle)]
+pub extern "C" fn p3_kb_inverse(value: u32, inverse: &mut u32) -> i32
+    ensures { Answers (AnswersInverse ⟦<KoalaBear as PrimeCharacteristicRing>⟧.ops ⟦<KoalaBear as Stored<u32>>⟧.words value) inverse.old inverse.new result }
+{
+    answer(inverses::inverse::<KoalaBear, u32>(value), inverse)
+}
+
+/// Writes over each value its inverse.
+#[unsafe(no_mangle)]
+pub extern "C" fn p3_kb_batch_inverse(alloc: Global, values: &mut [u32]) -> i32
+    ensures { Tells (WritesInverses ⟦<KoalaBear as PrimeCharacteristicRing>⟧.ops ⟦<KoalaBear as Stored<u32>>⟧.words values.old values.new) result }
+{
+    let mut lanes = [KoalaBear::zero(); LANES];
+    status(inverses::batch_inverse::<KoalaBear, u32>(alloc, values, &mut lanes))
+}
+
+/// A square root of the value, as the search by Tonelli and Shanks finds it.
+#[unsafe(no_mangle)]
+pub extern "C" fn p3_kb_sqrt(value: u32, root: &mut u32) -> i32
+    ensures { Answers (AnswersRoot ⟦<KoalaBear as PrimeCharacteristicRing>⟧.ops ⟦<KoalaBear as Stored<u32>>⟧.words ⟦<KoalaBear as Field>⟧.size ⟦<KoalaBear as Field>⟧.generator value) root.old root.new result }
+{
+    answer(inverses::square_root::<KoalaBear, u32>(value), root)
+}
+
+/// Writes the points of the coset of the shift whose size is two to the log size, which is the slice's length: the
+/// shift times the powers of the two-adic generator of that order.
+#[unsafe(no_mangle)]
+pub extern "C" fn p3_kb_coset(shift: u32, log_size: usize, points: &mut [u32]) -> i32
+    ensures { Tells (WritesCoset ⟦<KoalaBear as PrimeCharacteristicRing>⟧.ops ⟦<KoalaBear as Stored<u32>>⟧.words ⟦<KoalaBear as TwoAdicField>⟧.TWO_ADICITY ⟦<KoalaBear as TwoAdicField>⟧.two_adic shift log_size points.old points.new) result }
+{
+    let mut room = [KoalaBear::zero(); BLOCK];
+    status(cosets::coset_points::<KoalaBear, u32>(shift, log_size, points, &mut room))
+}
+
+/// Writes the values, over the coset of the shift whose size is two to the log size, of the polynomial with these
+/// coefficients, the constant one first. The size is the slice's length.
+#[unsafe(no_mangle)]
+pub extern "C" fn p3_kb_eval_coset(
+    alloc: Global,
+    coefficients: &[u32],
+    shift: u32,
+    log_size: usize,
+    values: &mut [u32],
+) -> i32
+    ensures { Tells (WritesValues ⟦<KoalaBear as PrimeCharacteristicRing>⟧.ops ⟦<KoalaBear as Stored<u32>>⟧.words ⟦<KoalaBear as TwoAdicField>⟧.TWO_ADICITY ⟦<KoalaBear as TwoAdicField>⟧.two_adic coefficients.now shift log_size values.old values.new) result }
+{
+    status(cosets::coset_values::<KoalaBear, u32>(alloc, coefficients, shift, log_size, values))
+}

@@ -1,0 +1,5 @@
+mod BlockTotals
+mod LaneProducts
+mod PowerBlocks
+mod Refusals
+mod WrittenWords
