@@ -13,7 +13,7 @@ pub trait Sealed {}
 /// unchanged where it is refused.
 pub trait PrimeField: Sealed + Copy + Eq + Hash + Debug + Send + Sync + 'static {
     /// The word that a value is in memory.
-    type Word: Copy + Eq + Debug + 'static;
+    type Word: Copy + Ord + Debug + Into<u64> + TryFrom<u64, Error: Debug> + 'static;
 
     /// The order.
     const ORDER: Self::Word;
