@@ -27,3 +27,8 @@ mod fields;
 pub use error::Error;
 pub use field::PrimeField;
 pub use fields::{BabyBear, Goldilocks, KoalaBear};
+
+/// The example of README.md, as a test.
+#[cfg(doctest)]
+#[doc = include_str!("../README.md")]
+struct Readme;
