@@ -54,28 +54,28 @@ mod kinds {
     use super::*;
 
     pub fn lengths<F: PrimeField>() {
-        let one = value::<F>(1);
+        let factor = value::<F>(3);
         for length in [0, 1, LENGTH - 1, LENGTH + 1] {
-            let right = vec![one; length];
+            let right = vec![factor; length];
             assert_eq!(F::dot(&list(1), &right), Err(Length));
             refused::<F>(Length, &mut list(1), |left| F::add(left, &right));
             refused::<F>(Length, &mut list(1), |left| F::mul(left, &right));
-            refused::<F>(Length, &mut list(1), |left| F::add_scaled(left, &right, one));
+            refused::<F>(Length, &mut list(1), |left| F::add_scaled(left, &right, factor));
             // the lengths are looked at before the words
             refused::<F>(Length, &mut list(1), |left| F::add(left, &vec![no_value(); length]));
         }
     }
 
     pub fn words_of_one_list<F: PrimeField>() {
-        let one = value::<F>(1);
+        let factor = value::<F>(3);
         for mut bad in lists_with(no_value::<F>()) {
             assert_eq!(F::check(&bad), Err(Word));
             assert_eq!(F::from_words(F::words(&bad)), Err(Word));
             assert_eq!(F::sum(&bad), Err(Word));
             assert_eq!(F::product(&bad), Err(Word));
-            assert_eq!(F::horner(&bad, one), Err(Word));
+            assert_eq!(F::horner(&bad, factor), Err(Word));
             refused(Word, &mut bad, |list| F::to_canonical(list).map(|_| ()));
-            refused(Word, &mut bad, |list| F::scale(list, one));
+            refused(Word, &mut bad, |list| F::scale(list, factor));
             refused(Word, &mut bad, |list| F::batch_inverse(list));
             let mut numbers = F::words(&bad).to_vec();
             assert_eq!(F::from_canonical(&mut numbers), Err(Word));
@@ -84,22 +84,22 @@ mod kinds {
     }
 
     pub fn words_of_two_lists<F: PrimeField>() {
-        let one = value::<F>(1);
+        let factor = value::<F>(3);
         for mut bad in lists_with(no_value::<F>()) {
             let mut good = list::<F>(3);
             assert_eq!(F::dot(&good, &bad), Err(Word));
             assert_eq!(F::dot(&bad, &good), Err(Word));
             refused(Word, &mut bad, |left| F::add(left, &good));
             refused(Word, &mut bad, |left| F::mul(left, &good));
-            refused(Word, &mut bad, |left| F::add_scaled(left, &good, one));
+            refused(Word, &mut bad, |left| F::add_scaled(left, &good, factor));
             refused(Word, &mut good, |left| F::add(left, &bad));
             refused(Word, &mut good, |left| F::mul(left, &bad));
-            refused(Word, &mut good, |left| F::add_scaled(left, &bad, one));
+            refused(Word, &mut good, |left| F::add_scaled(left, &bad, factor));
         }
     }
 
     pub fn words_beside_lists<F: PrimeField>() {
-        let (bad, one) = (no_value::<F>(), value::<F>(1));
+        let (bad, factor) = (no_value::<F>(), value::<F>(3));
         assert_eq!(F::from_number(F::ORDER), Err(Word));
         assert_eq!(bad.number(), Err(Word));
         assert_eq!(bad.inverse(), Err(Word));
@@ -109,8 +109,8 @@ mod kinds {
             assert_eq!(F::horner(&good, bad), Err(Word));
             refused(Word, &mut good, |list| F::scale(list, bad));
             refused(Word, &mut good, |left| F::add_scaled(left, &right, bad));
-            refused(Word, &mut good, |room| F::powers(bad, one, room));
-            refused(Word, &mut good, |room| F::powers(one, bad, room));
+            refused(Word, &mut good, |room| F::powers(bad, factor, room));
+            refused(Word, &mut good, |room| F::powers(factor, bad, room));
         }
     }
 
