@@ -8,7 +8,7 @@ fn main() {
     let folder = PathBuf::from(env::var("P3_FIELD_LIB").unwrap_or_else(|_| beside()));
     let archive = folder.join("libp3_c.a");
     println!("cargo::rerun-if-changed={}", archive.display());
-    if let Ok(folder) = archive.canonicalize().map(|it| it.with_file_name("")) {
+    if let (Ok(folder), true) = (folder.canonicalize(), archive.exists()) {
         println!("cargo::rustc-link-search=native={}", folder.display());
         println!("cargo::rustc-link-lib=static=p3_c");
     } else {
