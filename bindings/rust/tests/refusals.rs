@@ -6,7 +6,7 @@ use p3_field_proved::Error::{Length, LogSize, NoInverse, Word};
 use p3_field_proved::{BabyBear, Error, Goldilocks, KoalaBear, PrimeField, calls};
 
 /// Where a bad word stands in a list of `LENGTH`: at its ends, and where blocks of a power of two may end.
-const PLACES: [usize; 8] = [0, 1, 15, 16, 255, 256, 511, LENGTH - 1];
+const INDICES: [usize; 8] = [0, 1, 15, 16, 255, 256, 511, LENGTH - 1];
 const LENGTH: usize = 700;
 
 /// A list that has no zero.
@@ -14,11 +14,11 @@ fn list<F: PrimeField>(seed: u64) -> Vec<F> {
     values(&mixed::<F>(LENGTH, seed).into_iter().map(|x| x.max(1)).collect::<Vec<_>>())
 }
 
-/// Lists with this value at one of the places.
+/// Lists with this value at one of the indices.
 fn lists_with<F: PrimeField>(bad: F) -> impl Iterator<Item = Vec<F>> {
-    PLACES.into_iter().map(move |place| {
-        let mut list = list(place as u64);
-        list[place] = bad;
+    INDICES.into_iter().map(move |index| {
+        let mut list = list(index as u64);
+        list[index] = bad;
         list
     })
 }
