@@ -33,7 +33,10 @@ fn listed_and_written<T: Value<Row = [u64; 1]>>(
     for number in coeffs {
         polynomial.push(T::of([*number]))?;
     }
-    let mut values = [T::of([9]); 4];
+    let mut values = Vec::new(alloc);
+    for _ in 0..4 {
+        values.push(T::of([9]))?;
+    }
     match T::of([3]).coset_values(alloc, &polynomial, 2, &mut values)? {
         Some((_, listed)) => Ok(Some([numbers(&listed), numbers(&values)])),
         None => Ok(None),
