@@ -4,11 +4,15 @@ use crate::calls::Case;
 use crate::fields::binomial_agrees;
 use crate::lists::List;
 use crate::markers::{Calls, TwoAdicCalls};
-use crate::streams::extension_words;
+use crate::streams::are_words;
 use p3_bench_prime::baby_bear::{BabyBear, BabyBearModulus};
+use p3_bench_prime::extensions::{
+    BabyBearx4, F2t5, F2t7, F17bx2, F17t5, F17x2, F17x4, F17x8, F31c, F31t3, F31x3, F31x5, F31x6,
+    Z15x2,
+};
 use p3_bench_prime::form::Plain;
 use p3_bench_prime::montgomery::Montgomery;
-use p3_bench_prime::small::{F2, F17, F17b, F31, M2, M15, M17, M17b, M31, Z15};
+use p3_bench_prime::small::{F17b, F31, M2, M15, M17, M17b, M31, Z15};
 use p3_ext::extension::{Binomial, CubicTrinomial, QuinticTrinomial, SepticTrinomial};
 use std::alloc::{AllocError, Global};
 
@@ -64,22 +68,20 @@ impl Extension {
         words: &[u64],
     ) -> Result<bool, AllocError> {
         match self {
-            Self::F17x2 => extension_words::<F17, Binomial<F17>, 2>(alloc, None, lists, words),
-            Self::F17x4 => extension_words::<F17, Binomial<F17>, 4>(alloc, None, lists, words),
-            Self::F17x8 => extension_words::<F17, Binomial<F17>, 8>(alloc, None, lists, words),
-            Self::F17bx2 => extension_words::<F17b, Binomial<F17b>, 2>(alloc, None, lists, words),
-            Self::Z15x2 => extension_words::<Z15, Binomial<Z15>, 2>(alloc, None, lists, words),
-            Self::F31x3 => extension_words::<F31, Binomial<F31>, 3>(alloc, None, lists, words),
-            Self::F31x5 => extension_words::<F31, Binomial<F31>, 5>(alloc, None, lists, words),
-            Self::F31x6 => extension_words::<F31, Binomial<F31>, 6>(alloc, None, lists, words),
-            Self::F31c => extension_words::<F31, Binomial<F31>, 2>(alloc, None, lists, words),
-            Self::BabyBearx4 => {
-                extension_words::<BabyBear, Binomial<BabyBear>, 4>(alloc, None, lists, words)
-            }
-            Self::F31t3 => extension_words::<F31, CubicTrinomial, 3>(alloc, None, lists, words),
-            Self::F17t5 => extension_words::<F17, QuinticTrinomial, 5>(alloc, None, lists, words),
-            Self::F2t5 => extension_words::<F2, QuinticTrinomial, 5>(alloc, None, lists, words),
-            Self::F2t7 => extension_words::<F2, SepticTrinomial, 7>(alloc, None, lists, words),
+            Self::F17x2 => are_words::<F17x2>(alloc, lists, words),
+            Self::F17x4 => are_words::<F17x4>(alloc, lists, words),
+            Self::F17x8 => are_words::<F17x8>(alloc, lists, words),
+            Self::F17bx2 => are_words::<F17bx2>(alloc, lists, words),
+            Self::Z15x2 => are_words::<Z15x2>(alloc, lists, words),
+            Self::F31x3 => are_words::<F31x3>(alloc, lists, words),
+            Self::F31x5 => are_words::<F31x5>(alloc, lists, words),
+            Self::F31x6 => are_words::<F31x6>(alloc, lists, words),
+            Self::F31c => are_words::<F31c>(alloc, lists, words),
+            Self::BabyBearx4 => are_words::<BabyBearx4>(alloc, lists, words),
+            Self::F31t3 => are_words::<F31t3>(alloc, lists, words),
+            Self::F17t5 => are_words::<F17t5>(alloc, lists, words),
+            Self::F2t5 => are_words::<F2t5>(alloc, lists, words),
+            Self::F2t7 => are_words::<F2t7>(alloc, lists, words),
         }
     }
 }

@@ -1,13 +1,12 @@
 //! The bytes of extension values.
 
 use crate::lists::List;
-use crate::values::{Listed, Residue};
-use p3_ext::extension::{ByteCountFits, ExtField};
+use crate::values::Listed;
 use p3_spaces::streams::RawDataSerializable;
 use std::alloc::{AllocError, Global};
 
 /// Whether the bytes of values, one value after the other, make these words.
-fn are_words<T: RawDataSerializable + Listed>(
+pub fn are_words<T: RawDataSerializable + Listed>(
     alloc: Global,
     lists: &[List],
     words: &[u64],
@@ -15,17 +14,6 @@ fn are_words<T: RawDataSerializable + Listed>(
     let values = lists.iter().map(|list| T::of_list(list));
     let stream: Vec<u64> = T::into_u64_stream(values).collect(alloc)?;
     Ok(stream.as_slice() == words)
-}
-
-/// Whether the bytes of values of the extension of degree D by the shape S make these words: a call at a field's
-/// own name passes what the field's bytes are. Nothing is read of `_room`, which tells that values have room.
-pub fn extension_words<F: ByteCountFits<D> + Residue, S: Copy, const D: usize>(
-    alloc: Global,
-    _room: Option<ExtField<F, D, S, F>>,
-    lists: &[List],
-    words: &[u64],
-) -> Result<bool, AllocError> {
-    are_words::<ExtField<F, D, S, F>>(alloc, lists, words)
 }
 
 /// Whether the bytes of a value are these.
