@@ -62,7 +62,7 @@ pub fn multiply_residues(left: u32, right: u32) -> u32
     reduce(left as u64 * right as u64)
 }
 
-/// The half of a residue: its bits turned round by one place, since the lowest one counts 2^31.
+/// The half of a residue: its bits rotated by one, since the lowest one counts 2^31.
 #[inline]
 pub fn halve_residue(word: u32) -> u32
     requires { word < P }

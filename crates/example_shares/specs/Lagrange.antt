@@ -96,7 +96,7 @@ module _ {A : Type 0} (R : Ring A) where
       join : (y p s : A) → less a a ⊗ y ⊗ w ⊗ p ⊕ a ⊗ neg s ≡ neg (a ⊗ s)
       join y p s = by_laws R.ops R.laws (a ∷ y ∷ w ∷ p ∷ s ∷ []) (search reads depth 99 fits 99999) (search reads depth 99 fits 99999) yes
 
-  -- the first two points change places
+  -- the first two points are exchanged
   swapped : (g : A → A) (a b u v : A) (xs ws : List A) → L (a ∷ b ∷ xs) (map g (a ∷ b ∷ xs)) (u ∷ v ∷ ws) ≡ L (b ∷ a ∷ xs) (map g (b ∷ a ∷ xs)) (v ∷ u ∷ ws)
   swapped g a b u v xs ws = join (g a) (g b) (product_list R.ops xs) (L xs (map g xs) ws)
     where

@@ -4,6 +4,7 @@ use Rattle.std.proofs.Common.{ap}
 use Rattle.p3_theory.specs.Lanes.Rows.{fit, fit_same}
 use Rattle.p3_array.specs.declared.array.FieldArray.TheInside as Fields
 
+-- a list of N entries as an array
 abbrev pub array_by : {A : Type 0} {n : ℕ} → List A → Fields.Inside A n
 array_by xs = record { 0 = xs }
 

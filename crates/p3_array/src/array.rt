@@ -83,7 +83,7 @@ impl<F: Inhabited, const N: usize> FieldArray<F, N> {
         )
     }
 
-    /// What `f` answers at each entry, in the same places: `f` is called at the first entry, then at the
+    /// What `f` answers at each entry, in the same indices: `f` is called at the first entry, then at the
     /// next, up to the last. Each call has to be one that `f` may take after the calls before it.
     /// Upstream's `map`.
     #[inline]

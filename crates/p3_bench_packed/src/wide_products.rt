@@ -1,5 +1,5 @@
 //! Which types have products that take more than a word of 32 bits and go one lane after the other: packings
-//! of such types are multiplied by calls in some places.
+//! of such types are multiplied by calls in some functions.
 use p3_bench_prime::form::{Form, Word};
 use p3_bench_prime::fp::Fp;
 

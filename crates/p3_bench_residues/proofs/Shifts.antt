@@ -54,7 +54,7 @@ combinations-scaled n value last r s t f p true h =
       sym (ap (λ z. (t * value + z) % n) same) ∙ h.1,
     )
 
--- both numbers change places
+-- both numbers are exchanged
 combinations-turned : (n value last rest s t : ℕ) (negative : Bool) → AreCombinations n value last rest s t negative → AreCombinations n value rest last t s (not negative)
 combinations-turned n value last rest s t false h = (h.1, h.0)
 combinations-turned n value last rest s t true h = (h.1, h.0)

@@ -4,18 +4,8 @@ ghost use Rattle.std.specs.Prelude.{◌≡◌, ◌≤◌, ◌<◌, ◌+◌, ◌-
 /// The order of Goldilocks, 2^64 - 2^32 + 1.
 pub const P: u64 = 18446744069414584321;
 
-/// A number less the order. Of the low words of products one in 2^32 comes here: such calls stay apart, so that the
-/// others go on without a comparison.
-#[cold]
-#[inline(never)]
-fn less_order(number: u64) -> u64
-    requires { P ≤ number }
-    ensures { result ≡ number - P }
-{
-    number - P
-}
-
-/// The difference of two numbers, of which the second is greater, and the order. One product in 2^32 comes here.
+/// The difference of two numbers, of which the second is greater, and the order. One product in 2^32 comes here: such a
+/// call stands apart, so that the others go on with one comparison less, and loops aren't made into vectors of jumps.
 #[cold]
 #[inline(never)]
 fn difference_with_order(number: u64, greater: u64) -> u64
@@ -27,7 +17,8 @@ fn difference_with_order(number: u64, greater: u64) -> u64
 }
 
 /// The remainder modulo the order. The 128 bits are low + 2^64 * middle + 2^96 * top; modulo the
-/// order 2^64 is 2^32 - 1 and 2^96 is minus one. Upstream's `reduce128`, whose two rare cases are jumps too.
+/// order 2^64 is 2^32 - 1 and 2^96 is minus one. What is left of low may be any word: with the multiple of 2^32 - 1 it
+/// stays below twice the order. Upstream's `reduce128`, whose rare case is a jump too.
 #[inline]
 pub fn reduce128(x: u128) -> u64
     ensures below { result < P }
@@ -37,11 +28,10 @@ pub fn reduce128(x: u128) -> u64
     let high = (x >> 64) as u64;
     let middle = high & 0xffff_ffff;
     let top = high >> 32;
-    let rest = if low < P { low } else { less_order(low) };
-    let less = if rest >= top {
-        rest - top
+    let less = if low >= top {
+        low - top
     } else {
-        difference_with_order(rest, top)
+        difference_with_order(low, top)
     };
     let more = middle * 0xffff_ffff;
     let room = P - more;

@@ -8,7 +8,7 @@ use Rattle.p3_bench_prime.specs.declared.form.Word as words
 use Rattle.p3_bench_prime.specs.declared.fp.Fp.{Fp}
 use Rattle.p3_bench_prime.specs.Elements.{canon, of, is}
 
--- a value that stands for c is set at place i
+-- a value that stands for c is set at index i
 pub map-set_value : {A : Type 0} (canon : A → ℕ) (old new : List A) (i : ℕ) (x : A) (c : ℕ) → new ≡ set old i x → canon x ≡ c → map canon new ≡ set (map canon old) i c
 map-set_value canon old new i x c e value = ap (map canon) e ∙ map-set canon old i x ∙ ap (set (map canon old) i) value
 

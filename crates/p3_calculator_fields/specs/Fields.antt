@@ -29,7 +29,7 @@ abbrev pub generator_of : FieldSpec → List ℕ
 generator_of (ResiduesModulo n g) = g % n ∷ []
 generator_of (PolynomialsModulo n D f g) = g
 
--- operations on lists of one place
+-- operations on lists of one entry
 abbrev pub on_one_place : {A : Type 0} → Ops A → Ops (List A)
 on_one_place O = record {
   zero = O.zero ∷ [];

@@ -11,6 +11,7 @@ pub record State : Type 0 where
 abbrev pub no_field : State
 no_field = record { field = None; registers = replicate 16 [] }
 
+-- the state with a field chosen and its registers
 abbrev pub at_field : FieldSpec → List (List ℕ) → State
 at_field s regs = record { field = Some s; registers = regs }
 
@@ -18,5 +19,6 @@ at_field s regs = record { field = Some s; registers = regs }
 abbrev pub all_zero : FieldSpec → State
 all_zero s = at_field s (replicate 16 (ops s).zero)
 
+-- what register r holds, as coefficients
 abbrev pub register_at : List (List ℕ) → ℕ → List ℕ
 register_at regs r = get_or regs r []

@@ -11,7 +11,7 @@ use Rattle.p3_theory.specs.Lists.Places.{to-tabulate}
 use Rattle.p3_theory.specs.Rings.Homomorphism.{length-map}
 use denote.Param.Members.{Mut}
 
--- entry c of each row, from row 0 on; d past a row's end
+-- entry c of each row, from the first row on; d past a row's end
 abbrev pub column : {A : Type 0} → A → ℕ → List (List A) → List A
 column d c rows = map (λ row. get_or row c d) rows
 

@@ -163,7 +163,7 @@ module _ {A : Type 0} where
       widths-replicate n zero = no_widths n
       widths-replicate n (suc k) = widths-cons n (replicate n p) (replicate k (replicate n p)) (length-replicate n p) (widths-replicate n k)
 
--- the bytes at a place that each row has
+-- the bytes at an index that each row has
 entries-column : (n j : ℕ) → j < n → (rows : List (List ℕ)) → AllOfLength n rows → map (λ row. slice_index row j) rows ≡ column j rows
 entries-column n j h [] w = refl
 entries-column n j h (row ∷ rows) w =
@@ -195,7 +195,7 @@ parallel_words n m count stream rows p =
           ∙ ap (word_stream m) (p.columns j h);
     }
 
--- what is left from place i on of a list of s 0 to s (n - 1)
+-- what is left from index i on of a list of s 0 to s (n - 1)
 pub left_at : {B : Type 0} (n : ℕ) (s : ℕ → B) (i : ℕ) → i < n → drop i (tabulate n s) ≡ s i ∷ drop (i + 1) (tabulate n s)
 left_at zero s i h = absurd (omega arith)
 left_at (suc n) s zero h = refl
@@ -214,7 +214,7 @@ map-by_places f [] (y ∷ ys) l h = absurd (omega (arith, l))
 map-by_places f (x ∷ xs) [] l h = absurd (omega (arith, l))
 map-by_places f (x ∷ xs) (y ∷ ys) l h = ap₂ (λ z zs. z ∷ zs) (h 0 x (omega arith)) (map-by_places f xs ys (omega (arith, l)) (λ k d b. h (suc k) d (omega arith)))
 
--- one more entry, written at its place
+-- one more entry, written at its index
 pub wrote_entry : (s : ℕ → ℕ) (i : ℕ) (ws : List ℕ) (v : ℕ) → i < length ws → ((k : ℕ) → k < i → slice_index ws k ≡ s k) → v ≡ s i
     → (k : ℕ) → k < i + 1 → slice_index (set ws i v) k ≡ s k
 wrote_entry s i ws v b h e =

@@ -6,7 +6,7 @@ use p3_spaces::array_chunks::next_chunk_padded;
 use p3_spaces::hints::{bytes_hint, words_hint};
 use p3_spaces::streams::RawDataSerializable;
 
-/// The bytes of rows of N values side by side: place j of an item is the next byte of the stream of
+/// The bytes of rows of N values side by side: index j of an item is the next byte of the stream of
 /// the j-th values. Upstream's `RawDataSerializable::into_parallel_byte_streams`.
 #[inline]
 pub fn into_parallel_byte_streams<
@@ -31,7 +31,7 @@ pub fn into_parallel_byte_streams<
     }
 }
 
-/// The words of four bytes of rows of N values side by side: place j of an item is the next word of
+/// The words of four bytes of rows of N values side by side: index j of an item is the next word of
 /// the stream of the j-th values. Upstream's `RawDataSerializable::into_parallel_u32_streams`.
 #[inline]
 pub fn into_parallel_u32_streams<
@@ -55,7 +55,7 @@ pub fn into_parallel_u32_streams<
     }
 }
 
-/// The words of eight bytes of rows of N values side by side: place j of an item is the next word of
+/// The words of eight bytes of rows of N values side by side: index j of an item is the next word of
 /// the stream of the j-th values. Upstream's `RawDataSerializable::into_parallel_u64_streams`.
 #[inline]
 pub fn into_parallel_u64_streams<
@@ -79,7 +79,7 @@ pub fn into_parallel_u64_streams<
     }
 }
 
-/// The bytes of rows of values side by side, as the row in hand and the place of its next byte.
+/// The bytes of rows of values side by side, as the row in hand and the index of its next byte.
 #[derive(Clone, Debug, Drop)]
 pub struct ParallelByteStreams<I, F, const N: usize> {
     source: I,
@@ -136,7 +136,7 @@ impl<F: RawDataSerializable + Copy, I: Iterator<Item = [F; N]>, const N: usize> 
     }
 }
 
-/// How many bytes of each value of the row in hand are left from place `at` on. This project's own.
+/// How many bytes of each value of the row in hand are left from index `at` on. This project's own.
 #[inline]
 fn left_in_row<F: RawDataSerializable + Copy, const N: usize>(
     row: &Option<[F; N]>,
@@ -285,7 +285,7 @@ impl<I: Iterator<Item = [u8; N]>, const N: usize> Iterator for ParallelU64Stream
     }
 }
 
-/// The bytes at place j of the rows. This project's own.
+/// The bytes at index j of the rows. This project's own.
 #[inline]
 fn column_bytes<const N: usize, const M: usize>(rows: &[[u8; N]; M], j: usize) -> [u8; M]
     requires { j < N }

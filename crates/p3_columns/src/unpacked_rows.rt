@@ -6,7 +6,7 @@ ghost use Rattle.std.specs.Iterator.SizeHint.{IsWithinCount};
 use crate::columns::unpacked_row;
 use p3_base::packed_traits::PackedValue;
 
-/// The rows whose columns are N packings, from row 0 on, as many as a packing has lanes: what
+/// The rows whose columns are N packings, from the first row on, as many as a packing has lanes: what
 /// `unpack_iter` answers.
 #[derive(Drop)]
 pub struct UnpackedRows<P, const N: usize> {

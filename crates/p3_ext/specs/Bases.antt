@@ -33,7 +33,7 @@ pub multiple_of_one : {F S A : Type 0} (R : Ring A) (D : ℕ) → 2 ≤ D → (f
 multiple_of_one {F = F} {S = S} R D h f m r x n e k =
     same_value r (constant R.ops x) e ∙ ap (constant R.ops) k ∙ map-of_nat (embedding {F = F} {S = S} R D h f m) n
 
--- a degree of two or more has a place 0
+-- a degree of two or more has an index 0
 pub some_place : {D : ℕ} → 2 ≤ D → 0 < D
 some_place h = omega arith
 

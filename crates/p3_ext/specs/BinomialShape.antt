@@ -29,14 +29,14 @@ module _ {A : Type 0} (R : Ring A) where
   places zero h w c root a l = absurd (omega arith)
   places (suc d) h w c root a l = sym (T.turned_places R d w c root (a, l))
 
-  -- one factor a place is the Frobenius map's sum
+  -- one factor for each index is the Frobenius map's sum
   pub scaled_is_frobenius : (D : ℕ) → 2 ≤ D → (f : List A) (w c : A) → f ≡ P.binomial R.ops D w → power R.ops c D ≡ R.one → (a : List A) → length a ≡ D
       → scale_powers R.ops D c a ≡ frobenius_list R.ops D f (binomial_image R.ops D w c) a
   scaled_is_frobenius D h f w c e root a l =
       let P' : List A → Type 0 = λ g. scale_powers R.ops D c a ≡ frobenius_list R.ops D g (binomial_image R.ops D w c) a in
       subst P' (sym e) (places D h w c root a l)
 
-  -- one factor a place too, where the map is taken n times
+  -- one factor for each index too, where the map is taken n times
   pub scaled_is_repeated : (D : ℕ) → 2 ≤ D → (f : List A) (w c : A) → f ≡ P.binomial R.ops D w → power R.ops c D ≡ R.one → (n : ℕ) (a : List A) → length a ≡ D
       → scale_powers R.ops D (power R.ops c n) a ≡ iterate (frobenius_list R.ops D f (binomial_image R.ops D w c)) n a
   scaled_is_repeated D h f w c e root n a l =

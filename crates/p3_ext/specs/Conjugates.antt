@@ -26,6 +26,7 @@ module _ {F S A : Type 0} {D : ℕ} (o : Ops A) (f phi : List A) where
   abbrev pub conjugate_product : ExtField F D S A → ExtField F D S A
   conjugate_product x = orbit (ext_ops o f) frobenius_map (D - 1) (frobenius_map x)
 
+  -- the norm: the constant coefficient of the value times the product of its conjugates
   abbrev pub norm_of : ExtField F D S A → A
   norm_of x = get_or ((ext_ops o f).mul x (conjugate_product x)).value 0 o.zero
 

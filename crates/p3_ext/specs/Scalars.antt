@@ -9,7 +9,7 @@ use Rattle.p3_theory.specs.Polynomials.BaseProduct.{base_product}
 use Rattle.p3_ext.specs.Values.{constant, ext_ops, same_value}
 use Rattle.p3_ext.specs.declared.extension.ext_field.ExtField.{ExtField}
 
--- r is x with the coefficient at place 0 changed to what the operator gives of it and c
+-- r is x with the coefficient at index 0 changed to what the operator gives of it and c
 abbrev pub ChangesFirst : {A : Type 0} → ℕ → (A → A → A → Type 0) → List A → A → List A → Type 0
 ChangesFirst {A} D gives x c r = ((d : A) → gives (get_or x 0 d) c (get_or r 0 d)) × SameAfterFirst D x r
 

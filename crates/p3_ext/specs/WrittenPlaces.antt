@@ -1,11 +1,11 @@
--- Lists that a loop writes place by place, by what is to hold of each entry and those it comes from.
+-- Lists that a loop writes index by index, by what is to hold of each entry and those it comes from.
 use Rattle.std.proofs.Common.{◌≡◌, ◌<◌, ◌+◌, ℕ, List, length, get_or, subst, sym, ◌∙◌, arith}
 use Rattle.std.proofs.Math.ListN.{set}
 use Rattle.std.proofs.lemmas.List.{get_or-set_same, get_or-set_other, get_or_default, length-set}
 use borrow.Author.Count.{below_more}
 
 module _ {A : Type 0} where
-  -- one more place, where P d k r says what is to hold of entry k, r, with d for what is past an end
+  -- one more index, where P d k r says what is to hold of entry k, r, with d for what is past an end
   pub written-more : (P : A → ℕ → A → Type 0) (v : List A) (i : ℕ) (r : A) → i < length v → ((d : A) → P d i r)
       → ((d : A) (k : ℕ) → k < i → P d k (get_or v k d)) → (d : A) (k : ℕ) → k < i + 1 → P d k (get_or (set v i r) k d)
   written-more P v i r b here below d =

@@ -28,7 +28,7 @@ pub trait HasSubfield<S: Field>: Field + Algebra<S> {
     }
 }
 
-/// The base lies in each of its extensions: the values whose coefficients past place 0 are zero.
+/// The base lies in each of its extensions: the values whose coefficients past index 0 are zero.
 impl<F: FrobeniusExtendable<D, S>, const D: usize, S: ExtensionShape> HasSubfield<F>
     for ExtField<F, D, S, F> {
     #[inline]

@@ -1,4 +1,4 @@
-//! The front of the library: every public name at its place, over the crates that hold them.
+//! The front of the library: every public name at its path, over the crates that hold them.
 #![tactic(auto)]
 
 pub mod extension;

@@ -18,7 +18,7 @@ take-set [] i c h = absurd (omega arith)
 take-set (x ∷ l) zero c h = refl
 take-set (x ∷ l) (suc i) c h = ap (λ t. x ∷ t) (take-set l i c (omega arith))
 
--- a number is read into place i
+-- a number is read into index i
 prefixed-more : (n : ℕ) (l m : List ℕ) (i c : ℕ) (w : List ℕ) (ws : List (List ℕ)) → i < length l → number (n - 1) w ≡ Some c → m ≡ set l i c
     → prefixed (take (i + 1) m) (numbers_below n ws) ≡ prefixed (take i l) (numbers_below n (w ∷ ws))
 prefixed-more n l m i c w ws h e s =

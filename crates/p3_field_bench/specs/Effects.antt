@@ -34,6 +34,7 @@ abbrev pub At : {A : Type 0} → Result A Fault → (A → Outcome → Type 0) �
 At (Ok a) P o = P a o
 At (Err k) P o = o ≡ Faults k
 
+-- an item before a list, where both are there
 abbrev pub onto : Option ℕ → Option (List ℕ) → Option (List ℕ)
 onto (Some c) (Some cs) = Some (c ∷ cs)
 onto c cs = None
@@ -100,6 +101,7 @@ abbrev pub chosen : Option FieldSpec → Outcome
 chosen None = Faults NoField
 chosen (Some s) = Continues (all_zero s) []
 
+-- what `field` answers
 abbrev pub Chooses : List (List ℕ) → Outcome → Type 0
 Chooses (name ∷ []) o = o ≡ chosen (field_named name)
 Chooses args o = o ≡ Faults WordCount
@@ -109,6 +111,7 @@ abbrev pub ComputesAt : Option FieldSpec → Operation → List (List ℕ) → L
 ComputesAt None operation regs args o = o ≡ Faults NoField
 ComputesAt (Some s) operation regs args o = Computes operation s regs args o
 
+-- what a command answers for its words
 abbrev pub Commands : Option Command → State → List (List ℕ) → Outcome → Type 0
 Commands None st args o = o ≡ Faults UnknownCommand
 Commands (Some Field) st args o = Chooses args o

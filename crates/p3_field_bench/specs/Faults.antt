@@ -3,6 +3,7 @@ use Rattle.std.specs.Prelude.{ℕ}
 use Rattle.p3_field_bench.specs.declared.faults.Fault.{Fault}
 use Rattle.p3_field_bench.specs.declared.faults.Fault.TheVariants.{UnknownCommand, WordCount, BadRegister, BadNumber, NoInverse, NoRoot, NoField, NoMemory, ReadFault, LongLine}
 
+-- the number of a fault, as its line tells it
 abbrev pub fault_code : Fault → ℕ
 fault_code UnknownCommand = 1
 fault_code WordCount = 2

@@ -17,6 +17,7 @@ abbrev pub HasNoEnd : List ℕ → Type 0
 HasNoEnd [] = Unit {0}
 HasNoEnd (b ∷ bytes) = (b ≡ 10 → ⊥) × HasNoEnd bytes
 
+-- none of the lines has an end of line in it
 abbrev pub HaveNoEnd : List (List ℕ) → Type 0
 HaveNoEnd [] = Unit {0}
 HaveNoEnd (line ∷ lines) = HasNoEnd line × HaveNoEnd lines

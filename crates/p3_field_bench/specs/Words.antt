@@ -26,6 +26,7 @@ commands =
     ∷ (codes "show", Compute Show)
     ∷ []
 
+-- the command that a word names
 abbrev pub command_of : List ℕ → Option Command
 command_of word = lookup commands word
 
@@ -51,14 +52,17 @@ number most word = decimal_up_to 20 most word
 abbrev pub register : List ℕ → Option ℕ
 register word = decimal_up_to 2 15 word
 
+-- a register, where it is one
 abbrev pub one_of : Option ℕ → Result ℕ Fault
 one_of (Some r) = Ok r
 one_of r = Err BadRegister
 
+-- two registers, where both are
 abbrev pub two_of : Option ℕ → Option ℕ → Result (ℕ × ℕ) Fault
 two_of (Some r) (Some a) = Ok (r, a)
 two_of r a = Err BadRegister
 
+-- three registers, where all are
 abbrev pub three_of : Option ℕ → Option ℕ → Option ℕ → Result (ℕ × ℕ × ℕ) Fault
 three_of (Some r) (Some a) (Some b) = Ok (r, a, b)
 three_of r a b = Err BadRegister
@@ -74,10 +78,12 @@ abbrev pub one_register : List (List ℕ) → Result ℕ Fault
 one_register (r ∷ []) = one_of (register r)
 one_register args = Err WordCount
 
+-- two words as registers
 abbrev pub two_registers : List (List ℕ) → Result (ℕ × ℕ) Fault
 two_registers (r ∷ a ∷ []) = two_of (register r) (register a)
 two_registers args = Err WordCount
 
+-- three words as registers
 abbrev pub three_registers : List (List ℕ) → Result (ℕ × ℕ × ℕ) Fault
 three_registers (r ∷ a ∷ b ∷ []) = three_of (register r) (register a) (register b)
 three_registers args = Err WordCount

@@ -29,7 +29,7 @@ limit-from d b n k h l = (
       ],
 )
 
--- k digits are counted: their number, and the weight of the next place
+-- k digits are counted: their number, and the weight of the next digit
 pub record IsCounted (d b n k sum power : ℕ) : Type 0 where
   pub weight : power ≡ b ^ k
   pub number : sum ≡ num (replicate k d) b
@@ -51,7 +51,7 @@ module _ {d b n k sum power : ℕ} (is : IsCounted d b n k sum power) where
     fits = f;
   }
 
-  -- the weight of the next place is past the order
+  -- the weight of the next digit is past the order
   pub stops_after : (more s : ℕ) → 0 < d → more ≡ d * power → s ≡ sum + more → s < n → n ≤ power * b → IsLimit d b n (k + 1)
   stops_after more s z p e h q =
       let number : num (replicate (k + 1) d) b ≡ s = rw add-one (omega (arith, e, is.number, p, num-more d b k, ap (λ z. d * z) is.weight)) in

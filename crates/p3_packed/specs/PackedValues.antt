@@ -17,6 +17,7 @@ use Rattle.p3_ext.specs.declared.extension.ext_field.ExtField.{ExtField}
 use Rattle.p3_packed.specs.declared.packed_ext_field.PackedExtField.{PackedExtField}
 
 module _ {F P S : Type 0} {D : ℕ} where
+  -- an extension value over packings as a packing of extension values
   abbrev pub packed : ExtField F D S P → PackedExtField F D S P
   packed v = record { value = v }
 

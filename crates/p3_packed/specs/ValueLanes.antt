@@ -27,6 +27,7 @@ hom_same {O = O} {P = P} k e = record {
   mul = λ x y. e (O.mul x y) ∙ k.mul x y ∙ sym (ap₂ P.mul (e x) (e y));
 }
 
+-- the coefficients of a value
 abbrev pub coefficients_of : {F S A : Type 0} {D : ℕ} → ExtField F D S A → List A
 coefficients_of v = v.value
 

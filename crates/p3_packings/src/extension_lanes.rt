@@ -117,6 +117,21 @@ pub trait PackedExtensionRing<F, EF: PrimeCharacteristicRing>: ExtensionLanes<F,
     ghost ext_keeps: { KeepsLanes Self.ops EF.ops Self.ext_lanes Self.LANES };
 }
 
+/// The value at a lane of packings one after the other: lane `lane % LANES` of packing `lane / LANES`, where `LANES` is
+/// the number of lanes of each. This project's own.
+#[inline]
+pub fn lane_of_packings<F, EF: PrimeCharacteristicRing, PE: ExtensionLanes<F, EF>>(
+    packings: &[PE],
+    lane: usize,
+) -> EF
+    requires { lane < PE.LANES * length packings.now }
+    ensures { (p : PE) → slice_get (PE.ext_lanes (get_or packings.now (lane / PE.LANES) p)) (lane % PE.LANES) ≡ Some result }
+{
+    let width = PE::LANES;
+    let packing = &packings[lane / width];
+    ExtensionLanes::<F, EF>::extract(packing, lane % width)
+}
+
 /// A packing of F has its values in its lanes.
 impl<F: PrimeCharacteristicRing + Packable, P: PackedRing<F> + Inhabited> ExtensionLanes<F, F>
     for P {

@@ -8,7 +8,7 @@ use crate::extension_lanes::ExtensionLanes;
 use p3_ring::ring::PrimeCharacteristicRing;
 use std::marker::PhantomData;
 
-/// The rows whose columns are N packings, from row 0 on, as many as a packing has lanes: what
+/// The rows whose columns are N packings, from the first row on, as many as a packing has lanes: what
 /// `unpack_ext_iter` answers.
 #[derive(Drop)]
 pub struct UnpackedExtRows<F, EF, PE, const N: usize> {

@@ -48,7 +48,7 @@ module _ {A : Type 0} (o : Ops A) where
     )
 
   module _ (l : RingLaws o) where
-    -- a dot product of lists of n items, by what stands at each place
+    -- a dot product of lists of n items, by what stands at each index
     dot-sum : (n : ℕ) (xs ys : List A) (f : ℕ → A) → length xs ≡ n → length ys ≡ n
         → ((i : ℕ) → i < n → o.mul (get_or xs i o.zero) (get_or ys i o.zero) ≡ f i)
         → dot o xs ys ≡ sum_of o n f
@@ -105,7 +105,7 @@ module _ {A : Type 0} (o : Ops A) where
           plain : 0 + (k + 1) ≡ k + 1
           plain = omega arith
 
--- a list that holds what stands at the first n places of another
+-- a list that holds what stands at the first n indices of another
 pub taken : {A : Type 0} (d : A) (n : ℕ) (xs ys : List A) → length xs ≡ n → n ≤ length ys → ((i : ℕ) → i < n → get_or xs i d ≡ get_or ys i d) → xs ≡ take n ys
 taken d n xs ys l le h = ext_get_or d xs (take n ys) (l ∙ sym (length-take-le n ys le))
     (λ i lt. let below : i < n = omega (arith, lt, l) in h i below ∙ sym (get_or-take n ys i d below))

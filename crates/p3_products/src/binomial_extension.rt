@@ -168,7 +168,7 @@ pub fn binomial_square<F: PrimeCharacteristicRing, A: Algebra<F>, const D: usize
     }
 }
 
-/// Writes zero at each place.
+/// Writes zero at each index.
 #[inline]
 fn clear<A: PrimeCharacteristicRing>(res: &mut [A])
     ensures { res.new ≡ replicate (length res.old) A.ops.zero }

@@ -138,7 +138,7 @@ fn write_conjugate<F: PrimeCharacteristicRing>(even: &[F], odd: &[F], res: &mut 
     }
 }
 
-/// The norm modulo `Y^2 - W` of the even and odd places of four coefficients.
+/// The norm modulo `Y^2 - W` of the even and odd indices of four coefficients.
 #[inline]
 fn quartic_norm<F: PrimeCharacteristicRing>(a: [F; 4], w: F) -> [F; 2]
     ensures { result ≡ norm_by_halves F.ops 2 w (F.ops.zero ∷ F.ops.one ∷ []) (at F.ops a 0 ∷ at F.ops a 2 ∷ []) (at F.ops a 1 ∷ at F.ops a 3 ∷ []) }
@@ -166,7 +166,7 @@ fn product_at_two<F: PrimeCharacteristicRing>(a: [F; 2], b: [F; 2], w: F) -> [F;
 }
 
 /// Whether a list of four coefficients has an inverse modulo `X^4 - W`, which `res` then is: the
-/// conjugate of its even and odd places divided by their norm modulo `Y^2 - W`. Upstream's
+/// conjugate of its even and odd indices divided by their norm modulo `Y^2 - W`. Upstream's
 /// `quartic_inv`.
 #[inline]
 pub fn quartic_inv<F: Field>(a: &[F], res: &mut [F], w: F) -> bool
@@ -223,7 +223,7 @@ fn product_at_four<F: PrimeCharacteristicRing>(a: [F; 4], b: [F; 4], w: F) -> [F
 }
 
 /// Whether a list of eight coefficients has an inverse modulo `X^8 - W`, which `res` then is: the
-/// conjugate of its even and odd places divided by their norm modulo `Y^4 - W`. Upstream's
+/// conjugate of its even and odd indices divided by their norm modulo `Y^4 - W`. Upstream's
 /// `octic_inv`.
 #[inline]
 pub fn octic_inv<F: Field>(a: &[F], res: &mut [F], w: F) -> bool

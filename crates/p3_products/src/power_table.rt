@@ -21,7 +21,7 @@ pub trait PowerTable<F: Field, const D: usize> {
     ghost first_is_one: { powers 0 ≡ Polynomial.embed F.ops D F.ops.one };
 }
 
-/// What the coefficients of a value from X on give to place k of its image.
+/// What the coefficients of a value from X on give to index k of its image.
 #[inline]
 fn image_of_rest<F: Field, T: PowerTable<F, D>, const D: usize>(a: &[F], k: usize) -> F
     requires degree { 2 ≤ D }

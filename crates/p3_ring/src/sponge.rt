@@ -11,11 +11,11 @@ pub trait SpongePaddingValue: Copy {
     /// The one.
     ghost one_pad: { Self };
 
-    /// Zero, at each place of an array.
+    /// Zero, at each entry of an array.
     fn pad_zero() -> Self
         ensures { result ≡ zero_pad };
 
-    /// One, at each place of an array.
+    /// One, at each entry of an array.
     fn pad_one() -> Self
         ensures { result ≡ one_pad };
 }

@@ -44,7 +44,7 @@ module _ {A : Type 0} (O : Ops A) (size : Option ℕ) (generator : A) where
   StepMay (Inv d a) regs result new = Inverts regs d (register O regs a) result new
   StepMay (Sqrt d a) regs result new = TakesRoot regs d (register O regs a) result new
 
-  -- what the steps may answer, the first one's place being i, and the registers after them: each step
+  -- what the steps may answer, the first one's index being i, and the registers after them: each step
   -- goes on from the registers that the one before it left, and the first that is refused ends the run
   abbrev pub RunMay : List FieldStep → ℕ → List A → Result (Unit {0}) StepRefused → List A → Type 0
   RunMay [] i regs result new = (result ≡ Ok tt) × (new ≡ regs)

@@ -7,6 +7,7 @@ use Rattle.p3_runs.specs.declared.steps.Step.{Step}
 use Rattle.p3_runs.specs.declared.steps.Step.TheVariants.{Add, Sub, Mul, Neg, Square, Double, Exp, Mul2Exp}
 
 module _ {A : Type 0} (O : Ops A) where
+  -- what register k holds; zero past the last one
   abbrev pub register : List A → ℕ → A
   register regs k = slice_index_or regs k O.zero
 

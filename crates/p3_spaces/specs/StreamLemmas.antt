@@ -178,7 +178,7 @@ module _ {S A : Type 0} (steps : S → Option A → S → Type 0) where
   set-seam (z ∷ zs) [] x h = absurd (omega arith)
   set-seam (z ∷ zs) (y ∷ ys) x h = ap (λ l. z ∷ l) (set-seam zs ys x (omega arith))
 
-  -- one more item came, and was written to its place
+  -- one more item came, and was written to its index
   pub wrote_next : (s t u : S) (ys zs : List A) (i : ℕ) (x : A) → i < length ys → steps t (Some x) u
       → (xs : List A) × (length xs ≡ i) × (zs ≡ xs ++ drop i ys) × Yields steps s xs t
       → (xs : List A) × (length xs ≡ i + 1) × (set zs i x ≡ xs ++ drop (i + 1) ys) × Yields steps s xs u
@@ -282,7 +282,7 @@ next_byte zero (b ∷ bs) = refl
 next_byte (suc k) [] = refl
 next_byte (suc k) (b ∷ bs) = next_byte k bs
 
--- the bytes up to place k, each by its worth, and the number of the bytes that are left
+-- the bytes up to index k, each by its worth, and the number of the bytes that are left
 bytes_through : (k : ℕ) (bs : List ℕ) → sum_through (λ i. byte_worth i (slice_index bs i)) k + 256 ^ suc k * little_endian (drop (suc k) bs) ≡ little_endian bs
 bytes_through zero bs = sym (next_byte 0 bs)
 bytes_through (suc k) bs =

@@ -27,7 +27,7 @@ padded n p xs = xs ++ replicate (n - length xs) p
 abbrev pub group_count : ℕ → ℕ → ℕ
 group_count n items = (items + (n - 1)) / n
 
--- group i of n items: those from place n * i on, filled up by copies of p
+-- group i of n items: those from index n * i on, filled up by copies of p
 abbrev pub group : {A : Type 0} → ℕ → A → List A → ℕ → List A
 group n p xs i = padded n p (take n (drop (n * i) xs))
 
@@ -93,7 +93,7 @@ ReadsGroup {A = A} f turn s r t = MatchOption r (turn s None t) (λ w. (xs : Lis
 
 -- ---- streams side by side
 
--- the entries at place j of the rows
+-- the entries at index j of the rows
 abbrev pub column : {A : Type 0} → ℕ → List (List A) → List A
 column j rows = filter_map (λ row. slice_get row j) rows
 
@@ -101,7 +101,7 @@ column j rows = filter_map (λ row. slice_get row j) rows
 abbrev pub AllOfLength : {A : Type 0} → ℕ → List (List A) → Type 0
 AllOfLength n rows = All (λ row. length row ≡ n) rows
 
--- so many rows of n entries, whose entries at place j are the stream j
+-- so many rows of n entries, whose entries at index j are the stream j
 pub record AreParallel {A : Type 0} (n count : ℕ) (stream : ℕ → List A) (rows : List (List A)) : Type 0 where
   pub counted : length rows ≡ count
   pub widths : AllOfLength n rows
@@ -111,7 +111,7 @@ pub record AreParallel {A : Type 0} (n count : ℕ) (stream : ℕ → List A) (r
 abbrev pub row_bytes : {A : Type 0} → (A → List ℕ) → ℕ → List A → List (List ℕ)
 row_bytes bytes n row = tabulate n (λ i. map (λ x. slice_index (bytes x) i) row)
 
--- the words that the bytes at each place of some rows of n bytes make, the lowest byte first
+-- the words that the bytes at each entry of some rows of n bytes make, the lowest byte first
 abbrev pub row_words : ℕ → List (List ℕ) → List ℕ
 row_words n rows = tabulate n (λ j. little_endian (map (λ row. slice_index row j) rows))
 
@@ -119,7 +119,7 @@ row_words n rows = tabulate n (λ j. little_endian (map (λ row. slice_index row
 abbrev pub TakesFirst : {S F B : Type 0} → (S → Option F → S → Type 0) → (F → List B) → S → List B → Option B → S → List B → Type 0
 TakesFirst steps parts s held r t held' = Draws steps parts s held r t (λ rest. held' ≡ rest)
 
--- what is left from place i on of the list of the item in hand
+-- what is left from index i on of the list of the item in hand
 abbrev pub left_of : {F B : Type 0} → (F → List B) → Option F → ℕ → List B
 left_of parts None i = []
 left_of parts (Some x) i = drop i (parts x)

@@ -16,12 +16,12 @@ module _ {S A : Type 0} (steps : S → Option A → S → Type 0) where
       let m = taken-front xs n.0 h.0 t h.2 n.2 in
       (m.0, n.1 ∙ ap (λ ws. x ∷ ws) m.1, m.2)
 
-  -- what `take_up_to` tells: k items xs were written over the front of n places
+  -- what `take_up_to` tells: k items xs were written over the front of n indices
   abbrev pub Wrote : ℕ → ℕ → S → List A → List A → S → Type 0
   Wrote n k s old new t = (xs : List A) × (length xs ≡ k) × (new ≡ xs ++ drop k old) × TakesUpTo steps n s xs t
 
   module _ (n k : ℕ) (s t : S) (old new all : List A) (w : Wrote n k s old new t) (y : YieldsExactly steps s all) where
-    -- fewer were written than there are places
+    -- fewer were written than the slice has entries
     pub too_few : k < n → length all ≡ n → ⊥
     too_few lt l = elim w.3 [
       | inl q ↦ omega (arith, lt, w.1, q.0)
@@ -34,14 +34,14 @@ module _ {S A : Type 0} (steps : S → Option A → S → Type 0) where
       whole : (length w.0 ≡ n) × Yields steps s w.0 t
       whole = elim w.3 [ inl q ↦ q | inr q ↦ absurd (omega (arith, full, w.1, q.0)) ]
 
-      -- as many as there are places, and then none
+      -- as many as it has entries, and then none
       pub just_enough : {u : S} → length old ≡ n → steps t None u → new ≡ all
       just_enough l h =
           let m = taken-front w.0 all s t whole.1 y in
           let past : length old ≤ k = omega (arith, l, full) in
           w.2 ∙ ap (λ ws. w.0 ++ ws) (drop_of_length-le old past) ∙ sym (m.1 ∙ ap (λ ws. w.0 ++ ws) (YieldsExactly-none m.2 h))
 
-      -- as many as there are places, and then one more
+      -- as many as it has entries, and then one more
       pub too_many : {x : A} {u : S} → steps t (Some x) u → length all ≡ n → ⊥
       too_many h l =
           let m = taken-front w.0 all s t whole.1 y in
@@ -50,7 +50,7 @@ module _ {S A : Type 0} (steps : S → Option A → S → Type 0) where
 
   -- the same told by the items that came, whatever the iterator may give else
   module _ (n k : ℕ) (s t : S) (old new : List A) (w : Wrote n k s old new t) where
-    -- fewer were written than there are places
+    -- fewer were written than the slice has entries
     pub drawn_few : k < n → GivesOtherCount steps n s
     drawn_few lt = elim w.3 [
       | inl q ↦ absurd (omega (arith, lt, w.1, q.0))
@@ -61,7 +61,7 @@ module _ {S A : Type 0} (steps : S → Option A → S → Type 0) where
       all_written : (length w.0 ≡ n) × Yields steps s w.0 t
       all_written = elim w.3 [ inl q ↦ q | inr q ↦ absurd (omega (arith, full, w.1, q.0)) ]
 
-      -- as many as there are places, and then none
+      -- as many as it has entries, and then none
       pub drawn_enough : {u : S} → length old ≡ n → steps t None u → Drains steps s new
       drawn_enough {u} l h =
           let past : length old ≤ k = omega (arith, l, full) in
@@ -69,7 +69,7 @@ module _ {S A : Type 0} (steps : S → Option A → S → Type 0) where
           let P : List A → Type 0 = Drains steps s in
           subst P (sym same) (u, (t, all_written.1, h))
 
-      -- as many as there are places, and then one more
+      -- as many as it has entries, and then one more
       pub drawn_more : {x : A} {u : S} → steps t (Some x) u → GivesOtherCount steps n s
       drawn_more {x} {u} h = (w.0, Some x, u, (t, all_written.1, h), all_written.0)
 

@@ -12,11 +12,11 @@ pub trait ExtensionField<Base: Field>: Field
     + Algebra<Base>
     + BasedVectorSpace<Base>
     + AlgebraIdentity<Base> {
-    /// Whether the value lies in the base: every coefficient past place 0 is zero.
+    /// Whether the value lies in the base: every coefficient past index 0 is zero.
     fn is_in_basefield(&self) -> bool
         ensures { IsTrue result ↔ IsScalar Base.ops (Self.coefficients self.now) };
 
-    /// The element of the base that the value is, its coefficient at place 0, and `None` exactly where
+    /// The element of the base that the value is, its coefficient at index 0, and `None` exactly where
     /// the value doesn't lie in the base.
     fn as_base(&self) -> Option<Base>
         ensures exact { IsSome result ↔ IsScalar Base.ops (Self.coefficients self.now) }

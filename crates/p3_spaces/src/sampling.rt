@@ -4,6 +4,6 @@ pub trait UniformSamplingField {
     /// The most bits that one field element gives.
     const MAX_SINGLE_SAMPLE_BITS: usize;
 
-    /// At place k the greatest multiple of 2^k that is at most the order.
+    /// At index k the greatest multiple of 2^k that is at most the order.
     const SAMPLING_BITS_M: [u64; 64];
 }

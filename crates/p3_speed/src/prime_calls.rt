@@ -21,7 +21,7 @@ pub extern "C" fn p3_speed_product_chain(field: u32, start: u64, factor: u64, co
     )
 }
 
-/// The left slice, multiplied place by place by the right one `rounds` times: its dot product with
+/// The left slice, multiplied index by index by the right one `rounds` times: its dot product with
 /// the right one.
 #[unsafe(no_mangle)]
 pub extern "C" fn p3_speed_multiplied_slices(
@@ -67,7 +67,7 @@ pub extern "C" fn p3_speed_added_slices(
     )
 }
 
-/// Sums of the slice, each written over a place of it: the last of `rounds`.
+/// Sums of the slice, each written over one of its indices: the last of `rounds`.
 #[unsafe(no_mangle)]
 pub extern "C" fn p3_speed_sums(field: u32, alloc: Global, numbers: &[u64], rounds: usize) -> u64
     ensures { ⟦<PrimeFields as NumberedPrimes>⟧.rounds_answer field (SliceRounds.Sums numbers.entry rounds) result }
@@ -124,7 +124,7 @@ pub extern "C" fn p3_speed_power_chain(
     )
 }
 
-/// Dot products of the slices, each written over a place of the left one: the last of `rounds`.
+/// Dot products of the slices, each written over an index of the left one: the last of `rounds`.
 #[unsafe(no_mangle)]
 pub extern "C" fn p3_speed_dot_products(
     field: u32,
@@ -146,7 +146,7 @@ pub extern "C" fn p3_speed_dot_products(
     )
 }
 
-/// Linear combinations of the left slice by the right one, each written over a place of the left
+/// Linear combinations of the left slice by the right one, each written over an index of the left
 /// one: the last of `rounds`.
 #[unsafe(no_mangle)]
 pub extern "C" fn p3_speed_linear_combinations(

@@ -276,7 +276,7 @@ pub fn field_to_array<R: PrimeCharacteristicRing, const D: usize>(x: R) -> [R; D
     arr
 }
 
-/// The sum of the products of the items at equal places, as far as the shorter of the iterators
+/// The sum of the products of the items at equal indices, as far as the shorter of the iterators
 /// goes; the other one may be endless. The right items lie in a ring and the left ones in an
 /// algebra over it, which may be the ring itself. Upstream's `dot_product`.
 #[inline]
@@ -347,7 +347,7 @@ pub trait HornerIter: DoubleEndedIterator + Sized
 where
     Self::Item: PrimeCharacteristicRing,
 {
-    /// The sum of the item at place i times `x` to the power i, and `acc` times `x` to the power
+    /// The sum of the item at index i times `x` to the power i, and `acc` times `x` to the power
     /// of the length; a long list by four strands of products side by side. Upstream's `horner_acc`.
     #[inline]
     fn horner_acc<Acc, X>(self, acc: Acc, x: X) -> Acc
@@ -376,7 +376,7 @@ where
         sum
     }
 
-    /// The sum of the item at place i times `x` to the power i. Upstream's `horner`.
+    /// The sum of the item at index i times `x` to the power i. Upstream's `horner`.
     #[inline]
     fn horner<Acc, X>(self, x: X) -> Acc
     where

@@ -8,7 +8,7 @@ ghost use Rattle.p3_theory.specs.Lanes.VectorLanes.{vector_lane};
 
 use crate::vectorized::Vectorized;
 use p3_base::packed_traits::Inhabited;
-use p3_packings::extension_lanes::{ExtensionLanes, PackedExtensionRing};
+use p3_packings::extension_lanes::{PackedExtensionRing, lane_of_packings};
 use p3_ring::accumulate::{product_from, sum_from};
 use p3_ring::ring::{PrimeCharacteristicRing, RingSums};
 use p3_spaces::basis::BasedVectorSpace;
@@ -71,17 +71,6 @@ impl<F: Copy, EF: Copy, PE: Inhabited, const N: usize> VectorizedExt<F, EF, PE, 
         ensures { result ≡ self.items }
     {
         self.0
-    }
-
-    /// The packing at an index below N.
-    #[inline]
-    fn part(self, index: usize) -> PE
-        requires { index < N }
-        ensures { result ≡ get_or self.items index result }
-    {
-        let parts = self.items();
-        let all = &parts[..];
-        all[index]
     }
 }
 
@@ -365,9 +354,8 @@ impl<
         requires { lane < PE.LANES * N }
         ensures { result ≡ vector_lane PE.ops EF.ops PE.ext_lanes PE.LANES lane self.now }
     {
-        let width = PE::LANES;
-        let part = self.part(lane / width);
-        ExtensionLanes::extract(&part, lane % width)
+        let parts = self.items();
+        lane_of_packings(&parts[..], lane)
     }
 }
 

@@ -16,7 +16,7 @@ use p3_ring::ring::PrimeCharacteristicRing;
 /// A field with two-adic generators of its extension of degree D by `X^D = W`. Upstream's
 /// `HasTwoAdicBinomialExtension`.
 pub trait HasTwoAdicBinomialExtension<const D: usize>: BinomiallyExtendable<D> {
-    /// The coefficients of the generators, by bits and place.
+    /// The coefficients of the generators, by bits and index of the coefficient.
     ghost ext_two_adic: { ℕ → ℕ → Self };
 
     /// The greatest number of bits that a two-adic generator of the extension is given for.
@@ -44,7 +44,7 @@ pub trait HasTwoAdicComplexBinomialExtension<const D: usize>: HasComplexBinomial
     ghost use Rattle.p3_ext.specs.declared.extension.ext_field.ExtField.{ExtField};
     ghost use Rattle.p3_ext.specs.declared.extension.Binomial.{Binomial};
 
-    /// The coefficients of the generators, by bits and place.
+    /// The coefficients of the generators, by bits and index of the coefficient.
     ghost complex_ext_two_adic: { ℕ → ℕ → ExtField Self 2 (Binomial Self) Self };
 
     /// The greatest number of bits that a two-adic generator of the extension is given for.
@@ -87,7 +87,7 @@ impl<F: HasTwoAdicComplexBinomialExtension<D>, const D: usize> HasTwoAdicBinomia
 /// A field with two-adic generators of its extension of degree D by the shape S. It stands for
 /// what the shapes share; this project's own.
 pub trait TwoAdicExtendable<const D: usize, S: ExtensionShape>: FrobeniusExtendable<D, S> {
-    /// The coefficients of the generators, by bits and place.
+    /// The coefficients of the generators, by bits and index of the coefficient.
     ghost two_adic_coefficients: { ℕ → ℕ → Self };
 
     /// The greatest number of bits that a two-adic generator of the extension is given for.

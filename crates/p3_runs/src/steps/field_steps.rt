@@ -42,7 +42,7 @@ pub enum StepFault {
 /// The first step that was refused, counted from 0, and why. This project's own.
 #[derive(Clone, Copy, Debug, PartialEq, Eq)]
 pub struct StepRefused {
-    /// The place of the step in the list.
+    /// The index of the step in the list.
     pub index: usize,
     /// Why it was refused.
     pub kind: StepFault,

@@ -11,7 +11,7 @@ use Rattle.p3_theory.specs.Polynomials.Sequences.{zero-add}
 use Rattle.p3_theory.specs.Bases.Coordinates.{basis_element}
 use Rattle.p3_theory.specs.Rings.DotProduct.{dot, dot-step, dot-end}
 
--- every coefficient past place 0 is zero
+-- every coefficient past index 0 is zero
 abbrev pub IsScalar : {A : Type 0} → Ops A → List A → Type 0
 IsScalar O cs = (k : ℕ) → 1 ≤ k → at O cs k ≡ O.zero
 
@@ -24,7 +24,7 @@ module _ {V A : Type 0} (O : Ops A) (P : Ops V) (coefficients : V → List A) (n
   abbrev pub IsBasisSum : List V → V → Type 0
   IsBasisSum cs r = (basis : ℕ → V) → IsBasis basis → r ≡ dot P (tabulate n basis) cs
 
-  -- s and the products from place i on make that sum
+  -- s and the products from index i on make that sum
   abbrev pub MakesBasisSum : List V → ℕ → V → Type 0
   MakesBasisSum cs i s = (basis : ℕ → V) → IsBasis basis → P.add s (dot P (drop i (tabulate n basis)) (drop i cs)) ≡ dot P (tabulate n basis) cs
 
@@ -41,8 +41,9 @@ module _ {V A : Type 0} (O : Ops A) (P : Ops V) (coefficients : V → List A) (n
     pub basis-end : (cs : List V) (i : ℕ) (s : V) → n ≤ i → MakesBasisSum cs i s → IsBasisSum cs s
     basis-end cs i s h p basis b = dot-end l (tabulate n basis) cs i s _ (omega (arith, length-tabulate n basis)) (p basis b)
 
--- coefficients from place 1 up to i that are zero
+-- coefficients from index 1 up to i that are zero
 module _ {A : Type 0} (O : Ops A) (cs : List A) where
+  -- the coefficients from X on and below index i are zero
   abbrev pub ZerosBelow : ℕ → Type 0
   ZerosBelow i = (k : ℕ) → 1 ≤ k → k < i → at O cs k ≡ O.zero
 
@@ -67,7 +68,7 @@ module _ {A : Type 0} (O : Ops A) (cs : List A) where
   pub not_scalar : (i : ℕ) (x : A) → 1 ≤ i → i < length cs → x ≡ get_or cs i x → (x ≡ O.zero → ⊥) → IsScalar O cs → ⊥
   not_scalar i x h lt e n s = n (sym (read_at cs i x O.zero lt e) ∙ s i h)
 
--- what is zero past place 0 is the embedding of its coefficient there
+-- what is zero past index 0 is the embedding of its coefficient there
 pub scalar-embedded : {A : Type 0} (O : Ops A) (D : ℕ) (cs : List A) → length cs ≡ D → IsScalar O cs → cs ≡ embed O D (at O cs 0)
 scalar-embedded O D cs l h = to-tabulate O.zero D (at O (at O cs 0 ∷ [])) cs l (λ k w. place k)
   where

@@ -19,7 +19,7 @@ module _ {A : Type 0} where
   slice_get-back [] ys j = let e : 0 + j ≡ j = omega arith in ap (slice_get ys) e
   slice_get-back (x ∷ xs) ys j = let e : suc (length xs) + j ≡ suc (length xs + j) = omega arith in ap (slice_get ((x ∷ xs) ++ ys)) e ∙ slice_get-back xs ys j
 
--- coefficient j of value i stands at place i * n + j
+-- coefficient j of value i stands at index i * n + j
 pub flattened-place : {V A : Type 0} (coefficients : V → List A) (n : ℕ) → ((x : V) → length (coefficients x) ≡ n)
     → (xs : List V) (i j : ℕ) (x : V) → slice_get xs i ≡ Some x → j < n → slice_get (flattened coefficients xs) (i * n + j) ≡ slice_get (coefficients x) j
 flattened-place coefficients n l [] i j x e h = absurd (cc e)

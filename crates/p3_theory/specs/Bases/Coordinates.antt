@@ -8,7 +8,7 @@ use denote.Param.Members.{Mut}
 use Rattle.p3_theory.specs.Rings.Ring.{Ops}
 use Rattle.p3_theory.specs.Polynomials.Polynomial.{tabulate}
 
--- basis element i of dimension n: one at place i, and zero at all others
+-- basis element i of dimension n: one at index i, and zero at all others
 abbrev pub basis_element : {A : Type 0} → Ops A → ℕ → ℕ → List A
 basis_element O n i = tabulate n (λ k. if k == i then O.one else O.zero)
 
@@ -16,7 +16,7 @@ basis_element O n i = tabulate n (λ k. if k == i then O.one else O.zero)
 abbrev pub flattened : {V A : Type 0} → (V → List A) → List V → List A
 flattened coefficients xs = flat_map coefficients xs
 
--- place i * n + j of the list is coefficient j of value i
+-- index i * n + j of the list is coefficient j of value i
 abbrev pub HasCoefficientsOf : {V A : Type 0} → (V → List A) → ℕ → List V → List A → Type 0
 HasCoefficientsOf {V} coefficients n xs list =
     (i j : ℕ) (x : V) → slice_get xs i ≡ Some x → j < n → slice_get list (i * n + j) ≡ slice_get (coefficients x) j

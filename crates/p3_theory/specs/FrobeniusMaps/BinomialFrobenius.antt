@@ -93,6 +93,7 @@ module _ {A : Type 0} (R : Ring A) (d : ℕ) (w c : A) (root : power R.ops c (su
   abbrev pub image : Ext R d f m
   image = E.mul (emb R d f m c) (Sg.var R d f m)
 
+  -- the map that takes X to that image
   abbrev pub sigma : Ext R d f m → Ext R d f m
   sigma = sigma_of R d f m image
 
@@ -109,7 +110,7 @@ module _ {A : Type 0} (R : Ring A) (d : ℕ) (w c : A) (root : power R.ops c (su
       ∙ ap (horner R E (emb R d f m) (Sg.hom R d f m) (Sg.var R d f m) (length f)) twist-f
       ∙ X.Ext-path R d f m _ _ (Sg.at_var R d f m f ∙ Sg.remainder-modulus R d f m)
 
-  -- place k is multiplied by c^k
+  -- index k is multiplied by c^k
   pub sigma_places : (a : Ext R d f m) → at R.ops (sigma a).0 ≡ (λ k. power R.ops c k ⊗ at R.ops a.0 k)
   sigma_places a = ap (λ b. at R.ops b.0) (Sg.sigma-horner R d f m image a
       ∙ V.horner-twist R E (emb R d f m) (Sg.hom R d f m) c (Sg.var R d f m) (suc d) (at R.ops a.0)

@@ -20,6 +20,7 @@ module _ {A : Type 0} (R : Ring A) (d : ℕ) (f : List A) (m : IsMonic R.ops (su
   abbrev E : Ring (Ext R d f m)
   E = extension R d f m
 
+  -- the map by its table, on lists with their length
   abbrev pub sig : Ext R d f m → Ext R d f m
   sig a = (frobenius_list R.ops (suc d) f phi a.0, T.length-frobenius_list R.ops (suc d) f phi a.0)
 
@@ -64,7 +65,7 @@ module _ {A : Type 0} (R : Ring A) (d : ℕ) (w c : A) (root : power R.ops c (su
   abbrev pub turned : List A
   turned = quotient_mul R.ops (suc d) f (embed R.ops (suc d) c) (unknown R.ops (suc d) f)
 
-  -- the map is one factor a place
+  -- the map is one factor for each index
   pub turned_places : (a : Ext R d f m) → frobenius_list R.ops (suc d) f turned a.0 ≡ scale_powers R.ops (suc d) c a.0
   turned_places a = sym (T.frobenius-list R d f m (Bi.image R d w c root) a)
       ∙ F.ext R _ _ ((Bi.sigma R d w c root a).1 ∙ sym (F.length-tabulate (suc d) (λ k. R.mul (power R.ops c k) (at R.ops a.0 k))))

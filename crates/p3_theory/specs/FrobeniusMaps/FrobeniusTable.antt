@@ -10,11 +10,12 @@ abbrev pub orbit_list : {B : Type 0} → (B → B) → ℕ → B → List B
 orbit_list step zero v = []
 orbit_list step (suc n) v = v ∷ orbit_list step n (step v)
 
+-- row i of a table; no coefficients past its end
 abbrev pub row : {A : Type 0} → List (List A) → ℕ → List A
 row table i = get_or table i []
 
 module _ {A : Type 0} (o : Ops A) where
-  -- place k holds the sum of a i times place k of row i
+  -- index k holds the sum of a i times index k of row i
   abbrev pub row_sum : ℕ → (ℕ → List A) → List A → List A
   row_sum D row a = tabulate D (λ k. sum_of o D (λ i. o.mul (at o a i) (at o (row i) k)))
 
@@ -36,6 +37,7 @@ module _ {A : Type 0} (o : Ops A) where
   value_at D f phi [] = embed o D o.zero
   value_at D f phi (x ∷ c) = quotient_add o D (embed o D x) (quotient_mul o D f phi (value_at D f phi c))
 
+  -- the sum of the products of the entries of two lists below index D
   abbrev pub dot : ℕ → List A → List A → A
   dot D l a = sum_of o D (λ j. o.mul (at o a j) (at o l j))
 
@@ -43,7 +45,7 @@ module _ {A : Type 0} (o : Ops A) where
   abbrev pub unknown : ℕ → List A → List A
   unknown D f = remainder o D f (o.zero ∷ o.one ∷ [])
 
-  -- the four equations that a concrete table owes. dual: from sigma a - a back to the places above 0
+  -- the four equations that a concrete table owes. dual: from sigma a - a back to the indices above 0
   pub record TableProof (D : ℕ) (f phi : List A) (table dual : List (List A)) : Type 0 where
     pub width : length phi ≡ D
     pub rows : orbit_list (quotient_mul o D f phi) D (embed o D o.one) ≡ table

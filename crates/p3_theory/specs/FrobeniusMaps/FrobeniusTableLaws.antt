@@ -59,7 +59,7 @@ module _ {A : Type 0} (R : Ring A) where
   sum-times : (n : ℕ) (s : ℕ → A) (x : A) → sum_of R.ops n s ⊗ x ≡ sum_of R.ops n (λ i. s i ⊗ x)
   sum-times n s x = R.mul_comm _ x ∙ sym (V.sum-mul R x n s) ∙ sum-same n _ _ (λ k lt. R.mul_comm x (s k))
 
-  -- the sum with a unit row is one place
+  -- the sum with a unit row is one index
   sum-pick : (n k : ℕ) (a : ℕ → A) → k < n → sum_of R.ops n (λ i. a i ⊗ at R.ops (monomial R.ops k) i) ≡ a k
   sum-pick zero k a lt = absurd (omega arith)
   sum-pick (suc n) zero a lt = ap₂ (λ x y. x ⊕ y) (R.mul_one (a zero)) (sum-same n _ _ (λ i l. Basics.mul-zero R (a (suc i))) ∙ sum-zero n) ∙ R.add_zero (a zero)
@@ -76,7 +76,7 @@ module _ {A : Type 0} (R : Ring A) where
   row_sum-same : (D : ℕ) (r s : ℕ → List A) → ((i : ℕ) → i < D → r i ≡ s i) → (a : List A) → row_sum R.ops D r a ≡ row_sum R.ops D s a
   row_sum-same D r s h a = tabulate-same D _ _ (λ k lt. sum-same D _ _ (λ i l. ap (λ v. at R.ops a i ⊗ at R.ops v k) (h i l)))
 
-  -- where the rows take l to l and one place more, what is fixed is zero there
+  -- where the rows take l to l and one index more, what is fixed is zero there
   row-fixed : (D k : ℕ) (l : List A) (r : ℕ → List A) (a : List A) → k < D
       → ((i : ℕ) → i < D → dot R.ops D l (r i) ≡ at R.ops l i ⊕ at R.ops (monomial R.ops k) i)
       → row_sum R.ops D r a ≡ a → at R.ops a k ≡ 𝟎

@@ -46,7 +46,7 @@ module _ {A : Type 0} (R : Ring A) where
         (λ k h. at-scale_powers (R.mul x y) a k h ∙ ap (λ z. R.mul z (at R.ops a k)) (power-of_product x y k)
         ∙ R.mul_assoc (power R.ops y k) (power R.ops x k) (at R.ops a k) ∙ ap (R.mul (power R.ops y k)) (sym (at-scale_powers x a k h)))
 
-    -- one factor a place for any count of turns
+    -- one factor for each index for any count of turns
     pub scale-power : (c : A) (n : ℕ) (a : List A) → length a ≡ D → scale_powers R.ops D (power R.ops c n) a ≡ iterate (scale_powers R.ops D c) n a
     scale-power c zero a l = scale-one a l
     scale-power c (suc n) a l = scale-product c (power R.ops c n) a ∙ scale-power c n (scale_powers R.ops D c a) (length-scale_powers c a)

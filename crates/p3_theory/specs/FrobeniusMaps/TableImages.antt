@@ -1,4 +1,4 @@
--- The image of a coefficient list under a map that takes X^i to row i of a table, place by place.
+-- The image of a coefficient list under a map that takes X^i to row i of a table, index by index.
 use Rattle.std.proofs.Common.{◌≡◌, ◌<◌, ◌≤◌, ◌+◌, ◌-◌, ℕ, zero, suc, List, [], ◌∷◌, length, get_or, sym, ap, ap₂, ◌∙◌, arith}
 use mathlib.Core.Path.{fun_ext}
 use Rattle.p3_theory.specs.Rings.Ring.{Ops, Ring}
@@ -10,11 +10,11 @@ use Rattle.p3_theory.specs.FrobeniusMaps.FrobeniusTable.{row_sum}
 use Rattle.p3_theory.specs.Polynomials.Sequences.{mul-zero, zero-add}
 use Rattle.p3_theory.specs.Polynomials.ConvolutionSums.{first_sum, first-sum}
 
--- what the coefficients from X on give to place k
+-- what the coefficients from X on give to index k
 abbrev pub rest_of_image : {A : Type 0} → Ops A → ℕ → (ℕ → List A) → List A → ℕ → A
 rest_of_image O D row a k = first_sum O.zero O.add (D - 1) (λ i. O.mul (get_or a (1 + i) O.zero) (get_or (row (1 + i)) k O.zero))
 
--- place k of the image, where row 0 is one
+-- index k of the image, where the first row is one
 abbrev pub place_of_image : {A : Type 0} → Ops A → ℕ → (ℕ → List A) → List A → ℕ → A
 place_of_image O D row a zero = O.add (get_or a 0 O.zero) (rest_of_image O D row a 0)
 place_of_image O D row a (suc k) = rest_of_image O D row a (suc k)
@@ -39,7 +39,7 @@ module _ {A : Type 0} (R : Ring A) (d : ℕ) (row : ℕ → List A) (one : row 0
   place-of-image (suc k) h =
       sym (whole (suc k) ∙ ap (λ x. R.add x (rest_of_image R.ops (suc d) row a (suc k))) (ap (R.mul (at R.ops a 0)) (first_row (suc k) h) ∙ mul-zero R (at R.ops a 0)) ∙ zero-add R _)
 
--- the places make the image
+-- the indices make the image
 pub image-written : {A : Type 0} (R : Ring A) (D : ℕ) → 2 ≤ D → (row : ℕ → List A) → row 0 ≡ embed R.ops D R.one → (a xs : List A) → length xs ≡ D
     → HoldsBelow (place_of_image R.ops D row a) R.zero xs D → xs ≡ row_sum R.ops D row a
 image-written R zero h row one a xs l w = absurd (omega arith)

@@ -16,12 +16,13 @@ module _ {A : Type 0} where
   interleave (x ∷ xs) [] = []
   interleave (x ∷ xs) (y ∷ ys) = x ∷ y ∷ interleave xs ys
 
-  -- the items at even places, and at odd ones
+  -- the items at even indices, and at odd ones
   abbrev pub evens : List A → List A
   evens [] = []
   evens (x ∷ []) = x ∷ []
   evens (x ∷ y ∷ l) = x ∷ evens l
 
+  -- the entries at odd indices
   abbrev pub odds : List A → List A
   odds [] = []
   odds (x ∷ []) = []
@@ -63,6 +64,7 @@ module _ {A : Type 0} (O : Ops A) where
       quotient_add O h (quotient_mul O h f p p) (quotient_neg O h (quotient_mul O h f u (quotient_mul O h f q q)))
 
 module _ {A : Type 0} (R : Ring A) (w : A) where
+  -- the product modulo X^(2 h) - w of two lists whose even and odd entries are given, by products modulo Y^h - w
   abbrev pub HalvesAt : ℕ → List A → Type 0
   HalvesAt h u = (p q r s : List A) → length p ≡ h → length q ≡ h → length r ≡ h → length s ≡ h
       → quotient_mul R.ops (h + h) (binomial R.ops (h + h) w) (interleave p q) (interleave r s) ≡ product_by_halves R.ops h w u p q r s

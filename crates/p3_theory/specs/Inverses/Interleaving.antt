@@ -1,4 +1,4 @@
--- The places of two lists of one length whose items stand in turn.
+-- The indices of two lists of one length whose items stand in turn.
 use Rattle.std.specs.Prelude.{◌≡◌, ◌<◌, ◌≤◌, ◌+◌, ◌*◌, ◌∷◌, ℕ, List, [], length, get_or, zero, suc, refl}
 use Rattle.std.proofs.Common.{arith, ap, ◌∙◌, sym, subst}
 use Rattle.std.proofs.Math.ListN.{set, length-set}
@@ -15,7 +15,7 @@ module _ {A : Type 0} where
       let r = length-interleave xs ys e in
       omega (arith, r)
 
-  -- the items of the first list stand at even places
+  -- the items of the first list stand at even indices
   pub at-even : (xs ys : List A) (i : ℕ) (d : A) → length xs ≡ length ys → i < length xs → get_or (interleave xs ys) (2 * i) d ≡ get_or xs i d
   at-even [] ys i d h l = absurd (omega arith)
   at-even (x ∷ xs) [] i d h l = absurd (omega arith)

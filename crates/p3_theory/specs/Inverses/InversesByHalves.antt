@@ -24,7 +24,7 @@ module _ {A : Type 0} (R : Ring A) (w : A) where
       by_ring R (e0 ∷ e1 ∷ e2 ∷ e3 ∷ o0 ∷ o1 ∷ o2 ∷ o3 ∷ w ∷ []) (less_shifted free (V 8) e o)
       (quotient_add free 4 e (quotient_neg free 4 (quotient_mul free 4 (binomial free 4 (V 8)) (free.zero ∷ free.one ∷ free.zero ∷ free.zero ∷ []) o))) refl
 
-  -- the norm of even places p and odd ones q, modulo Y^4 = w, from their squares
+  -- the norm of even indices p and odd ones q, modulo Y^4 = w, from their squares
   octic_norm_is : (p q e o n : List A) → e ≡ quotient_mul R.ops 4 (binomial R.ops 4 w) p p → o ≡ quotient_mul R.ops 4 (binomial R.ops 4 w) q q
       → n ≡ less_shifted R.ops w e o → n ≡ norm_by_halves R.ops 4 w (R.zero ∷ R.one ∷ R.zero ∷ R.zero ∷ []) p q
   octic_norm_is p q e o n ee eo en =

@@ -4,10 +4,11 @@ use Rattle.p3_theory.specs.Rings.Ring.{Ops, Ring, subtract}
 use Rattle.p3_theory.specs.RingSolver.Reify.{by_laws, reads, yes}
 
 module _ {A : Type 0} (O : Ops A) (y : A) where
-  -- the two places of the product of p + q * X and r + s * X
+  -- the two indices of the product of p + q * X and r + s * X
   abbrev pub pair_low : A → A → A → A → A
   pair_low p q r s = O.add (O.mul p r) (O.mul y (O.mul q s))
 
+  -- the coefficient at X of the product of p + q X and r + s X
   abbrev pub pair_high : A → A → A → A → A
   pair_high p q r s = O.add (O.mul p s) (O.mul q r)
 

@@ -36,9 +36,11 @@ module _ {A : Type 0} where
   fit_same z (suc n) [] h = absurd (omega arith)
   fit_same z (suc n) (x ∷ xs) h = ap (λ l. x ∷ l) (fit_same z n xs (omega arith))
 
+  -- a list cut to length n, or filled up to it by z
   abbrev pub fitted : A → (n : ℕ) → List A → Row A n
   fitted z n xs = record { items = fit z n xs; sized = length-fit z n xs }
 
+  -- a list of length n as a row
   abbrev pub row_by : (n : ℕ) (xs : List A) → length xs ≡ n → Row A n
   row_by n xs h = record { items = xs; sized = h }
 
@@ -46,6 +48,7 @@ module _ {A : Type 0} where
   same_items {n} x y e =
       (subst (λ (v : List A). (k : length v ≡ n) → row_by n x.items x.sized ≡ row_by n v k) e (λ k. ap (row_by n x.items) (ℕ_set _ _ x.sized k))) y.sized
 
+  -- the hash code of a row is that of its list
   abbrev pub row_code : (n : ℕ) → Coded A → Coded (Row A n)
   row_code n c = coded_via (coded_list c) (λ r. r.items) (same_items {n = n})
 

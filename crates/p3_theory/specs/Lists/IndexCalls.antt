@@ -1,4 +1,4 @@
--- What a function called at each index in turn makes, place by place.
+-- What a function called at each index in turn makes, index by index.
 use Rattle.std.proofs.Common.{◌≡◌, ℕ, ◌+◌, ◌<◌, ◌≤◌, inl, inr, List, [], ◌∷◌, slice_index_or, lit<, refl, subst, sym, arith, zero, suc}
 use Rattle.std.proofs.Math.Nat.{eq-or-lt_of_le}
 use Rattle.std.specs.Array.{IsFromFnResultFrom, IsFromFnResult}

@@ -7,7 +7,7 @@ use Rattle.p3_theory.specs.Lists.Places.{to-tabulate}
 use Rattle.p3_theory.specs.Lists.TabulatedPlaces.{HoldsBelow, holds-more, holds-all}
 
 module _ {A : Type 0} where
-  -- the items of ys stand in xs from place i on
+  -- the items of ys stand in xs from index i on
   abbrev pub StandFrom : List A → ℕ → List A → Type 0
   StandFrom xs i [] = Unit {0}
   StandFrom xs i (y ∷ ys) = (y ≡ get_or xs i y) × StandFrom xs (suc i) ys

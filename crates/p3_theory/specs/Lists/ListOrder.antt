@@ -6,7 +6,7 @@ use Rattle.std.specs.Cmp.Lexicographic.{slice_cmp}
 use Rattle.std.specs.declared.cmp.Ordering.{Ordering}
 use Rattle.std.specs.declared.cmp.Ordering.TheVariants.{Less, Equal, Greater}
 
--- the lists are the same up to a place, where the entry of the first is less
+-- the lists are the same up to an index, where the entry of the first is less
 abbrev pub IsLessAtFirst : {A : Type 0} → (A → A → Ordering) → List A → List A → Type 0
 IsLessAtFirst {A} R xs ys = (i : ℕ) × (take i xs ≡ take i ys) × (a : A) × (b : A) × (slice_get xs i ≡ Some a) × (slice_get ys i ≡ Some b) × (R a b ≡ Less)
 

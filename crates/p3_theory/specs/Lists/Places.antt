@@ -1,4 +1,4 @@
--- Lists of a given length, place by place.
+-- Lists of a given length, index by index.
 use Rattle.std.specs.Prelude.{◌≡◌, ◌<◌, ◌∷◌, ℕ, List, [], length, replicate, refl, get_or}
 use Rattle.std.proofs.Common.{ap, ap₂, arith, ◌∙◌, sym, zero, suc}
 use Rattle.std.proofs.Math.ListN.{set}

@@ -1,4 +1,4 @@
--- Lists that a loop writes place by place.
+-- Lists that a loop writes index by index.
 use Rattle.std.proofs.Common.{◌≡◌, ◌<◌, ◌≤◌, ◌+◌, ◌-◌, ◌≢◌, ℕ, List, length, get_or, take, refl, sym, ap, ◌∙◌, inl, inr, arith}
 use Rattle.std.proofs.Math.ListN.{set}
 use Rattle.std.proofs.lemmas.List.{get_or-set_same, get_or-set_other, get_or-take, get_or_append_left, get_or-append_right, get_or-drop, length-take-le}
@@ -10,14 +10,14 @@ use Rattle.p3_theory.specs.Polynomials.Polynomial.{tabulate}
 use Rattle.p3_theory.specs.Lists.Places.{to-tabulate}
 
 module _ {A : Type 0} (s : ℕ → A) (d : A) where
-  -- the places below i hold s 0 to s (i - 1)
+  -- the indices below i hold s 0 to s (i - 1)
   abbrev pub HoldsBelow : List A → ℕ → Type 0
   HoldsBelow xs i = (k : ℕ) → k < i → get_or xs k d ≡ s k
 
   pub holds-none : (xs : List A) → HoldsBelow xs 0
   holds-none xs k h = absurd (omega arith)
 
-  -- one more place
+  -- one more index
   pub holds-more : (xs : List A) (i : ℕ) (x : A) → i < length xs → HoldsBelow xs i → x ≡ s i → HoldsBelow (set xs i x) (i + 1)
   holds-more xs i x b h e =
       below_more (λ k. get_or (set xs i x) k d ≡ s k) i
@@ -38,11 +38,11 @@ module _ {A : Type 0} (s : ℕ → A) (d : A) where
             get_or-append_right (take i xs) part i k d front ge ∙ each (k - i) (omega (arith, b, e, ge)) ∙ ap s at
       ]
 
-  -- all places
+  -- all indices
   pub holds-all : (xs : List A) (n : ℕ) → length xs ≡ n → HoldsBelow xs n → xs ≡ tabulate n s
   holds-all xs n l h = to-tabulate d n s xs l h
 
-  -- the same, where the other places still hold what they held
+  -- the same, where the other indices still hold what they held
   abbrev pub UpdatedBelow : List A → List A → ℕ → Type 0
   UpdatedBelow old xs i = HoldsBelow xs i × ((k : ℕ) → i ≤ k → get_or xs k d ≡ get_or old k d)
 
@@ -66,6 +66,6 @@ module _ {A : Type 0} (s : ℕ → A) (d : A) where
         ∙ get_or-drop n xs (k - n) d ∙ ap (λ j. get_or xs j d) at ∙ before.1 k (omega (arith, h, e)),
   )
 
-  -- where the other places hold the rest of s, all do
+  -- where the other indices hold the rest of s, all do
   pub updated-all : (old xs : List A) (n i : ℕ) → length xs ≡ n → UpdatedBelow old xs i → ((k : ℕ) → i ≤ k → get_or old k d ≡ s k) → xs ≡ tabulate n s
   updated-all old xs n i l h rest = to-tabulate d n s xs l (λ k w. elim (cases_lt k i) [ inl below ↦ h.0 k below | inr above ↦ h.1 k above ∙ rest k above ])

@@ -1,9 +1,9 @@
--- Lists whose every item was written, one place after the other.
+-- Lists whose every item was written, one entry after the other.
 use Rattle.std.proofs.Common.{◌≡◌, ℕ, suc, List, [], ◌∷◌, length, ap, ◌∙◌, arith}
 use Rattle.std.proofs.Math.ListN.{set}
 
 module _ {A : Type 0} where
-  -- the list with the items ys written from place i on
+  -- the list with the items ys written from index i on
   abbrev pub written : List A → ℕ → List A → List A
   written xs i [] = xs
   written xs i (y ∷ ys) = written (set xs i y) (suc i) ys

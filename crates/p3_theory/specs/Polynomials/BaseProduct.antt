@@ -1,4 +1,4 @@
--- The product with an embedded element, place by place.
+-- The product with an embedded element, index by index.
 use Rattle.std.proofs.Common.{◌≡◌, ◌≤◌, ℕ, zero, suc, List, ◌∷◌, [], length, sym, ap, ◌∙◌}
 use mathlib.Core.Path.{fun_ext}
 use native.Mathlib.Omega.{arith}

@@ -1,4 +1,4 @@
--- Lists as the sequences that are zero from some place on.
+-- Lists as the sequences that are zero from some index on.
 use Rattle.std.proofs.Common.{◌≡◌, ℕ, zero, suc, ◌+◌, ◌≤◌, List, [], ◌∷◌, length, refl, sym, ap, ◌∙◌, ap₂, zero-le, suc-le-suc}
 use mathlib.Core.Path.{fun_ext}
 use native.Mathlib.Omega.{arith}
@@ -17,7 +17,7 @@ module _ {A : Type 0} (R : Ring A) where
 
   infixl 60 ◌⊕◌
   infixl 70 ◌⊗◌
-  -- zero from place n on
+  -- zero from index n on
   abbrev pub Ends : ℕ → (ℕ → A) → Type 0
   Ends n s = (k : ℕ) → n ≤ k → s k ≡ 𝟎
 

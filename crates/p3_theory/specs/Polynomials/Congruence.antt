@@ -103,11 +103,12 @@ module _ {A : Type 0} (R : Ring A) where
       small k le = sym (R.add_zero _) ∙ ap (λ w. convolve R.ops (at R.ops p.by) f k ⊕ w) (sym (ht k le))
           ∙ sym (ap (λ w. w k) p.is) ∙ hs k le
 
-  -- the remainder is congruent, place by place
+  -- the remainder is congruent, index by index
   module _ (d : ℕ) (f : List A) (m : IsMonic R.ops (suc d) f) where
     pub f-ends : Ends R (suc (suc d)) (at R.ops f)
     f-ends k le = F.at-ends R f k (rw m.degree le)
 
+    -- coefficient k of x + X r, after the multiple of the monic polynomial that clears X^d is taken away
     abbrev pub step : A → List A → ℕ → A
     step x r k = at R.ops (x ∷ r) k ⊕ neg (at R.ops r d ⊗ at R.ops f k)
 

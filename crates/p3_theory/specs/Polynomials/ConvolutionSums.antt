@@ -38,7 +38,7 @@ module _ {A : Type 0} (R : Ring A) where
       whole : suc k - 0 ≡ suc k
       whole = omega arith
 
-  -- places up to k
+  -- indices up to k
   pub low : (k : ℕ) (a b : ℕ → A) → first_sum 𝟎 R.add (suc k) (λ i. a i ⊗ b (k - i)) ≡ convolve R.ops a b k
   low k a b = first-sum (suc k) (λ i. a i ⊗ b (k - i)) ∙ conv-front k a b
 
@@ -62,7 +62,7 @@ module _ {A : Type 0} (R : Ring A) where
       more : suc m + n ≡ suc (m + n)
       more = omega arith
 
-  -- places from D on, of two lists of length D = suc d
+  -- indices from D on, of two lists of length D = suc d
   pub high : (d k : ℕ) (a b : ℕ → A) → Ends R (suc d) a → Ends R (suc d) b → k < suc d
       → first_sum 𝟎 R.add (d - k) (λ i. a (k + 1 + i) ⊗ b (d - i)) ≡ convolve R.ops a b (k + suc d)
   high d k a b ha hb h = sym (nothing-more (suc k) (d - k) s gone)

@@ -21,7 +21,7 @@ module _ {A B : Type 0} (R : Ring A) (E : Ring B) (e : A → B) (hom : Hom R.ops
 
   infixl 60 ◌⊕◌
   infixl 70 ◌⊗◌
-  -- the first n places, by Horner's rule
+  -- the first n indices, by Horner's rule
   abbrev pub horner : ℕ → (ℕ → A) → B
   horner zero s = 𝟎
   horner (suc n) s = e (s zero) ⊕ phi ⊗ horner n (tail R s)
@@ -39,7 +39,7 @@ module _ {A B : Type 0} (R : Ring A) (E : Ring B) (e : A → B) (hom : Hom R.ops
   horner-zero zero = refl
   horner-zero (suc n) = ap₂ (λ x y. x ⊕ phi ⊗ y) hom.zero (horner-zero n) ∙ Basics.zero-add E _ ∙ Basics.mul-zero E phi
 
-  -- places past the end change nothing
+  -- indices past the end change nothing
   pub horner-more : (n N : ℕ) (s : ℕ → A) → n ≤ N → Ends R n s → horner N s ≡ horner n s
   horner-more zero N s le h = ap (horner N) (fun_ext (λ k. h k zero-le)) ∙ horner-zero N
   horner-more (suc n) zero s le h = absurd (no le)
@@ -84,7 +84,7 @@ module _ {A B : Type 0} (R : Ring A) (E : Ring B) (e : A → B) (hom : Hom R.ops
 
   infixl 60 ◌⊕◌
   infixl 70 ◌⊗◌
-  -- place k times the k-th power of c
+  -- index k times the k-th power of c
   abbrev pub twist : A → (ℕ → A) → ℕ → A
   twist c s k = R.mul (power R.ops c k) (s k)
 

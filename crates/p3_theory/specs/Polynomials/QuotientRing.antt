@@ -22,6 +22,7 @@ module _ {A : Type 0} (R : Ring A) (d : ℕ) (f : List A) (m : IsMonic R.ops (su
   S = sequences R
 
   infix 20 ◌~◌
+  -- congruent modulo the polynomial
   abbrev pub ◌~◌ : (ℕ → A) → (ℕ → A) → Type 0
   s ~ t = Cong R (at R.ops f) s t
 
@@ -153,6 +154,7 @@ module _ {A : Type 0} (R : Ring A) (d : ℕ) (f : List A) (m : IsMonic R.ops (su
   pub by_place : (a b : Ext) → at R.ops a.0 ≡ at R.ops b.0 → a ≡ b
   by_place a b e = Ext-path a b (F.ext R a.0 b.0 (a.1 ∙ sym b.1) e)
 
+  -- the quotient ring modulo the polynomial, on lists with their length
   abbrev pub extension : Ring Ext
   extension = record {
     ops = record {

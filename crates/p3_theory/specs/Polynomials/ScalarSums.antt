@@ -1,11 +1,11 @@
--- The sum and the difference of a coefficient list and an embedded element: place 0 alone changes.
+-- The sum and the difference of a coefficient list and an embedded element: index 0 alone changes.
 use Rattle.std.proofs.Common.{◌≡◌, ◌<◌, ◌≤◌, ℕ, zero, suc, List, [], ◌∷◌, length, get_or, ap, sym, ◌∙◌, arith}
 use Rattle.p3_theory.specs.Rings.Ring.{Ring, subtract}
 use Rattle.p3_theory.specs.Polynomials.Polynomial.{at, tabulate, embed, quotient_add, quotient_neg}
 use Rattle.p3_theory.specs.Polynomials.Coefficients.{neg-zero}
 use Rattle.p3_theory.specs.Lists.Places.{get-tabulate, to-tabulate}
 
--- r is x at every place from 1 on
+-- r is x at every index from 1 on
 abbrev pub SameAfterFirst : {A : Type 0} → ℕ → List A → List A → Type 0
 SameAfterFirst {A} D x r = (d : A) (k : ℕ) → 1 ≤ k → k < D → get_or r k d ≡ get_or x k d
 

@@ -36,19 +36,23 @@ module _ {A : Type 0} (R : Ring A) where
   pub add-mul : (x y z : A) → (x ⊕ y) ⊗ z ≡ x ⊗ z ⊕ y ⊗ z
   add-mul x y z = R.mul_comm (x ⊕ y) z ∙ R.mul_add z x y ∙ ap₂ (λ a b. a ⊕ b) (R.mul_comm z x) (R.mul_comm z y)
 
-  -- sequences, place by place
+  -- sequences, index by index
   abbrev pub add_sequences : (ℕ → A) → (ℕ → A) → ℕ → A
   add_sequences s t k = s k ⊕ t k
 
+  -- each item times x
   abbrev pub scale : A → (ℕ → A) → ℕ → A
   scale x s k = x ⊗ s k
 
+  -- the items from the second on
   abbrev pub tail : (ℕ → A) → ℕ → A
   tail s k = s (suc k)
 
+  -- zeros
   abbrev pub zero_sequence : ℕ → A
   zero_sequence k = 𝟎
 
+  -- one, and then zeros
   abbrev pub one_sequence : ℕ → A
   one_sequence zero = 𝟏
   one_sequence (suc k) = 𝟎

@@ -21,15 +21,18 @@ module _ {A : Type 0} (R : Ring A) (d : ℕ) (f : List A) (m : IsMonic R.ops (su
 
   infixl 60 ◌⊕◌
   infixl 70 ◌⊗◌
+  -- the quotient ring
   abbrev pub E : Ring (Ext R d f m)
   E = extension R d f m
 
+  -- a constant as a value of the quotient ring
   abbrev pub emb : A → Ext R d f m
   emb x = (embed R.ops (suc d) x, X.length-embed R d f m x)
 
   pub hom : Hom R.ops E.ops emb
   hom = Basics.ring_hom R E emb refl refl (λ x y. X.Ext-path R d f m _ _ (X.embed_add R d f m x y)) (λ x y. X.Ext-path R d f m _ _ (X.embed_mul R d f m x y))
 
+  -- the value at phi of the polynomial whose coefficients are those of a
   abbrev pub sigma_of : Ext R d f m → Ext R d f m → Ext R d f m
   sigma_of phi a = eval R.ops E.ops emb phi a.0
 

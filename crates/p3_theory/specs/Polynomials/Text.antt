@@ -20,5 +20,6 @@ module _ {A : Type 0} (is_zero is_one : A → Bool) (own : A → List ℕ) where
   terms_text begun i (c ∷ cs) =
       if is_zero c then terms_text begun (i + 1) cs else next_text begun i (is_one c) (own c) ++ terms_text true (i + 1) cs
 
+  -- the text of a polynomial, as `3 + 11 X`
   abbrev pub polynomial_text : List A → List ℕ
   polynomial_text cs = terms_text false 0 cs

@@ -7,7 +7,7 @@ module _ {A : Type 0} (is_zero is_one : A → Bool) (own : A → List ℕ) where
   abbrev terms : Bool → ℕ → List A → List ℕ
   terms = terms_text is_zero is_one own
 
-  -- `old` was written before place i, and `all` is the whole text: after a nonzero coefficient, and after zero
+  -- `old` was written before index i, and `all` is the whole text: after a nonzero coefficient, and after zero
   pub term_written : (d : A) (old : List ℕ) (vs : List A) (all : List ℕ) (b : Bool) (i : ℕ) (c : A) → i < length vs → c ≡ get_or vs i d → is_zero c ≡ false
       → old ++ terms b i (drop i vs) ≡ all → (old ++ next_text b i (is_one c) (own c)) ++ terms true (i + 1) (drop (i + 1) vs) ≡ all
   term_written d old vs all b i c h e z inv =

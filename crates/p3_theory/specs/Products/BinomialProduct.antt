@@ -42,11 +42,11 @@ module _ {A : Type 0} (R : Ring A) where
       go zero = sym (R.add_zero _)
       go (suc k) = ap (λ x. neg w ⊗ s (suc k) ⊕ x) (monomial-mul d s k)
 
-  -- c below place D, then w times what stands D places up
+  -- c below index D, then w times what stands D indices up
   abbrev pub fold : ℕ → A → (ℕ → A) → ℕ → A
   fold D w c k = c k ⊕ w ⊗ c (k + D)
 
-  -- the first D places of s
+  -- the first D indices of s
   first-up : (D : ℕ) (c : ℕ → A) (k : ℕ) → c k ≡ at R.ops (tabulate D c) k ⊕ up D (λ i. c (i + D)) k
   first-up zero c k = ap c (sym (add-zero k)) ∙ sym (Basics.zero-add R _)
   first-up (suc D) c zero = sym (R.add_zero _)
@@ -66,7 +66,7 @@ module _ {A : Type 0} (R : Ring A) where
   tabulate-add w (suc n) s t zero = refl
   tabulate-add w (suc n) s t (suc k) = tabulate-add w n (tail R s) (tail R t) k
 
-  -- the product modulo X^D - w: place k holds the sum over i + j = k, and w times the sum over i + j = k + D
+  -- the product modulo X^D - w: index k holds the sum over i + j = k, and w times the sum over i + j = k + D
   pub binomial_product : (d : ℕ) (w : A) (a b : List A) → length a ≡ suc d → length b ≡ suc d
       → quotient_mul R.ops (suc d) (binomial R.ops (suc d) w) a b ≡ tabulate (suc d) (fold (suc d) w (convolve R.ops (at R.ops a) (at R.ops b)))
   binomial_product d w a b la lb = X.equal R d f m _ _ (X.length-mul R d f m a b) (F.length-tabulate (suc d) (fold (suc d) w s))

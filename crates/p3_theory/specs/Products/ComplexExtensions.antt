@@ -12,6 +12,7 @@ module _ {A : Type 0} (O : Ops A) where
   abbrev pub real_part : List A → A
   real_part v = at O v 0
 
+  -- the coefficient at X
   abbrev pub imaginary_part : List A → A
   imaginary_part v = at O v 1
 

@@ -1,4 +1,4 @@
--- The product modulo X^D - w, place by place, as a loop writes it.
+-- The product modulo X^D - w, index by index, as a loop writes it.
 use Rattle.std.specs.Prelude.{◌≡◌, ◌<◌, ◌≤◌, ◌+◌, ◌-◌, ◌≢◌, ℕ, List, length, refl, get_or, replicate}
 use Rattle.std.proofs.Common.{ap, ap₂, arith, ◌∙◌, sym, zero, suc}
 use mathlib.Core.Path.{fun_ext}
@@ -81,7 +81,7 @@ module _ {A : Type 0} where
     from_zeros (suc (suc zero)) f a b old out z p q = p refl
     from_zeros (suc (suc (suc n))) f a b old out z p q = added_to_zeros (suc (suc (suc n))) old out _ z (length-remainder R.ops (suc (suc (suc n))) f _) (q (λ e. omega (arith, e)))
 
--- a list with zero at each of its places
+-- a list with zero at each of its indices
 pub all_zero : {A : Type 0} (D : ℕ) (xs : List A) (z : A) → length xs ≡ D → ((k : ℕ) → k < D → get_or xs k z ≡ z) → xs ≡ replicate D z
 all_zero D xs z l h = ext_get_or z xs (replicate D z) (l ∙ sym (length-replicate D z))
     (λ k w. h k (omega (arith, l)) ∙ sym (get_or-replicate D k z z (omega (arith, l))))

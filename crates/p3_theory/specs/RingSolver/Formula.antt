@@ -1,4 +1,4 @@
--- A fixed formula is the product, by the ring's normal form, place by place.
+-- A fixed formula is the product, by the ring's normal form, index by index.
 use Rattle.std.proofs.Common.{◌≡◌, Bool, true, false, ◌&&◌, List, [], ◌∷◌, refl, map, ap₂}
 use native.Mathlib.Omega.{arith}
 use Rattle.p3_theory.specs.Rings.Ring.{Ring}
@@ -6,6 +6,7 @@ use Rattle.p3_theory.specs.RingSolver.Solver as S
 use Rattle.p3_theory.specs.RingSolver.Solver.{Expr, same}
 use Rattle.p3_theory.specs.RingSolver.SolverSound.{ring_eq, and_true}
 
+-- the two lists have the same expressions up to the laws of a ring, entry by entry
 abbrev pub all_same : List Expr → List Expr → Bool
 all_same [] [] = true
 all_same [] (y ∷ ys) = false
@@ -13,6 +14,7 @@ all_same (x ∷ xs) [] = false
 all_same (x ∷ xs) (y ∷ ys) = same x y && all_same xs ys
 
 module _ {A : Type 0} (R : Ring A) where
+  -- the values of expressions
   abbrev pub den : List A → List Expr → List A
   den env es = map (S.eval R.ops env) es
 

@@ -25,6 +25,7 @@ pub data Reads {A : Type 0} (o : Ops A) (P : A → Type 0) : A → Type 0 where
 
 pub ruleset reads = (reads_zero, reads_one, reads_add, reads_mul, reads_neg, reads_var, here, there)
 
+-- the index at which a value stands in the environment
 abbrev pub place : {A : Type 0} {d : A} {env : List A} {t : A} → Stands d env t → ℕ
 place here = zero
 place (there s) = suc (place s)
@@ -33,6 +34,7 @@ pub at-place : {A : Type 0} (d : A) {env : List A} {t : A} (s : Stands d env t) 
 at-place d here = refl
 at-place d (there s) = at-place d s
 
+-- the expression that a value was read as
 abbrev pub expr : {A : Type 0} {o : Ops A} {env : List A} {t : A} → Reads o (Stands o.zero env) t → Expr
 expr (reads_var s) = V (place s)
 expr reads_zero = K 0

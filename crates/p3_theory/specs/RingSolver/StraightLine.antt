@@ -28,7 +28,7 @@ abbrev from_each : {A : Type 0} (d : A) (P : A → Type 0) (env : List A) {T : T
 from_each d P [] p r = r
 from_each d P (x ∷ xs) p r = from_each d P xs (λ t s. p t (there s)) (r (p x here))
 
--- n variables from place i on
+-- n variables from index i on
 abbrev pub variables : ℕ → ℕ → List Expr
 variables i n = tabulate n (λ k. V (i + k))
 
@@ -55,14 +55,17 @@ module _ {A : Type 0} (o : Ops A) (P : A → Type 0) where
       → Reads o P x → Reads o P y → Reads o P r
   sum_read k {x} {y} {r} h a b = reads_by (k.answer x y r h) (reads_add a b)
 
+  -- a call that answers a difference, read as an expression
   abbrev pub difference_read : {can : A → A → Type 0} {gives : A → A → A → Type 0} → Gives can gives (subtract o) → {x y r : A} → gives x y r
       → Reads o P x → Reads o P y → Reads o P r
   difference_read k {x} {y} {r} h a b = reads_by (k.answer x y r h) (reads_add a (reads_neg b))
 
+  -- a call that answers a product, read as an expression
   abbrev pub product_read : {can : A → A → Type 0} {gives : A → A → A → Type 0} → Gives can gives o.mul → {x y r : A} → gives x y r
       → Reads o P x → Reads o P y → Reads o P r
   product_read k {x} {y} {r} h a b = reads_by (k.answer x y r h) (reads_mul a b)
 
+  -- a call that answers a negation, read as an expression
   abbrev pub negation_read : {can : A → Type 0} {gives : A → A → Type 0} → GivesOne can gives o.neg → {x r : A} → gives x r → Reads o P x → Reads o P r
   negation_read k {x} {r} h a = reads_by (k.answer x r h) (reads_neg a)
 

@@ -16,7 +16,7 @@ use Rattle.p3_theory.specs.Lists.TabulatedPlaces.{UpdatedBelow, updated-more, up
 use Rattle.p3_theory.specs.Rings.DotProduct.{sum_list-append}
 
 module _ {A F : Type 0} (O : Ops A) (e : F → A) (N : ℕ) where
-  -- what a row adds to place p of whole groups of N: scale p % N times the row's place p / N, where there are such a group and such a place
+  -- what a row adds to index p of whole groups of N: scale p % N times the row's index p / N, where there are such a group and such an index
   abbrev pub column_product : ℕ → List F → List A → ℕ → A
   column_product groups row scales p =
       (if nat_lt (p / N) (min groups (length row)) then O.mul (get_or scales (p % N) O.zero) (get_or (map e row) (p / N) O.zero) else O.zero)
@@ -65,7 +65,7 @@ group-inside n N c h =
     omega (arith, next, whole, more)
 
 module _ {A F : Type 0} {O : Ops A} (l : RingLaws O) (e : F → A) (N : ℕ) where
-  -- a loop that adds the products place by place, from the first on, adds the row
+  -- a loop that adds the products index by index, from the first on, adds the row
   pub column-update : (acc now scales : List A) (row : List F) (c j place : ℕ) (x : A) (y : F) (old product new : A) → place ≡ c * N + j
       → c < min (length acc / N) (length row) → j < N → length scales ≡ N → place < length now
       → UpdatedBelow (place_after_row O e N acc row scales) O.zero acc now place

@@ -34,7 +34,7 @@ module _ {A : Type 0} {O : Ops A} (l : RingLaws O) where
   pub sum-end : (xs : List A) (i : ℕ) (s r : A) → length xs ≤ i → O.add s (sum_list O (drop i xs)) ≡ r → s ≡ r
   sum-end xs i s r h p = sym (l.add_zero s) ∙ ap (λ z. O.add s (sum_list O z)) (sym (drop_of_length-le xs h)) ∙ p
 
-  -- the rest of a dot product from place i on, as its first product and the rest after it
+  -- the rest of a dot product from index i on, as its first product and the rest after it
   pub dot-drop : (xs ys : List A) (i : ℕ) (x y : A) → i < length xs → i < length ys → x ≡ get_or xs i x → y ≡ get_or ys i y
       → dot O (drop i xs) (drop i ys) ≡ O.add (O.mul x y) (dot O (drop (i + 1) xs) (drop (i + 1) ys))
   dot-drop xs ys i x y h k e f =
@@ -48,7 +48,7 @@ module _ {A : Type 0} {O : Ops A} (l : RingLaws O) where
       let e : length xs ≡ length ys = omega arith in
       ap (O.add (O.mul x y)) (dot-append xs xs' ys ys' e) ∙ sym (l.add_assoc _ _ _)
 
-  -- the rest of a dot product, as that of its next n places and the rest after them
+  -- the rest of a dot product, as that of its next n indices and the rest after them
   pub dot-chunk : (xs ys : List A) (i n : ℕ) → length xs ≡ length ys
       → dot O (drop i xs) (drop i ys) ≡ O.add (dot O (take n (drop i xs)) (take n (drop i ys))) (dot O (drop (i + n) xs) (drop (i + n) ys))
   dot-chunk xs ys i n h =
@@ -71,6 +71,6 @@ module _ {A : Type 0} {O : Ops A} (l : RingLaws O) where
       ap (λ z. O.add z (dot O (drop (i + 1) xs) (drop (i + 1) ys))) m ∙ l.add_assoc s (O.mul x y) _
       ∙ ap (O.add s) (sym (dot-drop xs ys i x y h k e f)) ∙ p
 
-  -- no place is left
+  -- no index is left
   pub dot-end : (xs ys : List A) (i : ℕ) (s r : A) → length xs ≤ i → O.add s (dot O (drop i xs) (drop i ys)) ≡ r → s ≡ r
   dot-end xs ys i s r h p = sym (l.add_zero s) ∙ ap (λ z. O.add s (dot O z (drop i ys))) (sym (drop_of_length-le xs h)) ∙ p

@@ -6,11 +6,11 @@ use Rattle.p3_theory.specs.Rings.Ring.{Ops, RingLaws}
 use Rattle.p3_theory.specs.Rings.Homomorphism.{length-map}
 use Rattle.p3_theory.specs.Rings.DotProduct.{dot, dot-chunk, dot-begin, dot-step, dot-end}
 
--- the places from i on, as a slice of a list gives them
+-- the indices from i on, as a slice of a list gives them
 abbrev pub from : {A : Type 0} → ℕ → List A → List A
 from i xs = take (length xs - i) (drop i xs)
 
--- a sum so far, and the products from place i on, make r
+-- a sum so far, and the products from index i on, make r
 abbrev pub MakesWithRest : {A F : Type 0} → Ops A → (F → A) → List A → List F → A → ℕ → A → Type 0
 MakesWithRest O e xs fs r i s = O.add s (dot O (drop i xs) (drop i (map e fs))) ≡ r
 
@@ -40,14 +40,14 @@ module _ {A F : Type 0} {O : Ops A} (l : RingLaws O) (e : F → A) (xs : List A)
       let last : length xs ≤ 1 = omega arith in
       dot-end l xs (map e fs) 1 s (dot O xs (map e fs)) last (mixed-begin x y s some p q m)
 
-  -- after the products of the first n places
+  -- after the products of the first n indices
   pub mixed-first : (n : ℕ) (s : A) → s ≡ dot O (take n xs) (map e (take n fs)) → MakesWithRest O e xs fs (dot O xs (map e fs)) n s
   mixed-first n s h =
       let none : 0 + n ≡ n = omega arith in
       ap (λ z. O.add z (dot O (drop n xs) (drop n (map e fs)))) (h ∙ ap (dot O (take n xs)) (sym (take-map e n fs)))
       ∙ sym (dot-chunk l xs (map e fs) 0 n same-map ∙ ap (λ i. O.add (dot O (take n xs) (take n (map e fs))) (dot O (drop i xs) (drop i (map e fs)))) none)
 
-  -- of the first n places and of the others
+  -- of the first n indices and of the others
   pub mixed-split : (n : ℕ) (low high s : A) → low ≡ dot O (take n xs) (map e (take n fs)) → high ≡ dot O (from n xs) (map e (from n fs)) → s ≡ O.add low high
       → s ≡ dot O xs (map e fs)
   mixed-split n low high s h k m = m ∙ ap (O.add low) (k ∙ dot-from n) ∙ mixed-first n low h
@@ -59,7 +59,7 @@ module _ {A F : Type 0} {O : Ops A} (l : RingLaws O) (e : F → A) (xs : List A)
       let inside : i < length (map e fs) = omega (arith, same-map) in
       dot-step l xs (map e fs) i x (e y) s t r h inside p (read-map i y q) m k
 
-  -- after the products of n more places
+  -- after the products of n more indices
   pub mixed-chunk : (i n : ℕ) (c s t r : A) → c ≡ dot O (take (i + n - i) (drop i xs)) (map e (take (i + n - i) (drop i fs))) → t ≡ O.add s c
       → MakesWithRest O e xs fs r i s → MakesWithRest O e xs fs r (i + n) t
   mixed-chunk i n c s t r h m k =
@@ -70,7 +70,7 @@ module _ {A F : Type 0} {O : Ops A} (l : RingLaws O) (e : F → A) (xs : List A)
       ap (λ z. O.add z (dot O (drop (i + n) xs) (drop (i + n) (map e fs)))) (m ∙ ap (O.add s) chunk)
       ∙ l.add_assoc s _ _ ∙ ap (O.add s) (sym (dot-chunk l xs (map e fs) i n same-map)) ∙ k
 
-  -- with no place left
+  -- with no index left
   pub mixed-end : (i : ℕ) (s r : A) → length xs ≤ i → MakesWithRest O e xs fs r i s → s ≡ r
   mixed-end i s r h k = dot-end l xs (map e fs) i s r h k
 

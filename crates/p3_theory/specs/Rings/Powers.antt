@@ -14,7 +14,7 @@ module _ {A : Type 0} (R : Ops A) where
   sum_of zero s = R.zero
   sum_of (suc n) s = R.add (s zero) (sum_of n (λ i. s (suc i)))
 
-  -- place k times the k-th power of c
+  -- index k times the k-th power of c
   abbrev pub scale_powers : ℕ → A → List A → List A
   scale_powers D c a = tabulate D (λ k. R.mul (power c k) (at R a k))
 

@@ -29,7 +29,7 @@ halved_digits (suc i) n h b =
     let e : suc i - 1 ≡ i = omega arith in
     (omega arith, rw e (omega (arith, b, pow-suc 2 i)))
 
--- the item at a place
+-- the item at an index
 pub coset_item : {A : Type 0} (O : Ops A) (g : ℕ → A) (shift : A) (k j : ℕ) (d : A) → j < 2 ^ k → get_or (coset O g shift k) j d ≡ O.mul shift (power O (g k) j)
 coset_item O g shift k j d h = get-tabulate (2 ^ k) (geometric_term O (g k) shift) j d h
 

@@ -17,7 +17,7 @@ abbrev pub DividesOrder : ℕ → Option ℕ → Type 0
 DividesOrder s None = Unit {0}
 DividesOrder s (Some n) = (q : ℕ) × (n - 1 ≡ 2 ^ s * q)
 
--- what top gives by repeated squares, from the last place backward
+-- what top gives by repeated squares, from the last index backward
 abbrev pub repeated_squares : {A : Type 0} → Ops A → ℕ → A → ℕ → A
 repeated_squares O s top k = power O top (2 ^ (s - k))
 

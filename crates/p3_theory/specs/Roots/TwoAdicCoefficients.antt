@@ -15,7 +15,7 @@ with_coefficients D c bits = tabulate D (c bits)
 abbrev pub AreExtensionGenerators : {A : Type 0} → Ops A → ℕ → List A → ℕ → (ℕ → ℕ → A) → Type 0
 AreExtensionGenerators O D f s c = AreTwoAdicGenerators (quotient_ops O D f) s (with_coefficients D c)
 
--- the number at place i of the row for so many bits, and 0 past the end
+-- the number at index i of the row for so many bits, and 0 past the end
 abbrev pub entry : List (List ℕ) → ℕ → ℕ → ℕ
 entry table bits i = get_or (get_or table bits []) i 0
 

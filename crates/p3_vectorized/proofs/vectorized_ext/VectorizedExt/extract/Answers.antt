@@ -1,8 +1,13 @@
-use Rattle.std.specs.Prelude.{refl}
-use Rattle.p3_theory.specs.Lanes.VectorLanes.{read_lane}
+use Rattle.std.specs.Prelude.{◌/◌, ◌%◌, get_or}
+use Rattle.std.proofs.Common.{ap, sym, ◌∙◌}
+use Rattle.std.proofs.lemmas.Option.{get_or_from_slice_get}
 use Rattle.p3_vectorized.proofs.vectorized_ext.VectorizedExt.extract.Goals as goal
 
 pub returns : goal.returns
 returns g c =
-    read_lane g.PE.PrimeCharacteristicRing.ops g.EF.PrimeCharacteristicRing.ops g.PE.ExtensionLanes.ext_lanes g.PE.ExtensionLanes.LANES c.LANES-width.result c.args.lane
-    c.args.self.now c.args.self.now.items c.part-part.result c.extract.result c.LANES-width.ensures c.requires refl c.part-part.ensures c.extract.ensures
+    let w = g.PE.ExtensionLanes.LANES in
+    let lanes = g.PE.ExtensionLanes.ext_lanes in
+    let zero = g.PE.PrimeCharacteristicRing.ops.zero in
+    let d = g.EF.PrimeCharacteristicRing.ops.zero in
+    sym (get_or_from_slice_get (lanes (get_or c.items-parts.result (c.args.lane / w) zero)) (c.args.lane % w) c.lane_of_packings.result d (c.lane_of_packings.ensures zero))
+    ∙ ap (λ parts. get_or (lanes (get_or parts (c.args.lane / w) zero)) (c.args.lane % w) d) c.items-parts.ensures
