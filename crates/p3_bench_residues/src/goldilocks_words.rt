@@ -34,12 +34,9 @@ pub fn reduce128(x: u128) -> u64
         difference_with_order(low, top)
     };
     let more = middle * 0xffff_ffff;
-    let room = P - more;
-    if less < room {
-        less + more
-    } else {
-        less - room
-    }
+    let (sum, borrowed) = less.overflowing_sub(P - more);
+    let back = if borrowed { P } else { 0 };
+    sum.wrapping_add(back)
 }
 
 /// The sum of two residues: the first less what the second lacks of the order, and the order more
