@@ -89,6 +89,7 @@ pub use p3_packings::ext_powers::packed_ext_powers;
 pub use p3_packings::ext_powers::packed_ext_powers_capped;
 pub use p3_packings::extension_lanes::ExtensionLanes;
 pub use p3_packings::extension_lanes::PackedExtensionRing;
+pub use p3_packings::extension_lanes::lane_of_packings;
 pub use p3_packings::packed_field_extension::PackedFieldExtension;
 pub use p3_packings::scalar_sums::ScalarSums;
 pub use p3_packings::unpacked_ext_rows::UnpackedExtRows;
