@@ -40,72 +40,59 @@ length-groups group n widths (x ∷ xs) (y ∷ ys) e =
     let rest = length-groups group n widths xs ys (omega (arith, e)) in
     omega (arith, length-append (group x) (flattened group xs), length-append (group y) (flattened group ys), widths x, widths y, rest)
 
-module _ {F S T A : Type 0} {D : ℕ} (R : Words T A) where
-  abbrev E : Type 0
-  E = ExtField F D S A
-
-  abbrev pub list : E → List A
-  list x = x.value
-
+module _ {T A E : Type 0} (D : ℕ) (R : Words T A) (list : E → List A) where
   abbrev pub group : E → List T
-  group x = map R.word x.value
+  group x = map R.word (list x)
 
   words-of-lists : (xs : List E) → flattened group xs ≡ flattened (map R.word) (map list xs)
   words-of-lists [] = refl
   words-of-lists (x ∷ xs) = ap (λ l. group x ++ l) (words-of-lists xs)
 
   -- words of values are words of their lists
-  pub are-words : (xs : List E) (ws : List T) → flattened group xs ≡ ws → AreAllWords D R (map list xs) ws
-  are-words xs ws e = (All-map (λ l. length l ≡ D) list xs (λ i d h. (get_or xs i d).sized), sym e ∙ words-of-lists xs)
+  pub are-words : ((x : E) → length (list x) ≡ D) → (xs : List E) (ws : List T) → flattened group xs ≡ ws → AreAllWords D R (map list xs) ws
+  are-words sized xs ws e = (All-map (λ l. length l ≡ D) list xs (λ i d h. sized (get_or xs i d)), sym e ∙ words-of-lists xs)
 
   -- what is done with each value is done with its list
-  pub each-list : (f : E → E) (h : List A → List A) → ((x : E) → (f x).value ≡ h x.value) → (xs : List E) → flattened group (map f xs) ≡ flattened (map R.word) (map h (map list xs))
+  pub each-list : (f : E → E) (h : List A → List A) → ((x : E) → list (f x) ≡ h (list x)) → (xs : List E) → flattened group (map f xs) ≡ flattened (map R.word) (map h (map list xs))
   each-list f h e [] = refl
   each-list f h e (x ∷ xs) = ap₂ (λ a b. a ++ b) (ap (map R.word) (e x)) (each-list f h e xs)
 
   -- what is done with two values is done with their lists
-  pub pair-lists : (f : E → E → E) (h : List A → List A → List A) → ((x y : E) → (f x y).value ≡ h x.value y.value) → (xs ys : List E)
+  pub pair-lists : (f : E → E → E) (h : List A → List A → List A) → ((x y : E) → list (f x y) ≡ h (list x) (list y)) → (xs ys : List E)
       → flattened group (zip_with f xs ys) ≡ flattened (map R.word) (zip_with h (map list xs) (map list ys))
   pair-lists f h e [] ys = refl
   pair-lists f h e (x ∷ xs) [] = refl
   pair-lists f h e (x ∷ xs) (y ∷ ys) = ap₂ (λ a b. a ++ b) (ap (map R.word) (e x y)) (pair-lists f h e xs ys)
 
-module _ {F S A : Type 0} {D : ℕ} (o : Ops A) (f : List A) where
-  abbrev V : Type 0
-  V = ExtField F D S A
+-- the coefficients of a value
+abbrev pub coefficients : {F S A : Type 0} {D : ℕ} → ExtField F D S A → List A
+coefficients x = x.value
 
-  abbrev X : Ops V
-  X = ext_ops o f
-
-  abbrev Q : Ops (List A)
-  Q = quotient_ops o D f
-
-  abbrev coefficients : V → List A
-  coefficients x = x.value
-
-  pub dot-lists : (xs ys : List V) → (dot X xs ys).value ≡ dot Q (map coefficients xs) (map coefficients ys)
+module _ {F S A : Type 0} (D : ℕ) (o : Ops A) (f : List A) where
+  pub dot-lists : (xs ys : List (ExtField F D S A)) → (dot (ext_ops o f) xs ys).value ≡ dot (quotient_ops o D f) (map coefficients xs) (map coefficients ys)
   dot-lists [] ys = refl
   dot-lists (x ∷ xs) [] = refl
   dot-lists (x ∷ xs) (y ∷ ys) = ap (quotient_add o D (quotient_mul o D f x.value y.value)) (dot-lists xs ys)
 
-  pub turned-list : (phi : List A) (n : ℕ) (x : V) → (iterate (frobenius_map o f phi) n x).value ≡ iterate (frobenius_list o D f phi) n x.value
+  pub turned-list : (phi : List A) (n : ℕ) (x : ExtField F D S A) → (iterate (frobenius_map o f phi) n x).value ≡ iterate (frobenius_list o D f phi) n x.value
   turned-list phi zero x = refl
   turned-list phi (suc n) x = turned-list phi n (frobenius_map o f phi x)
 
   -- each product is one
-  pub inverse-lists : (xs ys : List V) → length ys ≡ length xs → InverseEach X xs ys → zip_with Q.mul (map coefficients xs) (map coefficients ys) ≡ map (λ _. Q.one) (map coefficients xs)
+  pub inverse-lists : (xs ys : List (ExtField F D S A)) → length ys ≡ length xs → InverseEach (ext_ops o f) xs ys
+      → zip_with (quotient_mul o D f) (map coefficients xs) (map coefficients ys) ≡ map (λ _. embed o D o.one) (map coefficients xs)
   inverse-lists [] ys e h = refl
   inverse-lists (x ∷ xs) [] e h = absurd (omega (arith, e))
   inverse-lists (x ∷ xs) (y ∷ ys) e h =
       ap₂ (λ z zs. z ∷ zs) (ap coefficients (h x 0 (omega arith))) (inverse-lists xs ys (omega (arith, e)) (λ d i inside. h d (suc i) (omega (arith, inside))))
 
   -- a list with an inverse is a value with one
-  pub value-invertible : (x : V) → (y : List A) → length y ≡ D → IsInverse Q x.value y → Invertible X x
+  pub value-invertible : (x : ExtField F D S A) (y : List A) → length y ≡ D → IsInverse (quotient_ops o D f) x.value y → Invertible (ext_ops o f) x
   value-invertible x y l e = (value_of y l, same_value _ _ e)
 
-  pub all-invertible : {T : Type 0} (R : Words T A) (xs : List V) → All (HasInverse D Q R) (map coefficients xs) → All (Invertible X) xs
-  all-invertible R [] h = All-nil (Invertible X)
+  pub all-invertible : {T : Type 0} (R : Words T A) (xs : List (ExtField F D S A)) → All (HasInverse D (quotient_ops o D f) R) (map coefficients xs) → All (Invertible (ext_ops o f)) xs
+  all-invertible R [] h = All-nil (Invertible (ext_ops o f))
   all-invertible R (x ∷ xs) h =
-      let has = HasInverse D Q R in
+      let has = HasInverse D (quotient_ops o D f) R in
       let first = All-head has x.value (map coefficients xs) h in
-      All-cons (Invertible X) x xs (value-invertible x first.0 first.1 first.2) (all-invertible R xs (All-tail has x.value (map coefficients xs) h))
+      All-cons (Invertible (ext_ops o f)) x xs (value-invertible x first.0 first.1 first.2) (all-invertible R xs (All-tail has x.value (map coefficients xs) h))

@@ -2,7 +2,7 @@
 use Rattle.std.proofs.Common.{◌≡◌, ◌+◌, ◌-◌, ◌<◌, ◌≤◌, ◌%◌, ℕ, zero, suc, List, [], ◌∷◌, ◌++◌, length, map, take, drop, refl, sym, ap, ap₂, ◌∙◌, arith, append-nil, length-append}
 use Rattle.std.specs.Prelude.{All}
 use Rattle.std.proofs.lemmas.Grind.{flat_map-append}
-use Rattle.std.proofs.lemmas.List.{drop-drop}
+use Rattle.std.proofs.lemmas.List.{drop-drop, length-take, length-drop}
 use Rattle.std.proofs.lemmas.List.Elements.{All-head, All-tail}
 use Rattle.std.proofs.lemmas.Slice.{take-put_mid, drop-put_mid}
 use borrow.Rule.Slice.PartMut.{put_mid}
@@ -28,6 +28,11 @@ rest-whole n len i some whole inside =
     let front = divided_front (len - i) n some whole (omega (arith, inside)) in
     let rest : len - (i + n) ≡ len - i - n = omega arith in
     ap (λ m. m % n) rest ∙ front.1
+
+-- a list keeps its length where a part comes back
+pub length-put : {T : Type 0} (now part : List T) (i n k : ℕ) → k ≡ n → i + n ≤ length now → length part ≡ n → length (put_mid i k now part) ≡ length now
+length-put now part i n k e fits long =
+    omega (arith, length-append (take i now) (part ++ drop k (drop i now)), length-append part (drop k (drop i now)), length-take i now, length-drop k (drop i now), length-drop i now, e, fits, long)
 
 module _ {E T : Type 0} (group : E → List T) (n : ℕ) where
   -- one more value is read, and its words come back as others
@@ -63,4 +68,13 @@ pub words-left : {E T : Type 0} (group : E → List T) (n : ℕ) → ((x : E) �
     → length (flattened group (drop i xs)) ≡ n + length (flattened group (drop (i + 1) xs))
 words-left group n widths [] i h = absurd (omega (arith, h))
 words-left group n widths (x ∷ xs) zero h = length-append (group x) (flattened group xs) ∙ ap (λ m. m + length (flattened group xs)) (widths x)
-words-left group n widths (x ∷ xs) (suc i) h = words-left group n widths xs i (omega (arith, h))
+words-left group n widths (x ∷ xs) (suc i) h =
+    let next : suc i + 1 ≡ suc (i + 1) = omega arith in
+    words-left group n widths xs i (omega (arith, h)) ∙ ap (λ j. n + length (flattened group (drop j (x ∷ xs)))) (sym next)
+
+-- a bound on a number is one on the same number
+pub at-most : (a b c : ℕ) → c ≡ b → a ≤ b → a ≤ c
+at-most a b c e h = omega (arith, e, h)
+
+pub below : (a b c : ℕ) → c ≡ b → a < c → a < b
+below a b c e h = omega (arith, e, h)

@@ -22,9 +22,9 @@ module _ {A : Type 0} (O : Ops A) (size : Option ℕ) (generator : A) where
   length-step (Double d a) regs new r h = same new regs d _ h.1
   length-step (Exp d a e) regs new r h = same new regs d _ h.1
   length-step (Mul2Exp d a e) regs new r h = same new regs d _ h.1
-  length-step (Inv d a) regs new r (inl h) = same new regs d _ h.3
+  length-step (Inv d a) regs new r (inl h) = same new regs d _ h.2.1
   length-step (Inv d a) regs new r (inr h) = ap length h.2
-  length-step (Sqrt d a) regs new r (inl h) = same new regs d _ h.3
+  length-step (Sqrt d a) regs new r (inl h) = same new regs d _ h.2.1
   length-step (Sqrt d a) regs new r (inr h) = ap length h.2
 
   pub length-run : (steps : List FieldStep) (i : ℕ) (regs new : List A) (r : Result (Unit {0}) StepRefused) → RunMay O size generator steps i regs r new → length new ≡ length regs

@@ -7,8 +7,8 @@ use Rattle.p3_theory.specs.Bases.CoordinateLemmas.{flattened-push, divided_front
 use Rattle.p3_theory.specs.Rings.DotProduct.{dot, dot-append}
 use Rattle.p3_word_extensions.proofs.groups.dot_groups.Goals as goal
 
-pub loop-init : goal.loop-init
-loop-init g c =
+pub loop-a-init : goal.loop-a-init
+loop-a-init g c =
     record {
       lengths = c.requires.lengths;
       whole = c.requires.whole;
@@ -18,15 +18,15 @@ loop-init g c =
       done = ([], [], refl, refl, refl, c.zero-total.ensures);
     }
 
-pub loop-preserved : goal.loop-preserved
-loop-preserved g c =
+pub loop-a-preserved : goal.loop-a-preserved
+loop-a-preserved g c =
     let e = g.E.Grouped in
     let m = g.met.E.PrimeCharacteristicRing in
     let o = g.E.PrimeCharacteristicRing.ops in
     let n = g.row.D in
-    let a = c.loop.a.now in
-    let b = c.loop.b.now in
-    let held = c.loop.invariant in
+    let a = c.loop-a.a.now in
+    let b = c.loop-a.b.now in
+    let held = c.loop-a.invariant in
     let x = c.product_of.ensures.0 in
     let y = c.product_of.ensures.1 in
     let xs = held.done.0 in
@@ -57,12 +57,12 @@ loop-preserved g c =
 pub returns : goal.returns
 returns g c =
     let group = g.E.Grouped.group in
-    let held = c.loop.invariant in
+    let held = c.loop-a.invariant in
     let xs = held.done.0 in
     let ys = held.done.1 in
-    let end-a : length c.loop.a.now ≡ 0 = grind (arith, common_steps) in
-    let none-a : c.loop.a.now ≡ [] = nil_from_length _ end-a in
-    let none-b : c.loop.b.now ≡ [] = nil_from_length _ (sym held.lengths ∙ end-a) in (
+    let end-a : length c.loop-a.a.now ≡ 0 = grind (arith, common_steps) in
+    let none-a : c.loop-a.a.now ≡ [] = nil_from_length _ end-a in
+    let none-b : c.loop-a.b.now ≡ [] = nil_from_length _ (sym held.lengths ∙ end-a) in (
       xs,
       ys,
       sym (append-nil _) ∙ ap (λ l. flattened group xs ++ l) (sym none-a) ∙ held.done.3,

@@ -4,8 +4,8 @@ use Rattle.p3_theory.specs.Bases.Coordinates.{flattened}
 use Rattle.p3_theory.specs.Rings.DotProduct.{dot}
 use Rattle.p3_word_extensions.proofs.groups.dot_groups.Given as goal
 
-abbrev pub invariant-loop : goal.invariant-loop
-invariant-loop g l =
+abbrev pub invariant-loop-a : goal.invariant-loop-a
+invariant-loop-a g l =
     let e = g.E.Grouped in
     record {
       lengths : length l.a ≡ length l.b;
@@ -17,5 +17,5 @@ invariant-loop g l =
           × (l.total ≡ dot g.E.PrimeCharacteristicRing.ops xs ys);
     }
 
-abbrev pub decreases-loop : goal.decreases-loop
-decreases-loop g l = length l.a
+abbrev pub decreases-loop-a : goal.decreases-loop-a
+decreases-loop-a g l = length l.a

@@ -1,20 +1,23 @@
-use Rattle.std.proofs.Common.{◌≡◌, ◌+◌, ◌-◌, ◌<◌, ◌≤◌, [], ◌∷◌, ◌++◌, length, map, take, drop, refl, arith, rules, ap, sym, ◌∙◌, append-nil}
+use Rattle.std.proofs.Common.{◌≡◌, ◌+◌, ◌-◌, ◌%◌, ◌<◌, ◌≤◌, [], ◌∷◌, ◌++◌, length, map, take, drop, refl, arith, ap, sym, ◌∙◌, append-nil}
 use Rattle.std.proofs.lemmas.List.{drop-drop, drop_all, take_all, map-append}
 use Rattle.std.proofs.lemmas.List.Elements.{All-same, All-drop}
 use Rattle.std.proofs.lemmas.Slice.{drop-put_mid}
+use borrow.Rule.Slice.PartMut.{put_mid}
 use Rattle.p3_theory.specs.Bases.Coordinates.{flattened}
-use Rattle.p3_word_extensions.proofs.WordGroups.{group-fits, rest-whole, read-more, written-group}
+use Rattle.p3_word_extensions.proofs.WordGroups.{group-fits, rest-whole, length-put, at-most, below, read-more, written-group}
 use Rattle.p3_word_extensions.proofs.groups.each.Goals as goal
 
 pub loop-start-init : goal.loop-start-init
 loop-start-init g c =
     let n = g.row.D in
     let len = length c.args.words.now in
+    let none : len - 0 ≡ len = omega arith in
+    let whole = ap (λ m. m % n) none ∙ c.requires.whole in
     record {
       inside = omega arith;
       long = refl;
-      whole = c.requires.whole;
-      fits = λ h. group-fits n len 0 c.requires.some c.requires.whole h;
+      whole = whole;
+      fits = λ h. group-fits n len 0 c.requires.some whole h;
       stand = c.requires.stand;
       done = ([], refl, refl);
     }
@@ -35,13 +38,14 @@ loop-start-preserved g c =
     let x = c.change.ensures.0 in
     let xs = held.done.0 in
     let long : length part ≡ n = ap length c.change.ensures.2 ∙ g.met.E.Grouped.widths (f x) in
-    let same : length (take i now ++ part ++ drop k (drop i now)) ≡ length now = search (rules, fits, long) in
+    let new = put_mid i k now part in
+    let same : length new ≡ length now = length-put now part i n k width fits long in
     let whole = rest-whole n (length now) i c.requires.some held.whole inside in
     record {
-      inside = omega (arith, same, fits);
+      inside = at-most (i + n) (length now) (length new) same fits;
       long = same ∙ held.long;
-      whole = rw (same) whole;
-      fits = λ h. rw (same) (group-fits n (length now) (i + n) c.requires.some whole (omega (arith, h, same)));
+      whole = ap (λ m. (m - (i + n)) % n) same ∙ whole;
+      fits = λ h. at-most (i + n + n) (length now) (length new) same (group-fits n (length now) (i + n) c.requires.some whole (below (i + n) (length now) (length new) same h));
       stand = All-same e.stands _ _ (drop-put_mid i k now part (i + n) (omega arith) (omega (arith, fits)) (omega (arith, long)) ∙ sym (drop-drop n i now)) (All-drop e.stands n (drop i now) held.stand);
       done = (
         xs ++ x ∷ [],

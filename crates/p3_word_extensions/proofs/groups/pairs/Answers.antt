@@ -1,19 +1,23 @@
-use Rattle.std.proofs.Common.{◌≡◌, ◌+◌, ◌-◌, ◌<◌, ◌≤◌, [], ◌∷◌, ◌++◌, length, take, drop, refl, arith, rules, ap, sym, ◌∙◌, append-nil, length-append}
+use Rattle.std.proofs.Common.{◌≡◌, ◌+◌, ◌-◌, ◌%◌, ◌<◌, ◌≤◌, [], ◌∷◌, ◌++◌, length, take, drop, refl, arith, ap, sym, ◌∙◌, append-nil, length-append}
 use Rattle.std.proofs.lemmas.List.{drop-drop, drop_all, take_all}
 use Rattle.std.proofs.lemmas.List.Elements.{All-same, All-drop}
 use Rattle.std.proofs.lemmas.Slice.{drop-put_mid}
+use borrow.Rule.Slice.PartMut.{put_mid}
 use Rattle.p3_theory.specs.Bases.Coordinates.{flattened}
 use Rattle.p3_theory.specs.Lists.PairedLists.{zip_with}
-use Rattle.p3_word_extensions.proofs.WordGroups.{group-fits, rest-whole, read-more, read-on, written-group, zip-more}
+use Rattle.p3_word_extensions.proofs.WordGroups.{group-fits, rest-whole, length-put, at-most, below, read-more, read-on, written-group, zip-more}
 use Rattle.p3_word_extensions.proofs.groups.pairs.Goals as goal
 
 pub loop-start-init : goal.loop-start-init
 loop-start-init g c =
+    let len = length c.args.left.now in
+    let none : len - 0 ≡ len = omega arith in
+    let whole = ap (λ m. m % g.row.D) none ∙ c.requires.whole in
     record {
       inside = omega arith;
       long = refl;
-      whole = c.requires.whole;
-      fits = λ h. group-fits g.row.D (length c.args.left.now) 0 c.requires.some c.requires.whole h;
+      whole = whole;
+      fits = λ h. group-fits g.row.D len 0 c.requires.some whole h;
       stand = c.requires.left;
       other = c.requires.right;
       done = ([], [], refl, refl, refl, refl);
@@ -40,13 +44,14 @@ loop-start-preserved g c =
     let ys = held.done.1 in
     let alike = held.done.2 in
     let long : length part ≡ n = ap length made.4 ∙ g.met.E.Grouped.widths (mul x y) in
-    let same : length (take i now ++ part ++ drop k (drop i now)) ≡ length now = search (rules, fits, long) in
+    let new = put_mid i k now part in
+    let same : length new ≡ length now = length-put now part i n k width fits long in
     let whole = rest-whole n (length now) i c.requires.some held.whole inside in
     record {
-      inside = omega (arith, same, fits);
+      inside = at-most (i + n) (length now) (length new) same fits;
       long = same ∙ held.long;
-      whole = rw (same) whole;
-      fits = λ h. rw (same) (group-fits n (length now) (i + n) c.requires.some whole (omega (arith, h, same)));
+      whole = ap (λ m. (m - (i + n)) % n) same ∙ whole;
+      fits = λ h. at-most (i + n + n) (length now) (length new) same (group-fits n (length now) (i + n) c.requires.some whole (below (i + n) (length now) (length new) same h));
       stand = All-same e.stands _ _ (drop-put_mid i k now part (i + n) (omega arith) (omega (arith, fits)) (omega (arith, long)) ∙ sym (drop-drop n i now)) (All-drop e.stands n (drop i now) held.stand);
       other = All-same e.stands _ _ (sym (drop-drop n i other)) (All-drop e.stands n (drop i other) held.other);
       done = (

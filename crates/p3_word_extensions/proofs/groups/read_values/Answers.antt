@@ -10,7 +10,7 @@ loop-rest-init g c =
       whole = c.requires.whole;
       fits = λ h. (divided_front (length c.args.words.now) g.row.D c.requires.some c.requires.whole h).0;
       stand = c.requires.stand;
-      read = refl;
+      read = search;
     }
 
 pub loop-rest-preserved : goal.loop-rest-preserved

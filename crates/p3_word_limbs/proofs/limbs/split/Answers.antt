@@ -6,4 +6,4 @@ use Rattle.p3_word_limbs.proofs.limbs.split.Goals as goal
 pub write-requires : goal.write-requires
 write-requires g c =
     let n = length c.args.limbs.now in
-    ap length c.deref.ensures.value ∙ sym (length-map _ g.TF.PrimeField.canon) ∙ ap length c.in-Ok.ensures.digits ∙ length-tabulate n _
+    ap length c.deref.ensures.value ∙ sym (length-map _ g.TF.Quotient.canon) ∙ ap length c.in-Ok.ensures.digits ∙ length-tabulate n _

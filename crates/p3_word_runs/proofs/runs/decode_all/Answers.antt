@@ -6,7 +6,7 @@ use Rattle.p3_word_runs.specs.Calls.{decoded}
 use Rattle.p3_word_runs.proofs.runs.decode_all.Goals as goal
 
 pub loop-i-preserved : goal.loop-i-preserved
-loop-i-preserved g c =
+loop-i-preserved c =
     let held = c.loop-i.invariant in
     let steps = c.args.steps.now in
     let i = c.loop-i.i in
