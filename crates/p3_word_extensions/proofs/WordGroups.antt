@@ -9,6 +9,8 @@ use borrow.Rule.Slice.PartMut.{put_mid}
 use Rattle.p3_theory.specs.Bases.Coordinates.{flattened}
 use Rattle.p3_theory.specs.Bases.CoordinateLemmas.{flattened-push, divided_front}
 use Rattle.p3_theory.specs.Lists.PairedLists.{zip_with}
+use Rattle.p3_theory.specs.Rings.Ring.{Ops, RingLaws}
+use Rattle.p3_theory.specs.Rings.DotProduct.{dot}
 use Rattle.p3_words.specs.Words.{Words, Stands}
 
 -- words that are read as values and written again
@@ -78,3 +80,10 @@ at-most a b c e h = omega (arith, e, h)
 
 pub below : (a b c : ℕ) → c ≡ b → a < c → a < b
 below a b c e h = omega (arith, e, h)
+
+-- a dot product with one index more
+pub dot-more : {A : Type 0} {O : Ops A} (l : RingLaws O) (xs ys : List A) (x y : A) → length xs ≡ length ys → dot O (xs ++ x ∷ []) (ys ++ y ∷ []) ≡ O.add (dot O xs ys) (O.mul x y)
+dot-more {O = O} l [] [] x y e = l.add_comm (O.mul x y) O.zero
+dot-more l [] (b ∷ ys) x y e = absurd (omega (arith, e))
+dot-more l (a ∷ xs) [] x y e = absurd (omega (arith, e))
+dot-more {O = O} l (a ∷ xs) (b ∷ ys) x y e = ap (O.add (O.mul a b)) (dot-more l xs ys x y (omega (arith, e))) ∙ sym (l.add_assoc _ _ _)

@@ -51,7 +51,13 @@ fn is_step(step: &RunStep, n: usize) -> bool
 fn are_steps(steps: &[RunStep], n: usize) -> bool
     ensures { IsTrue result ↔ All (IsStep n) steps.now }
 {
-    steps.iter().all(|step| is_step(step, n))
+    for i in 0..steps.len() {
+        let step = steps[i];
+        if !is_step(&step, n) {
+            return false;
+        }
+    }
+    true
 }
 
 /// The step that is written.
@@ -73,7 +79,8 @@ fn decode_all(alloc: Global, steps: &[RunStep], n: usize) -> Result<Vec<FieldSte
 {
     let mut known = Vec::with_capacity(alloc, steps.len())?;
     for i in 0..steps.len() {
-        let step = known_step(&steps[i], n);
+        let coded = steps[i];
+        let step = known_step(&coded, n);
         known.push(step)?;
     }
     Ok(known)

@@ -16,7 +16,7 @@ returns-in-None g c =
       (
         tt,
         search,
-        search,
+        c.if-not-all_stand.ensures.0 refl,
         λ has.
             let y = has x.value (x.sized, sym c.read_group-value.ensures) in
             let i = value-invertible g.row.D o f x y.0 y.1 y.2 in

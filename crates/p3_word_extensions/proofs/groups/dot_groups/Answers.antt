@@ -4,7 +4,7 @@ use Rattle.std.proofs.lemmas.List.{nil_from_length}
 use Rattle.std.proofs.lemmas.List.Elements.{All-same, All-drop}
 use Rattle.p3_theory.specs.Bases.Coordinates.{flattened}
 use Rattle.p3_theory.specs.Bases.CoordinateLemmas.{flattened-push, divided_front}
-use Rattle.p3_theory.specs.Rings.DotProduct.{dot, dot-append}
+use Rattle.p3_word_extensions.proofs.WordGroups.{dot-more}
 use Rattle.p3_word_extensions.proofs.groups.dot_groups.Goals as goal
 
 pub loop-a-init : goal.loop-a-init
@@ -33,8 +33,8 @@ loop-a-preserved g c =
     let ys = held.done.1 in
     let front-a : c.split_at.result.0.now ≡ take n a = c.split_at.ensures.front in
     let back-a : c.split_at.result.1.now ≡ drop n a = c.split_at.ensures.back in
-    let front-b : c.split_at-2.result.0.now ≡ take n b = c.split_at-2.ensures.front in
-    let back-b : c.split_at-2.result.1.now ≡ drop n b = c.split_at-2.ensures.back in
+    let front-b : c.split_at-in-loop-a.result.0.now ≡ take n b = c.split_at-in-loop-a.ensures.front in
+    let back-b : c.split_at-in-loop-a.result.1.now ≡ drop n b = c.split_at-in-loop-a.ensures.back in
     let some : 0 < length a = grind (arith, common_steps) in
     let divided = divided_front (length a) n c.requires.some held.whole some in
     let next : length c.split_at.result.1.now % n ≡ 0 = ap (λ k. k % n) (ap length back-a ∙ length-drop n a) ∙ divided.1 in
@@ -50,7 +50,7 @@ loop-a-preserved g c =
         omega (arith, length-append xs (x ∷ []), length-append ys (y ∷ []), held.done.2),
         ap (λ l. flattened e.group (xs ++ x ∷ []) ++ l) back-a ∙ flattened-push e.group n xs x a c.args.left.now (c.product_of.ensures.2 ∙ front-a) held.done.3,
         ap (λ l. flattened e.group (ys ++ y ∷ []) ++ l) back-b ∙ flattened-push e.group n ys y b c.args.right.now (c.product_of.ensures.3 ∙ front-b) held.done.4,
-        m.add_assigns.answer _ _ _ c.add_assign.ensures.after ∙ ap₂ o.add held.done.5 (c.product_of.ensures.4 ∙ sym (m.ring.add_zero _)) ∙ sym (dot-append m.ring xs (x ∷ []) ys (y ∷ []) held.done.2),
+        m.add_assigns.answer _ _ _ c.add_assign.ensures.after ∙ ap₂ o.add held.done.5 c.product_of.ensures.4 ∙ sym (dot-more m.ring xs ys x y held.done.2),
       );
     }
 

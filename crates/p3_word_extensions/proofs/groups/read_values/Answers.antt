@@ -1,6 +1,7 @@
-use Rattle.std.proofs.Common.{◌≡◌, ◌<◌, ◌-◌, ◌%◌, length, take, drop, refl, ap, sym, ◌∙◌, arith, length-drop}
+use Rattle.std.proofs.Common.{◌≡◌, ◌<◌, ◌-◌, ◌%◌, ◌++◌, length, take, drop, ap, sym, ◌∙◌, arith, length-drop}
 use Rattle.std.proofs.lemmas.Grind.{common_steps}
 use Rattle.std.proofs.lemmas.List.Elements.{All-same, All-drop}
+use Rattle.p3_theory.specs.Bases.Coordinates.{flattened}
 use Rattle.p3_theory.specs.Bases.CoordinateLemmas.{flattened-push, divided_front}
 use Rattle.p3_word_extensions.proofs.groups.read_values.Goals as goal
 
@@ -10,7 +11,7 @@ loop-rest-init g c =
       whole = c.requires.whole;
       fits = λ h. (divided_front (length c.args.words.now) g.row.D c.requires.some c.requires.whole h).0;
       stand = c.requires.stand;
-      read = search;
+      read = ap (λ l. flattened g.E.Grouped.group l ++ c.args.words.now) c.in_ok-values.ensures.items;
     }
 
 pub loop-rest-preserved : goal.loop-rest-preserved
