@@ -17,6 +17,10 @@ pub enum Error {
     LogSize,
     /// Memory was refused.
     Memory,
+    /// A step's number is unknown, or a register that it names isn't there.
+    Step,
+    /// The bits of the radix are not what the call asks for.
+    Radix,
 }
 
 impl fmt::Display for Error {
@@ -28,6 +32,8 @@ impl fmt::Display for Error {
             Error::NoRoot => "no square root is found",
             Error::LogSize => "the log size is past the two-adicity",
             Error::Memory => "memory was refused",
+            Error::Step => "a step's number is unknown, or a register that it names isn't there",
+            Error::Radix => "the bits of the radix are not what the call asks for",
         })
     }
 }
@@ -48,6 +54,8 @@ pub(crate) fn done(answer: i32) -> Result<(), Error> {
         status::NO_ROOT => Error::NoRoot,
         status::LOG_SIZE => Error::LogSize,
         status::MEMORY => Error::Memory,
+        status::STEP => Error::Step,
+        status::RADIX => Error::Radix,
         other => panic!("the library is of another version: it answers the status {other}"),
     })
 }

@@ -1,5 +1,5 @@
 //! What the three prime fields have in common.
-use crate::Error;
+use crate::{Error, RunStep};
 use std::fmt::Debug;
 use std::hash::Hash;
 
@@ -297,4 +297,18 @@ pub trait PrimeField: Sealed + Copy + Eq + Hash + Debug + Send + Sync + 'static 
         log_size: usize,
         values: &mut [Self],
     ) -> Result<(), Error>;
+
+    /// Carries out the steps, one after the other, over the registers.
+    ///
+    /// ```
+    /// use p3_field_proved::{Error, Goldilocks, PrimeField, RunStep};
+    /// let mut registers = [3, 4];
+    /// let steps = [RunStep { op: 2, d: 0, a: 0, b: 1, e: 0 }, RunStep { op: 6, d: 1, a: 0, b: 0, e: 2 }];
+    /// Goldilocks::run(Goldilocks::from_words_mut(&mut registers)?, &steps)?;
+    /// assert_eq!(registers, [12, 144]);
+    /// let unknown = [RunStep { op: 10, d: 0, a: 0, b: 0, e: 0 }];
+    /// assert_eq!(Goldilocks::run(Goldilocks::from_words_mut(&mut registers)?, &unknown), Err(Error::Step));
+    /// # Ok::<(), Error>(())
+    /// ```
+    fn run(registers: &mut [Self], steps: &[RunStep]) -> Result<(), Error>;
 }

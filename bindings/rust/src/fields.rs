@@ -1,5 +1,5 @@
 //! The three prime fields, each by the library's calls at it.
-use crate::calls;
+use crate::calls::{self, RunStep};
 use crate::error::{Error, done, written};
 use crate::field::{PrimeField, Sealed};
 use std::slice::{from_raw_parts, from_raw_parts_mut};
@@ -13,7 +13,7 @@ macro_rules! prime_field {
         $(#[$doc])*
         #[derive(Clone, Copy, Debug, PartialEq, Eq, Hash)]
         #[repr(transparent)]
-        pub struct $name($word);
+        pub struct $name(pub(crate) $word);
 
         impl Sealed for $name {}
 
@@ -133,6 +133,11 @@ macro_rules! prime_field {
                 let (from, count) = (coefficients.as_ptr().cast(), coefficients.len());
                 let (at, len) = (values.as_mut_ptr().cast(), values.len());
                 done(unsafe { calls::$calls::eval_coset(from, count, shift.0, log_size, at, len) })
+            }
+
+            fn run(registers: &mut [Self], steps: &[RunStep]) -> Result<(), Error> {
+                let (at, len) = (registers.as_mut_ptr().cast(), registers.len());
+                done(unsafe { calls::$calls::run(at, len, steps.as_ptr(), steps.len()) })
             }
         }
     };

@@ -23,10 +23,15 @@ pub mod calls;
 mod error;
 mod field;
 mod fields;
+mod limbs;
+mod quartic;
 
+pub use calls::RunStep;
 pub use error::Error;
 pub use field::PrimeField;
 pub use fields::{BabyBear, Goldilocks, KoalaBear};
+pub use limbs::Limb;
+pub use quartic::BabyBearx4;
 
 /// The example of README.md, as a test.
 #[cfg(doctest)]

@@ -3,8 +3,11 @@
 mod common;
 
 use common::{mixed, no_value, value, values};
-use p3_field_proved::{BabyBear, Error, Goldilocks, KoalaBear, PrimeField};
+use p3_field_proved::{
+    BabyBear, BabyBearx4, Error, Goldilocks, KoalaBear, Limb, PrimeField, RunStep,
+};
 use std::ffi::c_void;
+use std::fmt::Debug;
 use std::ptr::NonNull;
 use std::sync::atomic::{AtomicIsize, Ordering::SeqCst};
 
@@ -58,7 +61,10 @@ unsafe extern "C" fn rattle_dealloc(block: *mut c_void) {
 }
 
 /// Refuses the call each of its requests, the first one first, until it needs no more, and how many these were.
-fn refusals<F: PrimeField>(list: &[F], call: impl Fn(&mut [F]) -> Result<(), Error>) -> isize {
+fn refusals<F: Clone + Debug + PartialEq>(
+    list: &[F],
+    call: impl Fn(&mut [F]) -> Result<(), Error>,
+) -> isize {
     for granted in 0.. {
         let mut room = list.to_vec();
         GRANTED.store(granted, SeqCst);
@@ -87,6 +93,15 @@ fn at<F: PrimeField>() {
     let room = vec![no_value::<F>(); 1 << 8];
     let list: Vec<F> = values(&mixed::<F>(1 << 8, 1));
     assert!(refusals(&room, |over| F::eval_coset(&list, value(3), 8, over)) > 0);
+    let squares = [RunStep { op: 4, d: 0, a: 0, b: 0, e: 0 }; 5];
+    assert!(refusals(&list, |registers| F::run(registers, &squares)) > 0);
+}
+
+/// The calls over limbs.
+fn limbs_at<F: Limb>() {
+    let list: Vec<F> = values(&mixed::<F>(40, 1));
+    assert!(refusals(&list, |limbs| F::pack(limbs, 30).map(|_| ())) > 0);
+    assert!(refusals(&list, |limbs| F::split(value(7), 3, limbs)) > 0);
 }
 
 #[test]
@@ -94,4 +109,8 @@ fn memory_is_refused() {
     at::<BabyBear>();
     at::<KoalaBear>();
     at::<Goldilocks>();
+    limbs_at::<BabyBear>();
+    limbs_at::<KoalaBear>();
+    let list = vec![BabyBearx4::from_numbers([1, 2, 3, 4]).expect("a value"); 40];
+    assert!(refusals(&list, BabyBearx4::batch_inverse) > 0);
 }

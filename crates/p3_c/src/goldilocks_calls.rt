@@ -2,17 +2,22 @@
 ghost use Rattle.p3_theory.specs.Rings.DotProduct as products;
 ghost use Rattle.p3_theory.specs.Rings.Operators.{sum_list, product_list};
 ghost use Rattle.p3_theory.specs.Rings.Powers.{eval};
-ghost use Rattle.p3_c.specs.Statuses.{Answers, Tells};
-ghost use Rattle.p3_words.specs.Calls.{Checks, AnswersOne, AnswersPair, AnswersAt, AnswersInverse, AnswersRoot, WritesPairs, WritesScaledPairs, WritesScaled, WritesWords, WritesNumbers, WritesPowers, WritesInverses};
+ghost use Rattle.p3_words.specs.Statuses.{Answers, Tells};
+ghost use Rattle.p3_words.specs.Calls.{Checks, AnswersInverse, AnswersRoot, WritesWords, WritesNumbers, WritesInverses};
+ghost use Rattle.p3_word_lists.specs.Calls.{AnswersOne, AnswersPair, AnswersAt, WritesPairs, WritesScaledPairs, WritesScaled, WritesPowers};
 ghost use Rattle.p3_word_cosets.specs.Calls.{WritesCoset, WritesValues};
+ghost use Rattle.p3_word_runs.specs.Calls.{WritesRun};
 
-use crate::status::{answer, status};
 use p3_base::field::{Field, TwoAdicField};
 use p3_bench_prime::goldilocks::Goldilocks;
 use p3_ring::ring::PrimeCharacteristicRing;
 use p3_word_cosets::cosets;
+use p3_word_lists::{pairs, points, totals};
+use p3_word_runs::coded::RunStep;
+use p3_word_runs::runs;
+use p3_words::status::{answer, status};
 use p3_words::stored::Stored;
-use p3_words::{inverses, numbers, pairs, points, totals};
+use p3_words::{inverses, numbers};
 use std::alloc::Global;
 
 /// How many values are worked on at once.
@@ -193,4 +198,13 @@ pub extern "C" fn p3_gl_eval_coset(
     ensures { Tells (WritesValues ⟦<Goldilocks as PrimeCharacteristicRing>⟧.ops ⟦<Goldilocks as Stored<u64>>⟧.words ⟦<Goldilocks as TwoAdicField>⟧.TWO_ADICITY ⟦<Goldilocks as TwoAdicField>⟧.two_adic coefficients.now shift log_size values.old values.new) result }
 {
     status(cosets::coset_values::<Goldilocks, u64>(alloc, coefficients, shift, log_size, values))
+}
+
+/// Carries out the steps, one after the other, over the values of the registers. Where a step's value has no inverse or
+/// no root is found, no register is written.
+#[unsafe(no_mangle)]
+pub extern "C" fn p3_gl_run(alloc: Global, registers: &mut [u64], steps: &[RunStep]) -> i32
+    ensures { Tells (WritesRun ⟦<Goldilocks as PrimeCharacteristicRing>⟧.ops ⟦<Goldilocks as Stored<u64>>⟧.words ⟦<Goldilocks as Field>⟧.size ⟦<Goldilocks as Field>⟧.generator steps.now registers.old registers.new) result }
+{
+    status(runs::run::<Goldilocks, u64>(alloc, registers, steps))
 }

@@ -2,17 +2,26 @@
 ghost use Rattle.p3_theory.specs.Rings.DotProduct as products;
 ghost use Rattle.p3_theory.specs.Rings.Operators.{sum_list, product_list};
 ghost use Rattle.p3_theory.specs.Rings.Powers.{eval};
-ghost use Rattle.p3_c.specs.Statuses.{Answers, Tells};
-ghost use Rattle.p3_words.specs.Calls.{Checks, AnswersOne, AnswersPair, AnswersAt, AnswersInverse, AnswersRoot, WritesPairs, WritesScaledPairs, WritesScaled, WritesWords, WritesNumbers, WritesPowers, WritesInverses};
+ghost use Rattle.p3_words.specs.Statuses.{Answers, Tells};
+ghost use Rattle.p3_words.specs.Calls.{Checks, AnswersInverse, AnswersRoot, WritesWords, WritesNumbers, WritesInverses};
+ghost use Rattle.p3_word_lists.specs.Calls.{AnswersOne, AnswersPair, AnswersAt, WritesPairs, WritesScaledPairs, WritesScaled, WritesPowers};
 ghost use Rattle.p3_word_cosets.specs.Calls.{WritesCoset, WritesValues};
+ghost use Rattle.p3_word_limbs.specs.Calls.{AnswersPacked, WritesDigits, AnswersLimit};
+ghost use Rattle.p3_word_runs.specs.Calls.{WritesRun};
 
-use crate::status::{answer, status};
 use p3_base::field::{Field, TwoAdicField};
+use p3_bench_prime::goldilocks::Goldilocks;
+use p3_integers::integers::Quotient;
 use p3_ring::ring::PrimeCharacteristicRing;
 use p3_word_cosets::cosets;
+use p3_word_limbs::limbs;
+use p3_word_lists::{pairs, points, totals};
+use p3_word_runs::coded::RunStep;
+use p3_word_runs::runs;
 use p3_words::koala_bear::KoalaBear;
+use p3_words::status::{answer, status};
 use p3_words::stored::Stored;
-use p3_words::{inverses, numbers, pairs, points, totals};
+use p3_words::{inverses, numbers};
 use std::alloc::Global;
 
 /// How many values are worked on at once.
@@ -193,4 +202,45 @@ pub extern "C" fn p3_kb_eval_coset(
     ensures { Tells (WritesValues ⟦<KoalaBear as PrimeCharacteristicRing>⟧.ops ⟦<KoalaBear as Stored<u32>>⟧.words ⟦<KoalaBear as TwoAdicField>⟧.TWO_ADICITY ⟦<KoalaBear as TwoAdicField>⟧.two_adic coefficients.now shift log_size values.old values.new) result }
 {
     status(cosets::coset_values::<KoalaBear, u32>(alloc, coefficients, shift, log_size, values))
+}
+
+/// Carries out the steps, one after the other, over the values of the registers. Where a step's value has no inverse or
+/// no root is found, no register is written.
+#[unsafe(no_mangle)]
+pub extern "C" fn p3_kb_run(alloc: Global, registers: &mut [u32], steps: &[RunStep]) -> i32
+    ensures { Tells (WritesRun ⟦<KoalaBear as PrimeCharacteristicRing>⟧.ops ⟦<KoalaBear as Stored<u32>>⟧.words ⟦<KoalaBear as Field>⟧.size ⟦<KoalaBear as Field>⟧.generator steps.now registers.old registers.new) result }
+{
+    status(runs::run::<KoalaBear, u32>(alloc, registers, steps))
+}
+
+/// The value of Goldilocks for the number whose digits in radix two to the radix bits, the lowest first, are the limbs.
+#[unsafe(no_mangle)]
+pub extern "C" fn p3_kb_pack(alloc: Global, limbs: &[u32], radix_bits: u32, value: &mut u64) -> i32
+    ensures { Answers (AnswersPacked ⟦<KoalaBear as Stored<u32>>⟧.words ⟦<KoalaBear as Quotient>⟧.canon ⟦<Goldilocks as Stored<u64>>⟧.words ⟦<Goldilocks as Quotient>⟧.canon ⟦<Goldilocks as Quotient>⟧.order limbs.now radix_bits) value.old value.new result }
+{
+    answer(
+        limbs::pack::<KoalaBear, u32, Goldilocks, u64>(alloc, limbs, radix_bits),
+        value,
+    )
+}
+
+/// Writes the lowest digits of the value of Goldilocks in radix two to the radix bits, the lowest first, as many as
+/// there are limbs.
+#[unsafe(no_mangle)]
+pub extern "C" fn p3_kb_split(alloc: Global, value: u64, radix_bits: u32, limbs: &mut [u32]) -> i32
+    ensures { Tells (WritesDigits ⟦<KoalaBear as Stored<u32>>⟧.words ⟦<KoalaBear as Quotient>⟧.canon ⟦<KoalaBear as Quotient>⟧.order ⟦<Goldilocks as Stored<u64>>⟧.words ⟦<Goldilocks as Quotient>⟧.canon value radix_bits limbs.old limbs.new) result }
+{
+    status(limbs::split::<KoalaBear, u32, Goldilocks, u64>(alloc, value, radix_bits, limbs))
+}
+
+/// How many limbs can be packed into one value of Goldilocks at most, in radix two to the radix bits, so that lists of
+/// one length stay apart where the radix is not below the order.
+#[unsafe(no_mangle)]
+pub extern "C" fn p3_kb_most_digits(radix_bits: u32, count: &mut usize) -> i32
+    ensures { Answers (AnswersLimit ⟦<KoalaBear as Quotient>⟧.order ⟦<Goldilocks as Quotient>⟧.order radix_bits) count.old count.new result }
+{
+    answer(
+        limbs::most_digits::<KoalaBear, Goldilocks>(radix_bits),
+        count,
+    )
 }

@@ -5,4 +5,4 @@
 pub mod baby_bear_calls;
 pub mod goldilocks_calls;
 pub mod koala_bear_calls;
-pub mod status;
+pub mod quartic_calls;

@@ -5,8 +5,8 @@ ghost use Rattle.p3_words.specs.Words.{Stands};
 
 use p3_base::field::TwoAdicField;
 use p3_tools::coset::TwoAdicMultiplicativeCoset;
+use p3_word_lists::points::write_powers;
 use p3_words::blocks::{all_stand, values_of, write};
-use p3_words::points::write_powers;
 use p3_words::refusal::Refusal;
 use p3_words::stored::Stored;
 use poly_eval::eval_coset;

@@ -1,5 +1,4 @@
-mod BlockTotals
 mod LaneProducts
-mod PowerBlocks
+pub mod ListProducts
 mod Refusals
 mod WrittenWords

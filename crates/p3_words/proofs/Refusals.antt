@@ -2,7 +2,7 @@
 use Rattle.std.specs.Prelude.{⊤}
 use Rattle.p3_words.specs.Calls.{Refused}
 use Rattle.p3_words.specs.declared.refusal.Refusal.{Refusal}
-use Rattle.p3_words.specs.declared.refusal.Refusal.TheVariants.{Length, Word, NoInverse, NoRoot, LogSize, Memory}
+use Rattle.p3_words.specs.declared.refusal.Refusal.TheVariants.{Length, Word, NoInverse, NoRoot, LogSize, Memory, Step, Radix}
 
 -- where the words were tested before
 pub words-tested : {W : Type 0} (I : Type 0) (e : Refusal) → W → Refused ⊤ ⊤ ⊤ I ⊤ e → Refused ⊤ ⊤ W I ⊤ e
@@ -12,3 +12,5 @@ words-tested I Word w h = absurd (h.2 tt)
 words-tested I NoInverse w h = (tt, tt, w, h.3)
 words-tested I NoRoot w h = h
 words-tested I Memory w h = (tt, tt, w, tt)
+words-tested I Step w h = h
+words-tested I Radix w h = h

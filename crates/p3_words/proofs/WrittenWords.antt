@@ -1,14 +1,12 @@
 -- Lists that a loop writes item by item from another list.
-use Rattle.std.proofs.Common.{◌≡◌, ◌+◌, ◌<◌, ℕ, Bool, ◌&&◌, List, [], ◌∷◌, ◌++◌, length, map, take, drop, get_or, refl, sym, ap, ap₂, subst, ◌∙◌, arith, append_assoc}
+use Rattle.std.proofs.Common.{◌≡◌, ◌+◌, ◌<◌, ℕ, Bool, ◌&&◌, List, [], ◌∷◌, ◌++◌, length, map, take, drop, get_or, sym, ap, ap₂, subst, ◌∙◌, arith, append_assoc}
 use Rattle.std.specs.Prelude.{◌↔◌, IsTrue, All}
 use Rattle.std.proofs.Math.ListN.{set}
 use Rattle.std.proofs.lemmas.Grind.{take-set_at}
 use Rattle.std.proofs.lemmas.List.{length-map, length-take, get_or-take, get_or-drop, drop_more, drop-drop, map_more, map-append, set_at}
 use lib.Seq.{drop-set-lt}
 use Rattle.std.proofs.lemmas.List.Elements.{All-more}
-use Rattle.p3_theory.specs.Lists.PairedLists.{zip_with}
 use Rattle.p3_theory.specs.RingSolver.SolverSound.{and_true}
-use Rattle.p3_words.specs.Words.{Words, on_words}
 
 -- a loop that writes f x for each item x of ws over the items of another list
 pub written-more : {T A : Type 0} (f : T → A) (ws : List T) (old xs : List A) (i : ℕ) (w : T) (y : A) → i < length ws → length old ≡ length ws
@@ -19,12 +17,6 @@ written-more f ws old xs i w y inside same h is e =
     let room : i < length old = omega (arith, inside, same) in
     ap (λ l. set l i y) (h ∙ ap (λ l. front ++ l) (drop_more old i y room)) ∙ set_at front _ _ y i long ∙ sym (append_assoc front (y ∷ []) _)
     ∙ ap (λ l. l ++ drop (i + 1) old) (ap (λ z. front ++ z ∷ []) (e ∙ ap f is) ∙ sym (map_more f ws i w inside))
-
--- the words of what is made of the values at each index
-pub words-zip : {T A : Type 0} (R : Words T A) (g : A → A → A) (us vs : List T) → map R.word (zip_with g (map R.value us) (map R.value vs)) ≡ zip_with (on_words R g) us vs
-words-zip R g [] vs = refl
-words-zip R g (u ∷ us) [] = refl
-words-zip R g (u ∷ us) (v ∷ vs) = ap (λ ws. R.word (g (R.value u) (R.value v)) ∷ ws) (words-zip R g us vs)
 
 -- one more word is below the order
 pub stand-more : {T : Type 0} (P : T → Type 0) (ws : List T) (i : ℕ) (w : T) (s a b : Bool) → i < length ws → w ≡ get_or ws i w → (IsTrue s ↔ P w) → (IsTrue a ↔ All P (take i ws))

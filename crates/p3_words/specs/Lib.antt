@@ -1,3 +1,4 @@
 pub mod Calls
 pub mod Fields
+pub mod Statuses
 pub mod Words

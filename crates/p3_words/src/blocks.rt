@@ -28,7 +28,7 @@ pub fn all_stand<F: Stored<T>, T: Copy>(words: &[T]) -> bool
 
 /// Writes the values that the words stand for.
 #[inline(always)]
-pub(crate) fn read<F: Stored<T>, T: Copy>(words: &[T], values: &mut [F])
+pub fn read<F: Stored<T>, T: Copy>(words: &[T], values: &mut [F])
     requires lengths { length words.now ≡ length values.old }
     requires stand { AllStand F.words words.now }
     ensures { values.new ≡ map F.words.value words.now }

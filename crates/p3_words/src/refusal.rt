@@ -15,4 +15,8 @@ pub enum Refusal {
     LogSize,
     /// Memory was refused.
     Memory,
+    /// A step's number is unknown, or a register that it names isn't there.
+    Step,
+    /// The bits of the radix are not what the call asks for.
+    Radix,
 }

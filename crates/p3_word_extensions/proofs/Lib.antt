@@ -1,0 +1,2 @@
+mod CoefficientLists
+mod WordGroups

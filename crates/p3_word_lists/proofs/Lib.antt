@@ -1,0 +1,3 @@
+mod BlockTotals
+mod PairedWords
+mod PowerBlocks

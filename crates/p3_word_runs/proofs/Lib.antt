@@ -1,0 +1,2 @@
+mod GivenOrders
+mod RunLengths
