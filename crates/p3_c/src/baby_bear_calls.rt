@@ -94,9 +94,7 @@ pub extern "C" fn p3_bb_dot(left: &[u32], right: &[u32], dot: &mut u32) -> i32
 pub extern "C" fn p3_bb_add(left: &mut [u32], right: &[u32]) -> i32
     ensures { Tells (WritesPairs ⟦<BabyBear as Stored<u32>>⟧.words (λ x y. ⟦<BabyBear as PrimeCharacteristicRing>⟧.ops.add x y) left.old right.now left.new) result }
 {
-    let mut left_room = [BabyBear::zero(); BLOCK];
-    let mut right_room = [BabyBear::zero(); BLOCK];
-    status(pairs::add::<BabyBear, u32>(left, right, &mut left_room, &mut right_room))
+    status(pairs::add::<BabyBear, u32>(left, right))
 }
 
 /// Multiplies each value of the left slice by that of the right one at its index.
@@ -104,9 +102,7 @@ pub extern "C" fn p3_bb_add(left: &mut [u32], right: &[u32]) -> i32
 pub extern "C" fn p3_bb_mul(left: &mut [u32], right: &[u32]) -> i32
     ensures { Tells (WritesPairs ⟦<BabyBear as Stored<u32>>⟧.words (λ x y. ⟦<BabyBear as PrimeCharacteristicRing>⟧.ops.mul x y) left.old right.now left.new) result }
 {
-    let mut left_room = [BabyBear::zero(); BLOCK];
-    let mut right_room = [BabyBear::zero(); BLOCK];
-    status(pairs::multiply::<BabyBear, u32>(left, right, &mut left_room, &mut right_room))
+    status(pairs::multiply::<BabyBear, u32>(left, right))
 }
 
 /// Multiplies each value by the factor.
@@ -122,9 +118,7 @@ pub extern "C" fn p3_bb_scale(values: &mut [u32], factor: u32) -> i32
 pub extern "C" fn p3_bb_add_scaled(left: &mut [u32], right: &[u32], factor: u32) -> i32
     ensures { Tells (WritesScaledPairs ⟦<BabyBear as Stored<u32>>⟧.words (λ c x y. ⟦<BabyBear as PrimeCharacteristicRing>⟧.ops.add x (⟦<BabyBear as PrimeCharacteristicRing>⟧.ops.mul y c)) factor left.old right.now left.new) result }
 {
-    let mut left_room = [BabyBear::zero(); BLOCK];
-    let mut right_room = [BabyBear::zero(); BLOCK];
-    status(pairs::add_scaled::<BabyBear, u32>(left, right, factor, &mut left_room, &mut right_room))
+    status(pairs::add_scaled::<BabyBear, u32>(left, right, factor))
 }
 
 /// The value at the point of the polynomial with these coefficients, the constant one first.

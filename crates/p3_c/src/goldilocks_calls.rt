@@ -90,9 +90,7 @@ pub extern "C" fn p3_gl_dot(left: &[u64], right: &[u64], dot: &mut u64) -> i32
 pub extern "C" fn p3_gl_add(left: &mut [u64], right: &[u64]) -> i32
     ensures { Tells (WritesPairs ⟦<Goldilocks as Stored<u64>>⟧.words (λ x y. ⟦<Goldilocks as PrimeCharacteristicRing>⟧.ops.add x y) left.old right.now left.new) result }
 {
-    let mut left_room = [Goldilocks::zero(); BLOCK];
-    let mut right_room = [Goldilocks::zero(); BLOCK];
-    status(pairs::add::<Goldilocks, u64>(left, right, &mut left_room, &mut right_room))
+    status(pairs::add::<Goldilocks, u64>(left, right))
 }
 
 /// Multiplies each value of the left slice by that of the right one at its index.
@@ -100,9 +98,7 @@ pub extern "C" fn p3_gl_add(left: &mut [u64], right: &[u64]) -> i32
 pub extern "C" fn p3_gl_mul(left: &mut [u64], right: &[u64]) -> i32
     ensures { Tells (WritesPairs ⟦<Goldilocks as Stored<u64>>⟧.words (λ x y. ⟦<Goldilocks as PrimeCharacteristicRing>⟧.ops.mul x y) left.old right.now left.new) result }
 {
-    let mut left_room = [Goldilocks::zero(); BLOCK];
-    let mut right_room = [Goldilocks::zero(); BLOCK];
-    status(pairs::multiply::<Goldilocks, u64>(left, right, &mut left_room, &mut right_room))
+    status(pairs::multiply::<Goldilocks, u64>(left, right))
 }
 
 /// Multiplies each value by the factor.
@@ -118,8 +114,6 @@ pub extern "C" fn p3_gl_scale(values: &mut [u64], factor: u64) -> i32
 pub extern "C" fn p3_gl_add_scaled(left: &mut [u64], right: &[u64], factor: u64) -> i32
     ensures { Tells (WritesScaledPairs ⟦<Goldilocks as Stored<u64>>⟧.words (λ c x y. ⟦<Goldilocks as PrimeCharacteristicRing>⟧.ops.add x (⟦<Goldilocks as PrimeCharacteristicRing>⟧.ops.mul y c)) factor left.old right.now left.new) result }
 {
-    let mut left_room = [Goldilocks::zero(); BLOCK];
-    let mut right_room = [Goldilocks::zero(); BLOCK];
     status(pairs::add_scaled::<Goldilocks, u64>(
         left,
         right,

@@ -94,9 +94,7 @@ pub extern "C" fn p3_kb_dot(left: &[u32], right: &[u32], dot: &mut u32) -> i32
 pub extern "C" fn p3_kb_add(left: &mut [u32], right: &[u32]) -> i32
     ensures { Tells (WritesPairs ⟦<KoalaBear as Stored<u32>>⟧.words (λ x y. ⟦<KoalaBear as PrimeCharacteristicRing>⟧.ops.add x y) left.old right.now left.new) result }
 {
-    let mut left_room = [KoalaBear::zero(); BLOCK];
-    let mut right_room = [KoalaBear::zero(); BLOCK];
-    status(pairs::add::<KoalaBear, u32>(left, right, &mut left_room, &mut right_room))
+    status(pairs::add::<KoalaBear, u32>(left, right))
 }
 
 /// Multiplies each value of the left slice by that of the right one at its index.
@@ -104,9 +102,7 @@ pub extern "C" fn p3_kb_add(left: &mut [u32], right: &[u32]) -> i32
 pub extern "C" fn p3_kb_mul(left: &mut [u32], right: &[u32]) -> i32
     ensures { Tells (WritesPairs ⟦<KoalaBear as Stored<u32>>⟧.words (λ x y. ⟦<KoalaBear as PrimeCharacteristicRing>⟧.ops.mul x y) left.old right.now left.new) result }
 {
-    let mut left_room = [KoalaBear::zero(); BLOCK];
-    let mut right_room = [KoalaBear::zero(); BLOCK];
-    status(pairs::multiply::<KoalaBear, u32>(left, right, &mut left_room, &mut right_room))
+    status(pairs::multiply::<KoalaBear, u32>(left, right))
 }
 
 /// Multiplies each value by the factor.
@@ -122,8 +118,6 @@ pub extern "C" fn p3_kb_scale(values: &mut [u32], factor: u32) -> i32
 pub extern "C" fn p3_kb_add_scaled(left: &mut [u32], right: &[u32], factor: u32) -> i32
     ensures { Tells (WritesScaledPairs ⟦<KoalaBear as Stored<u32>>⟧.words (λ c x y. ⟦<KoalaBear as PrimeCharacteristicRing>⟧.ops.add x (⟦<KoalaBear as PrimeCharacteristicRing>⟧.ops.mul y c)) factor left.old right.now left.new) result }
 {
-    let mut left_room = [KoalaBear::zero(); BLOCK];
-    let mut right_room = [KoalaBear::zero(); BLOCK];
     status(pairs::add_scaled::<KoalaBear, u32>(
         left,
         right,

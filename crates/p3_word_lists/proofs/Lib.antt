@@ -1,3 +1,2 @@
 mod BlockTotals
-mod PairedWords
 mod PowerBlocks

@@ -1,4 +1,6 @@
 mod LaneProducts
 pub mod ListProducts
+pub mod PairedWords
 mod Refusals
+mod StoredProducts
 mod WrittenWords

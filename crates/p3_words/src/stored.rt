@@ -1,15 +1,17 @@
 //! The fields whose values are stored as words, and how their words stand for values.
-ghost use Rattle.std.specs.Prelude.{◌≡◌, ◌<◌, ◌↔◌, IsTrue};
-ghost use Rattle.p3_bench_prime.specs.Elements.{canon};
-ghost use Rattle.p3_words.specs.Fields.{value_of};
-ghost use Rattle.p3_words.specs.Words.{Words, Stands};
+ghost use Rattle.std.specs.Prelude.{◌≡◌, ◌<◌, ◌↔◌, IsTrue, length};
+ghost use Rattle.p3_bench_prime.specs.Elements.{canon, ops};
+ghost use Rattle.p3_theory.specs.Lists.PairedLists.{zip_with};
+ghost use Rattle.p3_words.specs.Fields.{stored_words, value_of};
+ghost use Rattle.p3_words.specs.Words.{AllStand, Words, Stands, on_words};
 
 use p3_base::field::{PrimeField32, PrimeField64};
-use p3_bench_prime::form::Form;
+use p3_bench_prime::form::{Form, Word};
 use p3_bench_prime::fp::Fp;
 use p3_bench_prime::goldilocks::{Goldilocks, GoldilocksForm};
 use p3_bench_prime::lane_words::values_of;
 use p3_bench_prime::montgomery::{Montgomery, MontgomeryModulus};
+use p3_kernels::montgomery_slices::multiply_slice;
 use p3_ring::ring::PrimeCharacteristicRing;
 
 /// A ring of residues whose values are stored as words of type T: the words that are numbers below the order, each of
@@ -39,6 +41,13 @@ pub trait Stored<T: Copy>: PrimeCharacteristicRing {
     /// The canonical number of the value.
     fn to_number(self) -> T
         ensures { words.number result ≡ words.canon self };
+
+    /// Multiplies each value of the left slice by that of the right one at its index.
+    fn multiply_words(left: &mut [T], right: &[T])
+        requires lengths { length left.old ≡ length right.now }
+        requires left { AllStand words left.old }
+        requires right { AllStand words right.now }
+        ensures { left.new ≡ zip_with (on_words words (λ x y. Self.ops.mul x y)) left.old right.now };
 }
 
 /// The value in Montgomery's form with this word.
@@ -60,9 +69,18 @@ fn montgomery_of_number<M: MontgomeryModulus>(number: u32) -> Fp<Montgomery<M>>
     Fp::new(number)
 }
 
-impl<M: MontgomeryModulus> Stored<u32> for Fp<Montgomery<M>> {
-    ghost use Rattle.p3_words.specs.Fields.{stored_words};
+/// The products in Montgomery's form at each index, by vectors.
+#[inline]
+fn multiply_montgomery<M: MontgomeryModulus>(left: &mut [u32], right: &[u32])
+    requires lengths { length left.old ≡ length right.now }
+    requires left { AllStand (stored_words {form = ⟦<Montgomery<M> as Form<u32>>⟧} {bounds = ⟦<u32 as Word>⟧}) left.old }
+    requires right { AllStand (stored_words {form = ⟦<Montgomery<M> as Form<u32>>⟧} {bounds = ⟦<u32 as Word>⟧}) right.now }
+    ensures { left.new ≡ zip_with (on_words (stored_words {form = ⟦<Montgomery<M> as Form<u32>>⟧} {bounds = ⟦<u32 as Word>⟧}) (ops ⟦<Montgomery<M> as Form<u32>>⟧).mul) left.old right.now }
+{
+    multiply_slice(left, right, M::ORDER, M::INVERSE);
+}
 
+impl<M: MontgomeryModulus> Stored<u32> for Fp<Montgomery<M>> {
     ghost words = { stored_words };
 
     #[inline(always)]
@@ -89,6 +107,11 @@ impl<M: MontgomeryModulus> Stored<u32> for Fp<Montgomery<M>> {
     fn to_number(self) -> u32 {
         self.as_canonical_u32()
     }
+
+    #[inline]
+    fn multiply_words(left: &mut [u32], right: &[u32]) {
+        multiply_montgomery::<M>(left, right);
+    }
 }
 
 /// The residue modulo 2^64 - 2^32 + 1 with this word, which is its canonical number.
@@ -101,9 +124,23 @@ fn goldilocks_value(word: u64) -> Goldilocks
     Goldilocks::new(word)
 }
 
-impl Stored<u64> for Goldilocks {
-    ghost use Rattle.p3_words.specs.Fields.{stored_words};
+/// The products modulo 2^64 - 2^32 + 1 at each index.
+#[inline]
+fn multiply_goldilocks(left: &mut [u64], right: &[u64])
+    requires lengths { length left.old ≡ length right.now }
+    requires left { AllStand (stored_words {form = ⟦<GoldilocksForm as Form<u64>>⟧} {bounds = ⟦<u64 as Word>⟧}) left.old }
+    requires right { AllStand (stored_words {form = ⟦<GoldilocksForm as Form<u64>>⟧} {bounds = ⟦<u64 as Word>⟧}) right.now }
+    ensures { left.new ≡ zip_with (on_words (stored_words {form = ⟦<GoldilocksForm as Form<u64>>⟧} {bounds = ⟦<u64 as Word>⟧}) (ops ⟦<GoldilocksForm as Form<u64>>⟧).mul) left.old right.now }
+{
+    for i in 0..left.len() {
+        let x = goldilocks_value(left[i]);
+        let y = goldilocks_value(right[i]);
+        let product = x * y;
+        left[i] = product.to_unique_u64();
+    }
+}
 
+impl Stored<u64> for Goldilocks {
     ghost words = { stored_words };
 
     #[inline(always)]
@@ -129,5 +166,10 @@ impl Stored<u64> for Goldilocks {
     #[inline(always)]
     fn to_number(self) -> u64 {
         self.as_canonical_u64()
+    }
+
+    #[inline]
+    fn multiply_words(left: &mut [u64], right: &[u64]) {
+        multiply_goldilocks(left, right);
     }
 }
