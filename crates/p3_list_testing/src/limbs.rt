@@ -1,9 +1,12 @@
-//! Calls on limbs told by three texts: the call, its arguments and its answer. Arguments stand between
+//! Calls on limbs told by lines of three texts: the call, its arguments and its answer. Arguments stand between
 //! bars, values of a list between commas.
 ghost use Rattle.std.specs.Prelude.{◌≤◌, ◌^◌};
 
+mod calls;
 mod tables;
 
+use crate::canonical::Canonical;
+use calls::{Call, Count, Reduction, Row, Split};
 use p3_base::field::{PrimeField, PrimeField32};
 use p3_bench_prime::baby_bear::BabyBearModulus;
 use p3_bench_prime::form::{Form, Plain, ShortForm, Word};
@@ -22,89 +25,48 @@ use p3_limbs::splits::{split_32, split_pf_to_field_order_limbs, split_pf_to_pack
 use std::alloc::{AllocError, Global};
 use std::process::Abort;
 use std::test::Fail;
-use tables::{
-    BB_INTO_F17, BB_INTO_GL, BB_INTO_KB, F2_INTO_F2, F2_INTO_F17, F2_INTO_GL, F17_INTO_BB,
-    F17_INTO_F2, F17_INTO_F17, F17_INTO_GL, F31_INTO_KB, KB_INTO_BB, KB_INTO_GL, Row, Z15_INTO_BB,
-};
 
-/// Whether the call over a small field F and a large one PF answers this; `Ok(None)` where a text
-/// can't be read, or names no call.
-fn answers<F: PrimeField32, PF: PrimeField>(
-    alloc: Global,
-    call: &str,
-    arguments: &str,
-    answer: &str,
-) -> Result<Option<bool>, AllocError> {
-    if let Some(count) = limit::<F, PF>(call, arguments) {
-        return Ok(same_count(count, answer));
-    }
-    if let Some(covers) = cover::<PF>(call, arguments) {
-        return Ok(Some(covers == (answer == "true")));
-    }
-    let values: Vec<F> = values_of(alloc, last_of(arguments))?;
-    if let Some(packed) = packing::<F, PF>(call, &values, first_of(arguments)) {
-        return Ok(same_number(packed, answer));
-    }
-    match split::<F, PF>(alloc, call, arguments)? {
-        Some(limbs) => Ok(Some(same_limbs(&limbs, answer))),
-        None => Ok(None),
+/// What a limit or a count of bits answers; none where the text is no radix that it takes.
+fn counted<F: PrimeField32, PF: PrimeField>(count: Count, radix: &str) -> Option<usize> {
+    match count {
+        Count::AbsorbRadixBits => Some(absorb_radix_bits::<F>() as usize),
+        Count::InjectivePackBits => Some(injective_pack_bits::<F>() as usize),
+        Count::MaxAbsorb => Some(max_absorb_injective_limbs::<F, PF>()),
+        Count::MaxShiftedAbsorb => Some(max_shifted_absorb_injective_limbs::<F, PF>()),
+        Count::SqueezeFieldOrder => Some(squeeze_field_order_num_limbs::<PF, F>()),
+        Count::MaxPacked => packed_limit::<F, PF>(false, radix),
+        Count::MaxShiftedPacked => packed_limit::<F, PF>(true, radix),
     }
 }
 
-/// The first argument.
-fn first_of(arguments: &str) -> &str {
-    match arguments.split('|').next() {
-        Some(first) => first,
-        None => arguments,
-    }
-}
-
-/// The second argument, or the first where there is no other.
-fn last_of(arguments: &str) -> &str {
-    match arguments.split('|').nth(1) {
-        Some(second) => second,
-        None => arguments,
-    }
-}
-
-/// What a limit or a count of bits answers.
-fn limit<F: PrimeField32, PF: PrimeField>(call: &str, arguments: &str) -> Option<usize> {
-    match call {
-        "absorb_radix_bits" => return Some(absorb_radix_bits::<F>() as usize),
-        "injective_pack_bits" => return Some(injective_pack_bits::<F>() as usize),
-        "max_absorb_injective_limbs" => return Some(max_absorb_injective_limbs::<F, PF>()),
-        "max_shifted_absorb_injective_limbs" => {
-            return Some(max_shifted_absorb_injective_limbs::<F, PF>());
-        }
-        "squeeze_field_order_num_limbs" => return Some(squeeze_field_order_num_limbs::<PF, F>()),
-        _ => {}
-    }
-    let radix_bits = arguments.parse::<u32>().ok()?;
+/// What a limit of packed limbs answers; none where the text is no radix of one bit to 63.
+fn packed_limit<F: PrimeField32, PF: PrimeField>(is_shifted: bool, radix: &str) -> Option<usize> {
+    let radix_bits = radix.parse::<u32>().ok()?;
     if radix_bits == 0 || radix_bits >= 64 {
         return None;
     }
-    match call {
-        "max_packed_injective_limbs" => Some(max_packed_injective_limbs::<F, PF>(radix_bits)),
-        "max_shifted_packed_injective_limbs" => {
-            Some(max_shifted_packed_injective_limbs::<F, PF>(radix_bits))
-        }
-        _ => None,
+    if is_shifted {
+        Some(max_shifted_packed_injective_limbs::<F, PF>(radix_bits))
+    } else {
+        Some(max_packed_injective_limbs::<F, PF>(radix_bits))
     }
 }
 
-/// Whether limbs cover an order.
-fn cover<PF: PrimeField>(call: &str, arguments: &str) -> Option<bool> {
-    if call != "pf_packed_limbs_cover_order" {
-        return None;
-    }
-    let num_limbs = first_of(arguments).parse::<usize>().ok()?;
-    let radix_bits = last_of(arguments).parse::<u32>().ok()?;
-    Some(pf_packed_limbs_cover_order::<PF>(num_limbs, radix_bits))
+/// Whether limbs cover an order as the row says.
+fn covers<PF: PrimeField>(row: Row<'_>) -> Option<bool> {
+    let num_limbs = row.argument(0).parse::<usize>().ok()?;
+    let radix_bits = row.argument(1).parse::<u32>().ok()?;
+    let covers = pf_packed_limbs_cover_order::<PF>(num_limbs, radix_bits);
+    Some(covers == (row.answer == "true"))
 }
 
-/// The number that a packing of the values stands for.
-fn packing<F: PrimeField32, PF: PrimeField>(call: &str, values: &[F], radix: &str) -> Option<u128> {
-    if call == "reduce_32" {
+/// The number that values stand for once they are packed; none where the text is no radix below 64 bits.
+fn reduced<F: PrimeField32, PF: PrimeField>(
+    reduction: Reduction,
+    values: &[F],
+    radix: &str,
+) -> Option<u128> {
+    if let Reduction::Words = reduction {
         let packed: PF = reduce_32(values);
         return Some(packed.as_canonical_biguint());
     }
@@ -112,47 +74,50 @@ fn packing<F: PrimeField32, PF: PrimeField>(call: &str, values: &[F], radix: &st
     if radix_bits >= 64 {
         return None;
     }
-    match call {
-        "reduce_packed" => {
-            let packed: PF = reduce_packed(values, radix_bits);
-            Some(packed.as_canonical_biguint())
-        }
-        "reduce_packed_shifted" => {
-            let packed: PF = reduce_packed_shifted(values, radix_bits);
-            Some(packed.as_canonical_biguint())
-        }
-        _ => None,
-    }
+    let packed: PF = match reduction {
+        Reduction::Shifted => reduce_packed_shifted(values, radix_bits),
+        _ => reduce_packed(values, radix_bits),
+    };
+    Some(packed.as_canonical_biguint())
 }
 
-/// The limbs of a value: its number, the count of limbs, and of a packed split the radix bits.
-fn split<F: PrimeField32, PF: PrimeField>(
+/// Whether the values of a row, packed, stand for its number.
+fn reduction_agrees<F: PrimeField32, PF: PrimeField>(
     alloc: Global,
-    call: &str,
-    arguments: &str,
+    reduction: Reduction,
+    row: Row<'_>,
+) -> Result<Option<bool>, AllocError> {
+    let text = match reduction {
+        Reduction::Words => row.argument(0),
+        _ => row.argument(1),
+    };
+    let mut values: Vec<F> = Vec::new(alloc);
+    for word in text.split_terminator(',') {
+        values.push(F::from_u32(word.parse::<u32>().unwrap_or(0)))?;
+    }
+    Ok(same_number(
+        reduced::<F, PF>(reduction, &values, row.argument(0)),
+        row.answer,
+    ))
+}
+
+/// So many limbs of a value; none where the text is asked for and no radix within the small field's order.
+fn limbs<F: PrimeField32, PF: PrimeField>(
+    alloc: Global,
+    split: Split,
+    value: PF,
+    count: usize,
+    radix: &str,
 ) -> Result<Option<Vec<F>>, AllocError> {
-    let Ok(number) = first_of(arguments).parse::<u64>() else {
-        return Ok(None);
-    };
-    let Ok(count) = last_of(arguments).parse::<usize>() else {
-        return Ok(None);
-    };
-    let value = PF::from_u64(number);
-    match call {
-        "split_32" => Ok(Some(split_32(alloc, value, count)?)),
-        "split_pf_to_field_order_limbs" => {
-            Ok(Some(split_pf_to_field_order_limbs(alloc, value, count)?))
-        }
-        "split_pf_to_packed_limbs" => match arguments.split('|').nth(2) {
-            Some(radix) => packed_split(alloc, value, count, radix),
-            None => Ok(None),
-        },
-        _ => Ok(None),
+    match split {
+        Split::Words => Ok(Some(split_32(alloc, value, count)?)),
+        Split::FieldOrder => Ok(Some(split_pf_to_field_order_limbs(alloc, value, count)?)),
+        Split::Packed => packed_limbs(alloc, value, count, radix),
     }
 }
 
 /// The limbs in a radix; none where the radix passes the small field's order.
-fn packed_split<F: PrimeField32, PF: PrimeField>(
+fn packed_limbs<F: PrimeField32, PF: PrimeField>(
     alloc: Global,
     value: PF,
     count: usize,
@@ -167,75 +132,102 @@ fn packed_split<F: PrimeField32, PF: PrimeField>(
     Ok(Some(split_pf_to_packed_limbs(alloc, value, count, radix_bits)?))
 }
 
-/// The values of the numbers of a text.
-fn values_of<F: PrimeField32>(alloc: Global, text: &str) -> Result<Vec<F>, AllocError> {
-    let mut values = Vec::new(alloc);
-    for word in text.split(',') {
-        if let Ok(number) = word.parse::<u32>() {
-            values.push(F::from_u32(number))?;
-        }
+/// Whether the limbs of a row's value are those that it says.
+fn split_agrees<F: PrimeField32 + Canonical, PF: PrimeField>(
+    alloc: Global,
+    split: Split,
+    row: Row<'_>,
+) -> Result<Option<bool>, AllocError> {
+    let Ok(number) = row.argument(0).parse::<u64>() else {
+        return Ok(None);
+    };
+    let Ok(count) = row.argument(1).parse::<usize>() else {
+        return Ok(None);
+    };
+    match limbs::<F, PF>(alloc, split, PF::from_u64(number), count, row.argument(2))? {
+        Some(limbs) => Ok(Some(same_limbs(&limbs, row.answer))),
+        None => Ok(None),
     }
-    Ok(values)
 }
 
-/// Whether the text tells this count; none where it is no number.
-fn same_count(count: usize, text: &str) -> Option<bool> {
-    Some(text.parse::<usize>().ok()? == count)
+/// Whether the text tells this count; none where it is no number, or there is no count.
+fn same_count(count: Option<usize>, text: &str) -> Option<bool> {
+    Some(text.parse::<usize>().ok()? == count?)
 }
 
-/// Whether the text tells this number; none where it is no number.
-fn same_number(number: u128, text: &str) -> Option<bool> {
-    Some(text.parse::<u64>().ok()? as u128 == number)
+/// Whether the text tells this number; none where it is no number, or there is none.
+fn same_number(number: Option<u128>, text: &str) -> Option<bool> {
+    Some(text.parse::<u64>().ok()? as u128 == number?)
+}
+
+/// The number at an index of a text.
+fn number_at(text: &str, index: usize) -> Option<u64> {
+    text.split_terminator(',').nth(index)?.parse::<u64>().ok()
 }
 
 /// Whether the text lists the numbers of these limbs.
-fn same_limbs<F: PrimeField32>(limbs: &[F], text: &str) -> bool {
-    let mut words = text.split(',');
-    for limb in limbs {
-        let same = match words.next() {
-            Some(word) => match word.parse::<u32>() {
-                Ok(number) => number == limb.as_canonical_u32(),
-                Err(_) => false,
-            },
-            None => false,
-        };
-        if !same {
+fn same_limbs<F: Canonical>(limbs: &[F], text: &str) -> bool {
+    for i in 0..limbs.len() {
+        if number_at(text, i) != Some(limbs[i].canonical()) {
             return false;
         }
     }
-    match words.next() {
-        Some(rest) => limbs.is_empty() && rest.is_empty(),
-        None => !limbs.is_empty(),
+    text.split_terminator(',').count() == limbs.len()
+}
+
+/// Whether the call of a line over a small field F and a large one PF answers what the line says; `Ok(None)` where the
+/// line can't be read, or names no call.
+fn answers<F: PrimeField32 + Canonical, PF: PrimeField>(
+    alloc: Global,
+    line: &str,
+) -> Result<Option<bool>, AllocError> {
+    let Some(row) = Row::read(line) else {
+        return Ok(None);
+    };
+    match Call::of_name(row.call) {
+        Some(Call::Count(count)) => {
+            Ok(same_count(counted::<F, PF>(count, row.arguments), row.answer))
+        }
+        Some(Call::Covers) => Ok(covers::<PF>(row)),
+        Some(Call::Reduce(reduction)) => reduction_agrees::<F, PF>(alloc, reduction, row),
+        Some(Call::Split(split)) => split_agrees::<F, PF>(alloc, split, row),
+        None => Ok(None),
     }
 }
 
-/// Asserts that each row is answered so, over the residues of a short form and of any form: a call at markers
+/// Asserts that each line is answered so, over the residues of a short form and of any form: a call at markers
 /// passes what they ask for alone.
-fn assert_rows<W: ShortForm, V: Form<T>, T: Word>(
+fn assert_lines<W: ShortForm, V: Form<T>, T: Word>(
     rt: &(impl Abort + AllocGlobal),
-    rows: &[Row],
+    table: &str,
 ) -> Result<(), Fail> {
-    for (call, arguments, answer) in rows {
-        let holds = answers::<Fp<W>, Fp<V, T>>(rt.alloc(), call, arguments, answer)?;
-        assert_eq!(rt; holds, Some(true), "{call} {arguments}");
+    for line in table.lines() {
+        let holds = answers::<Fp<W>, Fp<V, T>>(rt.alloc(), line)?;
+        assert_eq!(rt; holds, Some(true), "{line}");
     }
     Ok(())
 }
 
 #[test]
 fn limbs_between_fields(rt: HostRuntime) -> Result<(), Fail> {
-    assert_rows::<Plain<M17>, Montgomery<BabyBearModulus>, u32>(&rt, &F17_INTO_BB)?;
-    assert_rows::<Plain<M2>, Plain<M17>, u32>(&rt, &F2_INTO_F17)?;
-    assert_rows::<Plain<KoalaBearModulus>, Montgomery<BabyBearModulus>, u32>(&rt, &KB_INTO_BB)?;
-    assert_rows::<Montgomery<BabyBearModulus>, GoldilocksForm, u64>(&rt, &BB_INTO_GL)?;
-    assert_rows::<Plain<M17>, GoldilocksForm, u64>(&rt, &F17_INTO_GL)?;
-    assert_rows::<Plain<M2>, GoldilocksForm, u64>(&rt, &F2_INTO_GL)?;
-    assert_rows::<Plain<M2>, Plain<M2>, u32>(&rt, &F2_INTO_F2)?;
-    assert_rows::<Plain<M17>, Plain<M2>, u32>(&rt, &F17_INTO_F2)?;
-    assert_rows::<Plain<M17>, Plain<M17>, u32>(&rt, &F17_INTO_F17)?;
-    assert_rows::<Plain<M31>, Plain<KoalaBearModulus>, u32>(&rt, &F31_INTO_KB)?;
-    assert_rows::<Plain<M15>, Montgomery<BabyBearModulus>, u32>(&rt, &Z15_INTO_BB)?;
-    assert_rows::<Plain<KoalaBearModulus>, GoldilocksForm, u64>(&rt, &KB_INTO_GL)?;
-    assert_rows::<Montgomery<BabyBearModulus>, Plain<KoalaBearModulus>, u32>(&rt, &BB_INTO_KB)?;
-    assert_rows::<Montgomery<BabyBearModulus>, Plain<M17>, u32>(&rt, &BB_INTO_F17)
+    assert_lines::<Plain<M17>, Montgomery<BabyBearModulus>, u32>(&rt, tables::F17_INTO_BB)?;
+    assert_lines::<Plain<M2>, Plain<M17>, u32>(&rt, tables::F2_INTO_F17)?;
+    assert_lines::<Plain<KoalaBearModulus>, Montgomery<BabyBearModulus>, u32>(
+        &rt,
+        tables::KB_INTO_BB,
+    )?;
+    assert_lines::<Montgomery<BabyBearModulus>, GoldilocksForm, u64>(&rt, tables::BB_INTO_GL)?;
+    assert_lines::<Plain<M17>, GoldilocksForm, u64>(&rt, tables::F17_INTO_GL)?;
+    assert_lines::<Plain<M2>, GoldilocksForm, u64>(&rt, tables::F2_INTO_GL)?;
+    assert_lines::<Plain<M2>, Plain<M2>, u32>(&rt, tables::F2_INTO_F2)?;
+    assert_lines::<Plain<M17>, Plain<M2>, u32>(&rt, tables::F17_INTO_F2)?;
+    assert_lines::<Plain<M17>, Plain<M17>, u32>(&rt, tables::F17_INTO_F17)?;
+    assert_lines::<Plain<M31>, Plain<KoalaBearModulus>, u32>(&rt, tables::F31_INTO_KB)?;
+    assert_lines::<Plain<M15>, Montgomery<BabyBearModulus>, u32>(&rt, tables::Z15_INTO_BB)?;
+    assert_lines::<Plain<KoalaBearModulus>, GoldilocksForm, u64>(&rt, tables::KB_INTO_GL)?;
+    assert_lines::<Montgomery<BabyBearModulus>, Plain<KoalaBearModulus>, u32>(
+        &rt,
+        tables::BB_INTO_KB,
+    )?;
+    assert_lines::<Montgomery<BabyBearModulus>, Plain<M17>, u32>(&rt, tables::BB_INTO_F17)
 }
