@@ -1,5 +1,5 @@
-//! Tests of lists of values over prime fields and extensions: batch inversion, limbs, the growths of memory that calls
-//! ask for, cosets, and the values of polynomials.
+//! Tests of lists of values over prime fields and extensions: batch inversion, the growths of memory that calls ask
+//! for, cosets, and the values of polynomials.
 #![tactic(auto)]
 
 #[cfg(test)]
@@ -12,7 +12,5 @@ mod cosets;
 mod growths;
 #[cfg(test)]
 mod inverses;
-#[cfg(test)]
-mod limbs;
 #[cfg(test)]
 mod polynomials;

@@ -2,11 +2,8 @@
 //! bars, values of a list between commas.
 ghost use Rattle.std.specs.Prelude.{◌≤◌, ◌^◌};
 
-mod calls;
-mod tables;
-
-use crate::canonical::Canonical;
-use calls::{Call, Count, Reduction, Row, Split};
+use crate::calls::{Call, Count, Reduction, Row, Split};
+use crate::tables;
 use p3_base::field::{PrimeField, PrimeField32};
 use p3_bench_prime::baby_bear::BabyBearModulus;
 use p3_bench_prime::form::{Form, Plain, ShortForm, Word};
@@ -133,7 +130,7 @@ fn packed_limbs<F: PrimeField32, PF: PrimeField>(
 }
 
 /// Whether the limbs of a row's value are those that it says.
-fn split_agrees<F: PrimeField32 + Canonical, PF: PrimeField>(
+fn split_agrees<F: PrimeField32, PF: PrimeField>(
     alloc: Global,
     split: Split,
     row: Row<'_>,
@@ -161,14 +158,14 @@ fn same_number(number: Option<u128>, text: &str) -> Option<bool> {
 }
 
 /// The number at an index of a text.
-fn number_at(text: &str, index: usize) -> Option<u64> {
-    text.split_terminator(',').nth(index)?.parse::<u64>().ok()
+fn number_at(text: &str, index: usize) -> Option<u32> {
+    text.split_terminator(',').nth(index)?.parse::<u32>().ok()
 }
 
 /// Whether the text lists the numbers of these limbs.
-fn same_limbs<F: Canonical>(limbs: &[F], text: &str) -> bool {
+fn same_limbs<F: PrimeField32>(limbs: &[F], text: &str) -> bool {
     for i in 0..limbs.len() {
-        if number_at(text, i) != Some(limbs[i].canonical()) {
+        if number_at(text, i) != Some(limbs[i].as_canonical_u32()) {
             return false;
         }
     }
@@ -177,7 +174,7 @@ fn same_limbs<F: Canonical>(limbs: &[F], text: &str) -> bool {
 
 /// Whether the call of a line over a small field F and a large one PF answers what the line says; `Ok(None)` where the
 /// line can't be read, or names no call.
-fn answers<F: PrimeField32 + Canonical, PF: PrimeField>(
+fn answers<F: PrimeField32, PF: PrimeField>(
     alloc: Global,
     line: &str,
 ) -> Result<Option<bool>, AllocError> {
