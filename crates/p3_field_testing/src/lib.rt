@@ -1,5 +1,4 @@
-//! Tests of rings and prime fields: worked rows and outside values as tables. An allocator that refuses
-//! growths is open to the tests of other crates.
+//! Tests of rings and prime fields: worked rows and outside values as tables.
 #![tactic(auto)]
 
 #[cfg(test)]
@@ -20,7 +19,6 @@ mod prime_tables;
 mod prime_types;
 #[cfg(test)]
 mod readme;
-pub mod refusing;
 #[cfg(test)]
 mod residues;
 #[cfg(test)]

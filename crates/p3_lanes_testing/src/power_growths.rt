@@ -2,7 +2,7 @@
 //! tables.
 use crate::rows::{Row, value_at};
 use p3_base::field::Field;
-use p3_field_testing::refusing::Refusing;
+use p3_refusing::Refusing;
 use p3_ring::packed_ring::PackedRing;
 use p3_ring::ring::PrimeCharacteristicRing;
 use std::alloc::Global;

@@ -1,5 +1,5 @@
-//! Batch inversion told by texts of entries with spaces between them, and commas between the
-//! coefficients of an extension value.
+//! Batch inversion told by lines of three texts: what the closure answers, the entries and the answers. Entries stand
+//! between spaces, and the coefficients of an extension value between commas.
 mod tables;
 
 use crate::inverses::{have_inverses, inverse_or_zero};
@@ -19,13 +19,54 @@ use std::alloc::{AllocError, Global};
 use std::cell::Cell;
 use std::process::Abort;
 use std::test::Fail;
-use tables::{
-    INVERSES_BABY_BEAR, INVERSES_F17, INVERSES_F17X2, INVERSES_GOLDILOCKS, INVERSES_Z15, Inverses,
-    OVER_BABY_BEAR, OVER_F17, OVER_F17X2, OVER_GOLDILOCKS, OVER_Z15, Row,
-};
+
+/// What the closure answers.
+#[derive(Clone, Copy)]
+enum Closure {
+    /// Its argument.
+    Identity,
+    Zero,
+    One,
+    /// The inverse, or zero where there is none.
+    Inverse,
+    /// Another value at each call.
+    Counter,
+}
+
+impl Closure {
+    /// The closure of a name.
+    fn of_name(name: &str) -> Option<Closure> {
+        match name {
+            "identity" => Some(Closure::Identity),
+            "zero" => Some(Closure::Zero),
+            "one" => Some(Closure::One),
+            "inverse" => Some(Closure::Inverse),
+            "counter" => Some(Closure::Counter),
+            _ => None,
+        }
+    }
+
+    /// What the closure answers at this argument and the number of the call.
+    fn answer<F: Field>(self, y: F, number: u64) -> F {
+        match self {
+            Closure::Identity => y,
+            Closure::Zero => F::zero(),
+            Closure::One => F::one(),
+            Closure::Inverse => inverse_or_zero(y),
+            Closure::Counter => F::from_u64(number),
+        }
+    }
+}
+
+/// The number of a cell, in which the next one stands afterwards.
+fn next_number(number: &Cell<u64>) -> u64 {
+    let n = number.get();
+    number.set(n.wrapping_add(1));
+    n
+}
 
 /// The value whose coefficients a word has, at this generator.
-fn value<F: Field>(word: &str, generator: F) -> F {
+fn value<F: PrimeCharacteristicRing>(word: &str, generator: F) -> F {
     let mut value = F::zero();
     let mut power = F::one();
     for part in word.split(',') {
@@ -36,7 +77,11 @@ fn value<F: Field>(word: &str, generator: F) -> F {
 }
 
 /// The values of a text, at this generator.
-fn values<F: Field>(alloc: Global, text: &str, generator: F) -> Result<Vec<F>, AllocError> {
+fn values<F: PrimeCharacteristicRing>(
+    alloc: Global,
+    text: &str,
+    generator: F,
+) -> Result<Vec<F>, AllocError> {
     let mut values = Vec::new(alloc);
     for word in text.split_ascii_whitespace() {
         values.push(value(word, generator))?;
@@ -44,75 +89,65 @@ fn values<F: Field>(alloc: Global, text: &str, generator: F) -> Result<Vec<F>, A
     Ok(values)
 }
 
-/// The number of a cell, in which the next one stands afterwards.
-fn next_number<F: Field>(number: &Cell<u64>) -> F {
-    let n = number.get();
-    number.set(n.wrapping_add(1));
-    F::from_u64(n)
+/// What the call with a closure writes over the entries.
+fn general<F: Field>(closure: Closure, x: &[F], mut res: Vec<F>) -> Vec<F> {
+    let number = Cell::new(5);
+    if res.len() == x.len() {
+        batch_multiplicative_inverse_general(x, &mut res, |y: F| -> F {
+            closure.answer(y, next_number(&number))
+        });
+    }
+    res
 }
 
-/// Whether the call with the row's closure answers what the row says; `Ok(None)` where the row names no
-/// closure.
-fn agrees<F: Field>(alloc: Global, row: Row, generator: F) -> Result<Option<bool>, AllocError> {
-    let (closure, entries, answers) = row;
-    let x: Vec<F> = values(alloc, entries, generator)?;
-    let mut res: Vec<F> = values(alloc, entries, generator)?;
-    let expected: Vec<F> = values(alloc, answers, generator)?;
-    if res.len() != x.len() {
+/// Whether the entries have these inverses.
+fn inverts<F: Field>(alloc: Global, x: &[F], expected: &[F]) -> Result<bool, AllocError> {
+    if !have_inverses(x) {
+        return Ok(false);
+    }
+    let inverses = batch_multiplicative_inverse(alloc, x)?;
+    Ok(inverses.as_slice() == expected)
+}
+
+/// Whether the call of a line, with a closure or as `batch` without one, answers what the line says; `Ok(None)` where
+/// it can't be read, or names no closure.
+fn agrees<F: Field>(alloc: Global, line: &str, generator: F) -> Result<Option<bool>, AllocError> {
+    let Some((name, rest)) = line.split_once(';') else {
         return Ok(None);
+    };
+    let Some((entries, answers)) = rest.split_once(';') else {
+        return Ok(None);
+    };
+    let x: Vec<F> = values(alloc, entries, generator)?;
+    let expected: Vec<F> = values(alloc, answers, generator)?;
+    if name == "batch" {
+        return Ok(Some(inverts::<F>(alloc, &x, &expected)?));
     }
-    match closure {
-        "identity" => batch_multiplicative_inverse_general(&x, &mut res, |y: F| -> F { y }),
-        "zero" => batch_multiplicative_inverse_general(&x, &mut res, |_y: F| -> F { F::zero() }),
-        "one" => batch_multiplicative_inverse_general(&x, &mut res, |_y: F| -> F { F::one() }),
-        "inverse" => {
-            batch_multiplicative_inverse_general(&x, &mut res, |y: F| -> F { inverse_or_zero(y) })
-        }
-        "counter" => {
-            let number = Cell::new(5);
-            let answer = |_y: F| -> F { next_number(&number) };
-            batch_multiplicative_inverse_general(&x, &mut res, answer)
-        }
-        _ => return Ok(None),
-    }
+    let Some(closure) = Closure::of_name(name) else {
+        return Ok(None);
+    };
+    let res = general::<F>(closure, &x, values(alloc, entries, generator)?);
     Ok(Some(res.as_slice() == expected.as_slice()))
 }
 
-/// Whether the entries of a row have the row's inverses.
-fn inverted<F: Field>(alloc: Global, row: Inverses, generator: F) -> Result<bool, AllocError> {
-    let x: Vec<F> = values(alloc, row.0, generator)?;
-    let expected: Vec<F> = values(alloc, row.1, generator)?;
-    let entries = x.as_slice();
-    if !have_inverses(entries) {
-        return Ok(false);
-    }
-    let inverses = batch_multiplicative_inverse(alloc, entries)?;
-    Ok(inverses.as_slice() == expected.as_slice())
-}
-
-/// Asserts that each row agrees, at this generator.
-fn assert_rows<F: Field>(
+/// Asserts that each line agrees, at this generator.
+fn assert_lines<F: Field>(
     rt: &(impl Abort + AllocGlobal),
     generator: F,
-    rows: &[Row],
-    inverses: &[Inverses],
+    table: &str,
 ) -> Result<(), Fail> {
-    for row in rows {
-        assert_eq!(rt; agrees(rt.alloc(), *row, generator)?, Some(true));
-    }
-    for row in inverses {
-        assert!(rt; inverted(rt.alloc(), *row, generator)?);
+    for line in table.lines() {
+        assert_eq!(rt; agrees(rt.alloc(), line, generator)?, Some(true), "{line}");
     }
     Ok(())
 }
 
-/// `assert_rows` at the marker of a prime field.
+/// `assert_lines` at the marker of a prime field.
 fn assert_prime<W: Form<T>, T: Word>(
     rt: &(impl Abort + AllocGlobal),
-    rows: &[Row],
-    inverses: &[Inverses],
+    table: &str,
 ) -> Result<(), Fail> {
-    assert_rows(rt, Fp::<W, T>::zero(), rows, inverses)
+    assert_lines(rt, Fp::<W, T>::zero(), table)
 }
 
 /// The tests over the extension of degree D of this field by a binomial, implemented once for all fields: a
@@ -124,12 +159,11 @@ trait ExtensionInverses<const D: usize>: Copy {
     /// The value X.
     fn generator() -> Self::Value;
 
-    /// `assert_rows` at this generator.
+    /// `assert_lines` at this generator.
     fn assert_extension(
         rt: &(impl Abort + AllocGlobal),
         generator: Self::Value,
-        rows: &[Row],
-        inverses: &[Inverses],
+        table: &str,
     ) -> Result<(), Fail>;
 }
 
@@ -147,23 +181,22 @@ impl<F: BinomiallyExtendable<D>, const D: usize> ExtensionInverses<D> for F {
     fn assert_extension(
         rt: &(impl Abort + AllocGlobal),
         generator: BinomialExtensionField<F, D>,
-        rows: &[Row],
-        inverses: &[Inverses],
+        table: &str,
     ) -> Result<(), Fail> {
-        assert_rows(rt, generator, rows, inverses)
+        assert_lines(rt, generator, table)
     }
 }
 
 #[test]
 fn batch_inverses(rt: HostRuntime) -> Result<(), Fail> {
-    assert_prime::<Plain<M17>, u32>(&rt, &OVER_F17, &INVERSES_F17)?;
-    assert_prime::<Plain<M15>, u32>(&rt, &OVER_Z15, &INVERSES_Z15)?;
-    assert_prime::<Montgomery<BabyBearModulus>, u32>(&rt, &OVER_BABY_BEAR, &INVERSES_BABY_BEAR)?;
-    assert_prime::<GoldilocksForm, u64>(&rt, &OVER_GOLDILOCKS, &INVERSES_GOLDILOCKS)
+    assert_prime::<Plain<M17>, u32>(&rt, tables::F17)?;
+    assert_prime::<Plain<M15>, u32>(&rt, tables::Z15)?;
+    assert_prime::<Montgomery<BabyBearModulus>, u32>(&rt, tables::BABY_BEAR)?;
+    assert_prime::<GoldilocksForm, u64>(&rt, tables::GOLDILOCKS)
 }
 
 #[test]
 fn batch_inverses_of_extension_values(rt: HostRuntime) -> Result<(), Fail> {
     let generator = <F17 as ExtensionInverses<2>>::generator();
-    <F17 as ExtensionInverses<2>>::assert_extension(&rt, generator, &OVER_F17X2, &INVERSES_F17X2)
+    <F17 as ExtensionInverses<2>>::assert_extension(&rt, generator, tables::F17X2)
 }

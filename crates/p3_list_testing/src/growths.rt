@@ -12,18 +12,15 @@ use p3_bench_prime::extensions::F17x2;
 use p3_bench_prime::goldilocks::Goldilocks;
 use p3_bench_prime::small::F17;
 use p3_ext::extension::{BinomialExtensionField, BinomiallyExtendable};
-use p3_field_testing::refusing::Refusing;
+use p3_refusing::Refusing;
 use p3_spaces::in_memory::InMemory;
 use std::alloc::Global;
 use std::process::Abort;
 use std::test::Fail;
 use table::{Call, LIMBS, PAIRS, Row, SCALARS, answered, growths_at};
 
-/// The lengths that are tried.
-const LENGTHS: [usize; 25] = [
-    0, 1, 2, 3, 4, 5, 6, 7, 8, 9, 10, 11, 12, 13, 14, 15, 16, 17, 100, 1000, 1023, 1024, 1025,
-    1027, 2049,
-];
+/// The lengths that are tried beside those from 0 to 130.
+const LENGTHS: [usize; 6] = [1000, 1023, 1024, 1025, 1027, 2049];
 
 /// Whether a call answers its items where as many growths pass as it asks for, and asks for no more, or is
 /// refused at the first growth that doesn't pass, and no block is kept.
@@ -52,27 +49,42 @@ fn is_ample<C: Callee>(alloc: Global, callee: C, call: Call, items: &[Pair]) -> 
     }
 }
 
-/// Asserts of each call, at each length, that it answers its items where its growths pass, or one more, and
-/// is refused where fewer do, and that after each of these calls one with memory answers the items.
+/// Asserts of a call, at a length, that it answers its items where its growths pass, or one more, and is refused
+/// where fewer do, and that after each of these calls one with memory answers the items.
+fn assert_length<C: Callee>(
+    rt: &(impl Abort + AllocGlobal),
+    callee: C,
+    row: Row,
+    count: usize,
+) -> Result<(), Fail> {
+    let (name, call, growths) = row;
+    let items = answered(rt.alloc(), call, count)?;
+    let needed = growths_at(growths, count);
+    for passing in 0..=needed.saturating_add(1) {
+        assert!(rt;
+            is_right(rt.alloc(), passing, callee, call, &items, needed),
+            "{name} {count} {passing}"
+        );
+        assert!(rt;
+            is_ample(rt.alloc(), callee, call, &items),
+            "{name} {count}"
+        );
+    }
+    Ok(())
+}
+
+/// Asserts this of each call, at each length.
 fn assert_growths<C: Callee>(
     rt: &(impl Abort + AllocGlobal),
     callee: C,
     rows: &[Row],
 ) -> Result<(), Fail> {
-    for (name, call, growths) in rows {
+    for row in rows {
+        for count in 0..=130 {
+            assert_length(rt, callee, *row, count)?;
+        }
         for count in LENGTHS {
-            let items = answered(rt.alloc(), *call, count)?;
-            let needed = growths_at(*growths, count);
-            for passing in 0..=needed.saturating_add(1) {
-                assert!(rt;
-                    is_right(rt.alloc(), passing, callee, *call, &items, needed),
-                    "{name} {count} {passing}"
-                );
-                assert!(rt;
-                    is_ample(rt.alloc(), callee, *call, &items),
-                    "{name} {count}"
-                );
-            }
+            assert_length(rt, callee, *row, count)?;
         }
     }
     Ok(())

@@ -4,5 +4,4 @@ mod coset_values;
 mod growths;
 mod plain_sums;
 mod sweeps;
-mod vector_rows;
 mod worked_rows;

@@ -1,7 +1,7 @@
 //! The one growth that `eval_coset_in` asks for, refused and let pass.
 use super::worked_rows::numbers;
 use p3_bench_prime::small::F17;
-use p3_field_testing::refusing::Refusing;
+use p3_refusing::Refusing;
 use p3_tools::coset::TwoAdicMultiplicativeCoset;
 use poly_eval::eval_coset_in;
 use std::alloc::{AllocError, Allocator, Global};

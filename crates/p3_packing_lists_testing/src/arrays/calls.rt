@@ -1,0 +1,75 @@
+//! The calls on arrays by their names, and the lines that name them.
+
+/// An operation on two arrays, or on one and a scalar.
+#[derive(Clone, Copy)]
+pub(crate) enum Operation {
+    Add,
+    Sub,
+    Mul,
+    Neg,
+    Square,
+    AddScalar,
+    SubScalar,
+    MulScalar,
+}
+
+/// A call on arrays.
+#[derive(Clone, Copy)]
+pub(crate) enum Call {
+    Operation(Operation),
+    Halve,
+    DivScalar,
+    /// The sum, or else the product.
+    Total(bool),
+}
+
+impl Call {
+    /// The call of a name.
+    pub(crate) fn of_name(name: &str) -> Option<Call> {
+        match name {
+            "add" => Some(Call::Operation(Operation::Add)),
+            "sub" => Some(Call::Operation(Operation::Sub)),
+            "mul" => Some(Call::Operation(Operation::Mul)),
+            "neg" => Some(Call::Operation(Operation::Neg)),
+            "square" => Some(Call::Operation(Operation::Square)),
+            "add scalar" => Some(Call::Operation(Operation::AddScalar)),
+            "sub scalar" => Some(Call::Operation(Operation::SubScalar)),
+            "mul scalar" => Some(Call::Operation(Operation::MulScalar)),
+            "halve" => Some(Call::Halve),
+            "div scalar" => Some(Call::DivScalar),
+            "sum" => Some(Call::Total(true)),
+            "product" => Some(Call::Total(false)),
+            _ => None,
+        }
+    }
+}
+
+/// A line of a table.
+#[derive(Clone, Copy)]
+pub(crate) struct Row<'a> {
+    /// The number of entries.
+    pub(crate) entries: &'a str,
+    pub(crate) call: &'a str,
+    pub(crate) arguments: &'a str,
+    pub(crate) answer: &'a str,
+}
+
+impl<'a> Row<'a> {
+    /// The row of a line like `3;mul;1,2,3|4,5,6;4,10,1`.
+    pub(crate) fn read(line: &'a str) -> Option<Row<'a>> {
+        let (entries, rest) = line.split_once(';')?;
+        let (call, sides) = rest.split_once(';')?;
+        let (arguments, answer) = sides.split_once(';')?;
+        Some(Row {
+            entries,
+            call,
+            arguments,
+            answer,
+        })
+    }
+
+    /// The argument at an index, empty past the last one.
+    pub(crate) fn argument(self, index: usize) -> &'a str {
+        self.arguments.split('|').nth(index).unwrap_or("")
+    }
+}

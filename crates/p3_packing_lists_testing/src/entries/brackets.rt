@@ -1,0 +1,129 @@
+//! Arrays read and written by brackets, compared and printed.
+use crate::numbered::Numbered;
+use crate::texts::{number_at, packing};
+use p3_array::array::FieldArray;
+use p3_base::packed_traits::{Inhabited, Packable};
+use p3_ring::ring::PrimeCharacteristicRing;
+use std::alloc::{AllocError, Global};
+use std::fmt;
+use std::process::Abort;
+use std::test::Fail;
+
+/// No arrays, of 1, 2, 4 and 8 entries: a function that names them knows that they have room.
+pub(crate) type Arrays<F> = Option<
+    (
+        FieldArray<F, 1>,
+        FieldArray<F, 2>,
+        FieldArray<F, 4>,
+        FieldArray<F, 8>,
+    ),
+>;
+
+/// The numbers of an array's entries, from the first on.
+const NUMBERS: &str = "3,5,7,9,11,13,15,16";
+
+/// A number that is none of them.
+const OTHER: u64 = 2;
+
+/// Whether the array, read by brackets, has this number at an index and the first N numbers at the others.
+fn holds<F: Numbered + Inhabited, const N: usize>(
+    array: &FieldArray<F, N>,
+    index: usize,
+    written: u64,
+) -> bool {
+    for i in 0..N {
+        let expected = if i == index {
+            Some(written)
+        } else {
+            number_at(NUMBERS, i)
+        };
+        if expected != Some(array[i].number()) {
+            return false;
+        }
+    }
+    true
+}
+
+/// Whether a write by brackets at an index writes there and nowhere else.
+fn is_written<F: Numbered + Inhabited, const N: usize>(
+    before: &FieldArray<F, N>,
+    index: usize,
+) -> bool {
+    let mut array = *before;
+    if index < N {
+        array[index] = F::of(OTHER);
+    }
+    holds(&array, index, OTHER) && holds(before, N, OTHER)
+}
+
+/// Whether an array is equal to one of the same numbers, and to none that differs from it in one entry.
+fn is_compared<F: Numbered + Inhabited + PartialEq, const N: usize>(
+    array: &FieldArray<F, N>,
+    same: &FieldArray<F, N>,
+) -> bool {
+    if !(*array == *same) {
+        return false;
+    }
+    for i in 0..N {
+        let mut other = *array;
+        other[i] = F::of(OTHER);
+        if *array == other || other == *array {
+            return false;
+        }
+    }
+    true
+}
+
+/// Whether each entry is zero.
+fn is_zero<F: Numbered + Inhabited, const N: usize>(array: &FieldArray<F, N>) -> bool {
+    for i in 0..N {
+        if array[i].number() != 0 {
+            return false;
+        }
+    }
+    true
+}
+
+/// Whether an array is printed so.
+fn is_printed<F: Inhabited + fmt::Debug, const N: usize>(
+    alloc: Global,
+    array: &FieldArray<F, N>,
+    text: &str,
+) -> Result<bool, AllocError> {
+    let printed = format!(in alloc; "{array:?}")?;
+    Ok(printed.as_str() == text)
+}
+
+/// Asserts reads, writes, comparison and the text of the array of the first N numbers, and that the default is zero.
+fn assert_array<F: Numbered + Packable + fmt::Debug, const N: usize>(
+    rt: &(impl Abort + AllocGlobal),
+    default: FieldArray<F, N>,
+    text: &str,
+) -> Result<(), Fail> {
+    let array = packing::<F, FieldArray<F, N>>(NUMBERS);
+    assert!(rt; holds(&array, N, OTHER), "{N}");
+    for i in 0..N {
+        assert!(rt; is_written(&array, i), "{N} {i}");
+    }
+    assert!(rt;
+        is_compared(&array, &packing::<F, FieldArray<F, N>>(NUMBERS)),
+        "{N}"
+    );
+    assert!(rt; is_zero(&default), "{N}");
+    assert!(rt; is_printed(rt.alloc(), &array, text)?, "{N}");
+    Ok(())
+}
+
+/// `assert_array` of arrays of 1, 4 and 8 entries.
+pub(crate) fn assert_arrays<F: PrimeCharacteristicRing + Numbered + Packable + fmt::Debug>(
+    rt: &(impl Abort + AllocGlobal),
+    _arrays: Arrays<F>,
+) -> Result<(), Fail> {
+    assert_array(rt, FieldArray::<F, 1>::default(), "[3]")?;
+    assert_array(rt, FieldArray::<F, 4>::default(), "[3, 5, 7, 9]")?;
+    assert_array(
+        rt,
+        FieldArray::<F, 8>::default(),
+        "[3, 5, 7, 9, 11, 13, 15, 16]",
+    )
+}

@@ -1,0 +1,91 @@
+//! Quotients of arrays, worked by hand modulo 17.
+ghost use Rattle.std.specs.Prelude.{◌<◌, ℕ, get_or, IsTrue};
+ghost use Rattle.p3_theory.specs.Rings.Ring.{Invertible};
+
+use super::brackets::Arrays;
+use crate::numbered::Numbered;
+use crate::texts::{holds, packing};
+use p3_array::array::FieldArray;
+use p3_base::field::Field;
+use p3_base::packed_traits::{Inhabited, Packable};
+use std::process::Abort;
+
+/// What is divided, a divisor of each, and the quotients.
+const DIVIDED: &str = "1,2,3,4,5,6,7,8";
+
+const DIVISORS: &str = "3,5,7,9,11,13,15,16";
+
+const QUOTIENTS: &str = "6,14,15,8,2,7,5,9";
+
+/// The halves of what is divided.
+const HALVES: &str = "9,1,10,2,11,3,12,4";
+
+/// Whether a value has an inverse.
+fn has_inverse<F: Field>(y: F) -> bool
+    ensures { IsTrue result → Invertible F.ops y }
+{
+    match y.try_inverse() {
+        Some(_) => true,
+        None => false,
+    }
+}
+
+/// Whether every entry has an inverse.
+fn have_inverses<F: Field + Inhabited, const N: usize>(y: FieldArray<F, N>) -> bool
+    ensures { IsTrue result → (d : F) (k : ℕ) → k < N → Invertible F.ops (get_or y.items k d) }
+{
+    for i in 0..N {
+        let entry = y[i];
+        if !has_inverse(entry) {
+            return false;
+        }
+    }
+    true
+}
+
+/// Whether the quotients by a value are the halves, where the value is two.
+fn halves<F: Field + Packable + Numbered, const N: usize>(x: FieldArray<F, N>, scalar: F) -> bool {
+    if !has_inverse(scalar) {
+        return false;
+    }
+    let mut written = x;
+    written /= scalar;
+    let quotient = x / scalar;
+    holds::<F, FieldArray<F, N>>(quotient, HALVES) && holds::<F, FieldArray<F, N>>(written, HALVES)
+}
+
+/// Whether the quotients by the other array's entries are those that are told.
+fn divides<F: Field + Packable + Numbered, const N: usize>(
+    x: FieldArray<F, N>,
+    y: FieldArray<F, N>,
+) -> bool {
+    if !have_inverses(y) {
+        return false;
+    }
+    let mut written = x;
+    written /= y;
+    let quotient = x / y;
+    holds::<F, FieldArray<F, N>>(quotient, QUOTIENTS)
+        && holds::<F, FieldArray<F, N>>(written, QUOTIENTS)
+}
+
+/// Asserts the quotients of the first N numbers. Nothing is read of `_array`.
+fn assert_quotients<F: Field + Packable + Numbered, const N: usize>(
+    rt: &impl Abort,
+    _array: Option<FieldArray<F, N>>,
+) {
+    let x = packing::<F, FieldArray<F, N>>(DIVIDED);
+    let y = packing::<F, FieldArray<F, N>>(DIVISORS);
+    assert!(rt; halves(x, F::of(2)), "{N}");
+    assert!(rt; divides(x, y), "{N}");
+}
+
+/// Asserts the quotients modulo 17 of arrays of 1, 4 and 8 entries.
+pub(crate) fn assert_all_quotients<F: Field + Packable + Numbered>(
+    rt: &impl Abort,
+    _arrays: Arrays<F>,
+) {
+    assert_quotients::<F, 1>(rt, None);
+    assert_quotients::<F, 4>(rt, None);
+    assert_quotients::<F, 8>(rt, None);
+}

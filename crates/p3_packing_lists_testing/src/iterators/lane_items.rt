@@ -1,0 +1,164 @@
+//! The values in the lanes of packings as an iterator.
+use super::{repeated, says_left, says_none_left};
+use crate::numbered::Numbered;
+use p3_array::array::FieldArray;
+use p3_base::field::Field;
+use p3_base::packed_traits::{Packable, PackedField};
+use p3_bench_prime::form::{Form, Plain};
+use p3_bench_prime::fp::Fp;
+use p3_bench_prime::small::M17;
+use p3_packings::ext_lane_items::{ExtLaneItems, to_ext_iter};
+use p3_packings::extension_lanes::ExtensionLanes;
+use p3_packings::packed_field_extension::PackedFieldExtension;
+use p3_ring::ring::PrimeCharacteristicRing;
+use std::process::Abort;
+use std::test::Fail;
+
+/// A source that gives its value, then nothing, and then its value again for ever.
+#[derive(Drop)]
+struct Interrupted<T> {
+    value: T,
+    calls: u64,
+}
+
+impl<T: Copy> Iterator for Interrupted<T> {
+    type Item = T;
+
+    fn next(&mut self) -> Option<T> {
+        let calls = self.calls;
+        self.calls = calls.wrapping_add(1);
+        if calls == 1 { None } else { Some(self.value) }
+    }
+}
+
+/// Whether an iterator gives an item at this index, and after it nothing, however often it is asked.
+fn stays_over<F, EF, PE, I>(items: ExtLaneItems<I, F, EF, PE>, last: usize) -> bool
+where
+    EF: PrimeCharacteristicRing,
+    PE: ExtensionLanes<F, EF>,
+    I: Iterator<Item = PE>,
+    requires { ⟦<ExtLaneItems<I, F, EF, PE> as Iterator>⟧.can_next items }
+{
+    let mut items = items;
+    if items.nth(last).is_none() {
+        return false;
+    }
+    let first = items.next();
+    if first.is_some() {
+        return false;
+    }
+    let second = items.next();
+    if second.is_some() {
+        return false;
+    }
+    let third = items.next();
+    third.is_none()
+}
+
+/// Whether the item at an index of the endless powers of three, by packings PE, has this number.
+fn is_power<F: Field + Packable + Numbered, PE: PackedFieldExtension<F, F>>(
+    index: usize,
+    number: u64,
+) -> bool {
+    let packings = PE::packed_ext_powers(F::of(3));
+    match PE::to_ext_iter(packings).nth(index) {
+        Some(x) => x.number() == number,
+        None => false,
+    }
+}
+
+/// The same of the powers that packings of the field itself give.
+fn is_lane_power<F: Field + Packable + Numbered, P: PackedField<F>>(
+    index: usize,
+    number: u64,
+) -> bool {
+    let packings = P::packed_powers(F::of(3));
+    match to_ext_iter::<F, F, P, _>(packings).nth(index) {
+        Some(x) => x.number() == number,
+        None => false,
+    }
+}
+
+/// The next power of three modulo the order.
+fn next_power(number: u64, order: u64) -> u64 {
+    number.wrapping_mul(3).checked_rem(order).unwrap_or(0)
+}
+
+/// Asserts that the first twenty items of the endless powers of three, by packings PE, are the powers modulo
+/// the order.
+fn assert_powers<F: Field + Packable + Numbered, PE: PackedFieldExtension<F, F>>(
+    rt: &impl Abort,
+    order: u64,
+) {
+    let mut number = 1u64;
+    for index in 0..20usize {
+        assert!(rt; is_power::<F, PE>(index, number), "{index}");
+        number = next_power(number, order);
+    }
+}
+
+/// Asserts what the items of these packings, so many in all, say is left before any is taken and after each,
+/// and that they stay over, also where their source goes on after its end.
+fn assert_items<F, EF: PrimeCharacteristicRing, PE: ExtensionLanes<F, EF> + Copy>(
+    rt: &impl Abort,
+    packings: &[PE],
+    total: usize,
+    last: usize,
+) {
+    for taken in 0..=total {
+        let items = to_ext_iter::<F, EF, PE, _>(packings.iter().copied());
+        assert!(rt; says_left(items, taken, total - taken), "{total} {taken}");
+    }
+    assert!(rt; says_none_left(to_ext_iter::<F, EF, PE, _>(packings.iter().copied()), total));
+    let items = to_ext_iter::<F, EF, PE, _>(packings.iter().copied());
+    assert!(rt; stays_over(items, total.saturating_sub(1)));
+    match packings.first() {
+        Some(packing) => {
+            let source = Interrupted {
+                value: *packing,
+                calls: 0,
+            };
+            assert!(rt; stays_over(to_ext_iter::<F, EF, PE, _>(source), last));
+        }
+        None => assert!(rt; false),
+    }
+}
+
+/// Asserts the powers and the items of three packings P, so many in all, the last lane of the first at this
+/// index.
+fn assert_packings<F: Field + Packable + Numbered, P: PackedField<F>>(
+    rt: &(impl Abort + AllocGlobal),
+    order: u64,
+    total: usize,
+    last: usize,
+) -> Result<(), Fail> {
+    let mut number = 1u64;
+    for index in 0..20usize {
+        assert!(rt; is_lane_power::<F, P>(index, number), "{index}");
+        number = next_power(number, order);
+    }
+    let packings = repeated(rt.alloc(), P::one(), 3)?;
+    assert_items::<F, F, P>(rt, &packings, total, last);
+    Ok(())
+}
+
+/// The assertions by the field itself, and by arrays of four: that an array is named tells that it has room.
+fn assert_over<F: Field + Packable + Numbered>(
+    rt: &(impl Abort + AllocGlobal),
+    order: u64,
+    _array: Option<FieldArray<F, 4>>,
+) -> Result<(), Fail> {
+    assert_powers::<F, F>(rt, order);
+    assert_packings::<F, F>(rt, order, 3, 0)?;
+    assert_packings::<F, FieldArray<F, 4>>(rt, order, 12, 3)
+}
+
+/// `assert_over` at the marker of a field.
+fn assert_marker<W: Form<u32>>(rt: &(impl Abort + AllocGlobal), order: u64) -> Result<(), Fail> {
+    assert_over::<Fp<W>>(rt, order, None)
+}
+
+#[test]
+fn items_of_packings(rt: HostRuntime) -> Result<(), Fail> {
+    assert_marker::<Plain<M17>>(&rt, 17)
+}
