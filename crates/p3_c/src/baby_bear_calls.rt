@@ -15,7 +15,7 @@ use p3_bench_prime::goldilocks::Goldilocks;
 use p3_integers::integers::Quotient;
 use p3_ring::ring::PrimeCharacteristicRing;
 use p3_word_cosets::cosets;
-use p3_word_limbs::limbs;
+use p3_word_limbs::limbs::{most_digits, pack, split};
 use p3_word_lists::{pairs, points, totals};
 use p3_word_runs::coded::RunStep;
 use p3_word_runs::runs;
@@ -207,7 +207,7 @@ pub extern "C" fn p3_bb_pack(alloc: Global, limbs: &[u32], radix_bits: u32, valu
     ensures { Answers (AnswersPacked ⟦<BabyBear as Stored<u32>>⟧.words ⟦<BabyBear as Quotient>⟧.canon ⟦<Goldilocks as Stored<u64>>⟧.words ⟦<Goldilocks as Quotient>⟧.canon ⟦<Goldilocks as Quotient>⟧.order limbs.now radix_bits) value.old value.new result }
 {
     answer(
-        limbs::pack::<BabyBear, u32, Goldilocks, u64>(alloc, limbs, radix_bits),
+        pack::<BabyBear, u32, Goldilocks, u64>(alloc, limbs, radix_bits),
         value,
     )
 }
@@ -218,7 +218,7 @@ pub extern "C" fn p3_bb_pack(alloc: Global, limbs: &[u32], radix_bits: u32, valu
 pub extern "C" fn p3_bb_split(alloc: Global, value: u64, radix_bits: u32, limbs: &mut [u32]) -> i32
     ensures { Tells (WritesDigits ⟦<BabyBear as Stored<u32>>⟧.words ⟦<BabyBear as Quotient>⟧.canon ⟦<BabyBear as Quotient>⟧.order ⟦<Goldilocks as Stored<u64>>⟧.words ⟦<Goldilocks as Quotient>⟧.canon value radix_bits limbs.old limbs.new) result }
 {
-    status(limbs::split::<BabyBear, u32, Goldilocks, u64>(alloc, value, radix_bits, limbs))
+    status(split::<BabyBear, u32, Goldilocks, u64>(alloc, value, radix_bits, limbs))
 }
 
 /// How many limbs can be packed into one value of Goldilocks at most, in radix two to the radix bits, so that lists of
@@ -227,8 +227,5 @@ pub extern "C" fn p3_bb_split(alloc: Global, value: u64, radix_bits: u32, limbs:
 pub extern "C" fn p3_bb_most_digits(radix_bits: u32, count: &mut usize) -> i32
     ensures { Answers (AnswersLimit ⟦<BabyBear as Quotient>⟧.order ⟦<Goldilocks as Quotient>⟧.order radix_bits) count.old count.new result }
 {
-    answer(
-        limbs::most_digits::<BabyBear, Goldilocks>(radix_bits),
-        count,
-    )
+    answer(most_digits::<BabyBear, Goldilocks>(radix_bits), count)
 }

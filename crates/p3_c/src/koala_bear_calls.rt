@@ -14,7 +14,7 @@ use p3_bench_prime::goldilocks::Goldilocks;
 use p3_integers::integers::Quotient;
 use p3_ring::ring::PrimeCharacteristicRing;
 use p3_word_cosets::cosets;
-use p3_word_limbs::limbs;
+use p3_word_limbs::limbs::{most_digits, pack, split};
 use p3_word_lists::{pairs, points, totals};
 use p3_word_runs::coded::RunStep;
 use p3_word_runs::runs;
@@ -213,7 +213,7 @@ pub extern "C" fn p3_kb_pack(alloc: Global, limbs: &[u32], radix_bits: u32, valu
     ensures { Answers (AnswersPacked ⟦<KoalaBear as Stored<u32>>⟧.words ⟦<KoalaBear as Quotient>⟧.canon ⟦<Goldilocks as Stored<u64>>⟧.words ⟦<Goldilocks as Quotient>⟧.canon ⟦<Goldilocks as Quotient>⟧.order limbs.now radix_bits) value.old value.new result }
 {
     answer(
-        limbs::pack::<KoalaBear, u32, Goldilocks, u64>(alloc, limbs, radix_bits),
+        pack::<KoalaBear, u32, Goldilocks, u64>(alloc, limbs, radix_bits),
         value,
     )
 }
@@ -224,7 +224,7 @@ pub extern "C" fn p3_kb_pack(alloc: Global, limbs: &[u32], radix_bits: u32, valu
 pub extern "C" fn p3_kb_split(alloc: Global, value: u64, radix_bits: u32, limbs: &mut [u32]) -> i32
     ensures { Tells (WritesDigits ⟦<KoalaBear as Stored<u32>>⟧.words ⟦<KoalaBear as Quotient>⟧.canon ⟦<KoalaBear as Quotient>⟧.order ⟦<Goldilocks as Stored<u64>>⟧.words ⟦<Goldilocks as Quotient>⟧.canon value radix_bits limbs.old limbs.new) result }
 {
-    status(limbs::split::<KoalaBear, u32, Goldilocks, u64>(alloc, value, radix_bits, limbs))
+    status(split::<KoalaBear, u32, Goldilocks, u64>(alloc, value, radix_bits, limbs))
 }
 
 /// How many limbs can be packed into one value of Goldilocks at most, in radix two to the radix bits, so that lists of
@@ -233,8 +233,5 @@ pub extern "C" fn p3_kb_split(alloc: Global, value: u64, radix_bits: u32, limbs:
 pub extern "C" fn p3_kb_most_digits(radix_bits: u32, count: &mut usize) -> i32
     ensures { Answers (AnswersLimit ⟦<KoalaBear as Quotient>⟧.order ⟦<Goldilocks as Quotient>⟧.order radix_bits) count.old count.new result }
 {
-    answer(
-        limbs::most_digits::<KoalaBear, Goldilocks>(radix_bits),
-        count,
-    )
+    answer(most_digits::<KoalaBear, Goldilocks>(radix_bits), count)
 }

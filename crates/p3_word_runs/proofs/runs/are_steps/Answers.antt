@@ -1,20 +1,14 @@
-use Rattle.std.proofs.Common.{refl, arith, subst, sym}
+use Rattle.std.proofs.Common.{refl, arith, sym}
 use Rattle.std.proofs.lemmas.List.{take_all}
 use Rattle.std.proofs.lemmas.List.Elements.{All-same, All-more}
 use Rattle.p3_word_runs.specs.Calls.{IsStep}
 use Rattle.p3_word_runs.proofs.runs.are_steps.Goals as goal
 
 pub loop-i-preserved : goal.loop-i-preserved
-loop-i-preserved c =
-    let is = IsStep c.args.n in
-    let x = c.index-steps-i in
-    All-more is c.args.steps.now c.loop-i.i x.result c.loop-i-test.true c.loop-i.invariant (subst is x.is (c.if-not-is_step.ensures.0 refl))
+loop-i-preserved c = All-more (IsStep c.args.n) c.args.steps.now c.loop-i.i _ c.loop-i-test.true c.loop-i.invariant (c.if-not-is_step.ensures.0 refl)
 
 pub returns-then-not-is_step : goal.returns-then-not-is_step
-returns-then-not-is_step c =
-    let is = IsStep c.args.n in
-    let x = c.index-steps-i in
-    (λ e. absurd (cc e), λ h. c.if-not-is_step.ensures.1 (subst is (sym x.is) (h c.loop-i.i x.result c.loop-i-test.true)))
+returns-then-not-is_step c = (λ e. absurd (cc e), λ h. c.if-not-is_step.ensures.1 (h c.loop-i.i _ c.loop-i-test.true))
 
 pub returns : goal.returns
 returns c =

@@ -11,10 +11,9 @@ loop-i-preserved c =
     let steps = c.args.steps.now in
     let i = c.loop-i.i in
     let known = c.loop-i.known.items in
-    let x = c.index-steps-i in
     let t = c.known_step-step.result in
     record {
-      steps = map_more decoded steps i x.result c.loop-i-test.true ∙ ap₂ (λ ts s. ts ++ decoded s ∷ []) held.steps (sym x.is) ∙ ap (λ o. map Some known ++ o ∷ []) c.known_step-step.ensures.named
-          ∙ sym (map-append Some known (t ∷ [])) ∙ ap (map Some) (sym c.in_ok-push.ensures.items);
+      steps = map_more decoded steps i _ c.loop-i-test.true ∙ ap₂ (λ ts o. ts ++ o ∷ []) held.steps c.known_step-step.ensures.named ∙ sym (map-append Some known (t ∷ []))
+          ∙ ap (map Some) (sym c.in_ok-push.ensures.items);
       fit = All-same (FieldStepFits c.args.n) _ _ c.in_ok-push.ensures.items (All-push (FieldStepFits c.args.n) known t held.fit c.known_step-step.ensures.fits);
     }

@@ -1,4 +1,5 @@
 use Rattle.std.proofs.Common.{refl, ap, map, Err, ◌∙◌}
+use Rattle.std.proofs.lemmas.List.{take_at}
 use Rattle.p3_words.specs.Words.{values}
 use Rattle.p3_word_runs.proofs.RunLengths.{same-run}
 use Rattle.p3_word_runs.proofs.runs.run.Goals as goal
@@ -22,7 +23,7 @@ returns-in-Ok-run_values g c =
     let run = same-run g.F.PrimeCharacteristicRing.ops g.F.Field.size g.F.Field.generator _ c.in-Ok.known.items _ (values w c.args.registers.now) new _ _ c.deref.ensures.value
     (c.deref_mut.ensures.value ∙ c.in-Ok-values_of.ensures) refl c.in-Ok-run_values.ensures.run in (
       (c.if-not-are_steps.ensures.0 refl, c.if-not-all_stand.ensures.0 refl),
-      (c.in-Ok.known.items, new, c.in-Ok.ensures.steps, run, c.write.ensures ∙ ap (map w.word) c.deref-in-Ok-run_values.ensures.value),
+      (c.in-Ok.known.items, new, c.in-Ok.ensures.steps, run, c.write.ensures ∙ ap (map w.word) (c.deref-in-Ok-run_values.ensures.value ∙ take_at new _ _ (c.run_values.ensures.length ∙ c.deref_mut.ensures.len))),
     )
 
 pub returns-in-NoInverse : goal.returns-in-NoInverse
