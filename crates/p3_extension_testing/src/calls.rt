@@ -1,6 +1,7 @@
-//! The calls of extension values, and whether they answer the numbers that a case tells.
+//! The calls of extension values, and whether they have their answers.
 
-use crate::lists::{List, ZERO, at};
+use crate::cases::{Call, Case, MemoryCall, MixedCall, ValueCall, part};
+use crate::lists::{List, at, list_of_text};
 use crate::values::{Listed, Residue};
 use p3_base::field::Field;
 use p3_base::sqrt::tonelli_shanks_counted;
@@ -10,109 +11,6 @@ use p3_spaces::basis::{AlgebraIdentity, BasedVectorSpace};
 use p3_spaces::extension_field::ExtensionField;
 use std::alloc::{AllocError, Global};
 use std::fmt::Display;
-
-/// What is asked of one value or two, x and y, or of none.
-#[derive(Clone, Copy)]
-pub enum Call {
-    /// The square of x.
-    Square,
-    /// The product of x and y.
-    Product,
-    /// The inverse of x.
-    Inverse,
-    /// The inverse of x, or zero where there is none.
-    InverseOrZero,
-    /// The image of x under the Frobenius map.
-    Image,
-    /// The image of x under the map taken so often.
-    ImageAfter(usize),
-    /// The value made of the coefficients of x by `From`.
-    FromCoefficients,
-    /// The generator candidate.
-    Generator,
-    /// The element of the basis at an index.
-    BasisElement(usize),
-    /// The residue of a number as a value.
-    Embedded(u64),
-    /// The sum of x and the residue of a number.
-    SumWith(u64),
-    /// The difference of x and the residue of a number.
-    DifferenceFrom(u64),
-    /// The product of x and the residue of a number.
-    ProductWith(u64),
-}
-
-/// What is asked of an extension, and the numbers that it is to answer.
-#[derive(Clone, Copy)]
-pub enum Case {
-    /// The value that a call answers, if it answers one.
-    Value {
-        call: Call,
-        x: List,
-        y: List,
-        answer: Option<List>,
-    },
-    /// The element of the base that a value is, if it is one.
-    BaseValue {
-        x: List,
-        base: Option<u64>,
-    },
-    /// The image at an index of a value's orbit, which has so many.
-    Orbit {
-        x: List,
-        index: usize,
-        image: Option<List>,
-    },
-    /// The text of a value.
-    Text {
-        x: List,
-        text: &'static str,
-    },
-    /// The texts of all values `a + b X`, a and b below a number.
-    TextsBelow(u64),
-    /// The root that the search answers, if it answers one, and its turns.
-    Root {
-        x: List,
-        root: Option<List>,
-        turns: u32,
-    },
-    /// How many values there are.
-    Order(u128),
-    /// The names as algebras over the base: of the base itself, and of the extension.
-    Names {
-        base: &'static str,
-        extension: &'static str,
-    },
-    /// The value of the first coefficients of a list, so many of them, if they make one.
-    OfSlice {
-        x: List,
-        count: usize,
-        answer: Option<List>,
-    },
-    /// The sum of the products of two values with the residues of two numbers.
-    MixedDotProduct {
-        lists: [List; 2],
-        numbers: [u64; 2],
-        sum: List,
-    },
-    /// A list of so many zeros.
-    Zeros(usize),
-    /// W, the root, and the generator candidate's coefficients at 1 and X, of an extension by `X^D = W`.
-    Constants([u64; 4]),
-    /// The two-adicity.
-    TwoAdicity(usize),
-    /// The two-adic generator for so many bits, if there is one.
-    TwoAdicGenerator {
-        bits: usize,
-        generator: Option<List>,
-    },
-    /// The root that the search by the greatest two-adic generator answers, if it answers one, and its turns.
-    TwoAdicRoot {
-        x: List,
-        root: Option<List>,
-        turns: u32,
-    },
-}
 
 /// The coefficients of an answer.
 pub fn list_of<T: Listed>(answer: Option<T>) -> Option<List> {
@@ -128,51 +26,63 @@ fn product<T: PrimeCharacteristicRing>(x: T, y: T) -> T {
 }
 
 /// The value that a call answers, if it answers one.
-fn value<F: Field + Residue, EF: HasFrobenius<F> + Listed>(call: Call, x: EF, y: EF) -> Option<EF> {
+fn value<F: Field + Residue, EF: HasFrobenius<F> + Listed>(
+    call: ValueCall,
+    case: Case<'_>,
+) -> Option<EF> {
+    let x = EF::of_list(&case.list(0));
+    let count = case.number(1) as usize;
     match call {
-        Call::Square => Some(x.square()),
-        Call::Product => Some(product(x, y)),
-        Call::Inverse => x.try_inverse(),
-        Call::InverseOrZero => Some(x.pseudo_inv()),
-        Call::Image => Some(x.frobenius()),
-        Call::ImageAfter(count) => Some(x.repeated_frobenius(count)),
-        Call::FromCoefficients => Some(EF::from_list(&x.list())),
-        Call::Generator => Some(EF::generator()),
-        Call::BasisElement(index) => EF::ith_basis_element(index),
-        _ => mixed_value::<F, EF>(call, x),
+        ValueCall::Square => Some(x.square()),
+        ValueCall::Product => Some(product(x, EF::of_list(&case.list(1)))),
+        ValueCall::Inverse => x.try_inverse(),
+        ValueCall::InverseOrZero => Some(x.pseudo_inv()),
+        ValueCall::Image => Some(x.frobenius()),
+        ValueCall::ImageAfter => Some(x.repeated_frobenius(count)),
+        ValueCall::FromCoefficients => Some(EF::from_list(&case.list(0))),
+        ValueCall::Generator => Some(EF::generator()),
+        ValueCall::BasisElement => EF::ith_basis_element(case.number(0) as usize),
     }
 }
 
 /// The value that a call with a residue answers.
-fn mixed_value<F: PrimeCharacteristicRing + Residue, EF: Algebra<F>>(
-    call: Call,
-    x: EF,
-) -> Option<EF> {
+fn mixed_value<F: PrimeCharacteristicRing, EF: Algebra<F>>(call: MixedCall, x: EF, f: F) -> EF {
     match call {
-        Call::Embedded(number) => Some(EF::from(F::residue(number))),
-        Call::SumWith(number) => Some(x + F::residue(number)),
-        Call::DifferenceFrom(number) => Some(x - F::residue(number)),
-        Call::ProductWith(number) => Some(x * F::residue(number)),
-        _ => None,
+        MixedCall::Embedded => EF::from(f),
+        MixedCall::Sum => x + f,
+        MixedCall::Difference => x - f,
+        MixedCall::Product => x * f,
     }
 }
 
-/// The number of the element of the base that a value is, if it is one.
-fn base_value<F: Field + Residue, EF: ExtensionField<F>>(x: EF) -> Option<u64> {
+/// Whether the element of the base that a value is, if it is one, is the answer.
+fn base_value_agrees<F: Field + Residue, EF: ExtensionField<F>>(x: EF, answer: &str) -> bool {
     match x.as_base() {
-        Some(base) => Some(base.canonical()),
-        None => None,
+        Some(base) => answer.parse::<u64>() == Ok(base.canonical()),
+        None => answer == "None",
     }
 }
 
-/// The image at an index of a value's orbit.
-fn orbit_image<F: Field, EF: HasFrobenius<F> + Listed>(
+/// Whether values are those that a text tells, with spaces between them.
+fn are_told<T: Listed>(values: &[T], text: &str) -> bool {
+    let mut count: usize = 0;
+    for word in text.split_ascii_whitespace() {
+        match values.get(count) {
+            Some(value) if list_of_text(word) == Some(value.list()) => {}
+            _ => return false,
+        }
+        count = count.wrapping_add(1);
+    }
+    values.len() == count
+}
+
+/// Whether the images of a value are the answer.
+fn orbit_agrees<F: Field, EF: HasFrobenius<F> + Listed>(
     alloc: Global,
-    x: EF,
-    index: usize,
-) -> Result<Option<List>, AllocError> {
-    let orbit = x.galois_orbit(alloc)?;
-    Ok(list_of(orbit.get(index).copied()))
+    case: Case<'_>,
+) -> Result<bool, AllocError> {
+    let orbit = EF::of_list(&case.list(0)).galois_orbit(alloc)?;
+    Ok(are_told(&orbit, case.answer))
 }
 
 /// Whether the text of a value is this one.
@@ -203,33 +113,32 @@ fn of_slice<F: PrimeCharacteristicRing + Residue, V: BasedVectorSpace<F> + Liste
     Ok(list_of(V::from_basis_coefficients_slice(&coefficients)))
 }
 
-/// Whether the sum of the products of values with the residues of numbers is this one.
-fn has_mixed_sum<F: PrimeCharacteristicRing + Residue, EF: Algebra<F> + Listed>(
+/// Whether the sum of the products of two values with the residues of two numbers is the answer.
+fn mixed_sum_agrees<F: PrimeCharacteristicRing + Residue, EF: Algebra<F> + Listed>(
     alloc: Global,
-    lists: [List; 2],
-    numbers: [u64; 2],
-    sum: &List,
+    case: Case<'_>,
 ) -> Result<bool, AllocError> {
-    let values: Vec<EF> = lists.iter().map(|list| EF::of_list(list)).collect(alloc)?;
-    let residues: Vec<F> = numbers
-        .iter()
-        .map(|number| F::residue(*number))
-        .collect(alloc)?;
-    Ok(values.len() == residues.len() && EF::mixed_dot_product(&values, &residues).list() == *sum)
+    let numbers = case.list(2);
+    let mut values: Vec<EF> = Vec::new(alloc);
+    let mut residues: Vec<F> = Vec::new(alloc);
+    for i in 0..2 {
+        values.push(EF::of_list(&case.list(i)))?;
+        residues.push(F::residue(at(&numbers, i)))?;
+    }
+    if values.len() != residues.len() {
+        return Ok(false);
+    }
+    let sum = EF::mixed_dot_product(&values, &residues);
+    Ok(case.answers(Some(sum.list())))
 }
 
-/// Whether a list of zeros has so many, and nothing else.
-fn are_zeros<T: PrimeCharacteristicRing + Listed>(
+/// Whether a list of so many zeros is the answer.
+fn zeros_agree<T: PrimeCharacteristicRing + Listed>(
     alloc: Global,
-    count: usize,
+    case: Case<'_>,
 ) -> Result<bool, AllocError> {
-    let zeros: Vec<T> = T::zero_vec(alloc, count)?;
-    for zero in &zeros {
-        if zero.list() != ZERO {
-            return Ok(false);
-        }
-    }
-    Ok(zeros.len() == count)
+    let zeros: Vec<T> = T::zero_vec(alloc, case.number(0) as usize)?;
+    Ok(are_told(&zeros, case.answer))
 }
 
 /// The text of `a + b X`, written by hand.
@@ -266,57 +175,68 @@ fn have_texts<T: Display + Listed>(alloc: Global, count: u64) -> Result<bool, Al
     Ok(true)
 }
 
-/// Whether the root and the turns that the search answers are these.
-fn has_root<T: Field + Listed>(x: T, root: Option<List>, turns: u32) -> bool {
+/// Whether the root and the turns that the search answers are the answer.
+fn root_agrees<T: Field + Listed>(case: Case<'_>) -> bool {
     match T::order() {
         Some(_) => {
-            let (answer, count) = tonelli_shanks_counted(x);
-            list_of(answer) == root && count.count() == turns
+            let (root, turns) = tonelli_shanks_counted(T::of_list(&case.list(0)));
+            case.answers_root(list_of(root), turns.count())
         }
         None => false,
     }
 }
 
-/// Whether the numbers of a case are what the calls answer. Nothing is read of `_room`, which tells that
-/// values have room. False where the case is of no call here.
+/// Whether the count of values is the answer.
+fn order_agrees<T: Field>(answer: &str) -> bool {
+    match T::order() {
+        Some(order) => answer.parse::<u128>() == Ok(order),
+        None => false,
+    }
+}
+
+/// Whether a call has its answer. Nothing is read of `_room`, which tells that values have room. False where
+/// the call is none of those here.
 pub fn agrees<F: Field + Residue, EF: HasFrobenius<F> + Listed>(
     alloc: Global,
     _room: Option<EF>,
-    case: &Case,
+    case: Case<'_>,
 ) -> Result<bool, AllocError> {
-    match *case {
-        Case::Value { call, x, y, answer } => {
-            let value = value::<F, EF>(call, EF::of_list(&x), EF::of_list(&y));
-            Ok(list_of(value) == answer)
+    match case.call {
+        Call::Value(call) => Ok(case.answers(list_of(value::<F, EF>(call, case)))),
+        Call::Mixed(call) => {
+            let x = EF::of_list(&case.list(0));
+            let found = mixed_value::<F, EF>(call, x, F::residue(case.number(1)));
+            Ok(case.answers(Some(found.list())))
         }
-        Case::BaseValue { x, base } => Ok(base_value::<F, EF>(EF::of_list(&x)) == base),
-        Case::Root { x, root, turns } => Ok(has_root(EF::of_list(&x), root, turns)),
-        Case::Order(order) => Ok(EF::order() == Some(order)),
-        _ => memory_agrees::<F, EF>(alloc, case),
+        Call::Memory(call) => memory_agrees::<F, EF>(alloc, call, case),
+        Call::BaseValue => {
+            Ok(base_value_agrees::<F, EF>(EF::of_list(&case.list(0)), case.answer))
+        }
+        Call::Root => Ok(root_agrees::<EF>(case)),
+        Call::Order => Ok(order_agrees::<EF>(case.answer)),
+        _ => Ok(false),
     }
 }
 
 /// The same of the calls that take memory.
 fn memory_agrees<F: Field + Residue, EF: HasFrobenius<F> + Listed>(
     alloc: Global,
-    case: &Case,
+    call: MemoryCall,
+    case: Case<'_>,
 ) -> Result<bool, AllocError> {
-    match *case {
-        Case::Orbit { x, index, image } => {
-            Ok(orbit_image::<F, EF>(alloc, EF::of_list(&x), index)? == image)
+    match call {
+        MemoryCall::Orbit => orbit_agrees::<F, EF>(alloc, case),
+        MemoryCall::Text => has_text(alloc, &EF::of_list(&case.list(0)), case.answer),
+        MemoryCall::TextsBelow => have_texts::<EF>(alloc, case.number(0)),
+        MemoryCall::Names => {
+            let base = has_name::<F, F>(alloc, part(case.answer, 0))?;
+            Ok(base && has_name::<F, EF>(alloc, part(case.answer, 1))?)
         }
-        Case::Text { x, text } => has_text(alloc, &EF::of_list(&x), text),
-        Case::TextsBelow(count) => have_texts::<EF>(alloc, count),
-        Case::Names { base, extension } => {
-            Ok(has_name::<F, F>(alloc, base)? && has_name::<F, EF>(alloc, extension)?)
+        MemoryCall::OfSlice => {
+            let count = case.number(1) as usize;
+            Ok(case.answers(of_slice::<F, EF>(alloc, &case.list(0), count)?))
         }
-        Case::OfSlice { x, count, answer } => { Ok(of_slice::<F, EF>(alloc, &x, count)? == answer) }
-        Case::MixedDotProduct {
-            lists,
-            numbers,
-            sum,
-        } => { has_mixed_sum::<F, EF>(alloc, lists, numbers, &sum) }
-        Case::Zeros(count) => are_zeros::<EF>(alloc, count),
-        _ => Ok(false),
+        MemoryCall::MixedDotProduct => mixed_sum_agrees::<F, EF>(alloc, case),
+        MemoryCall::Zeros => zeros_agree::<EF>(alloc, case),
     }
 }

@@ -1,6 +1,6 @@
 //! Order, hash and default of extension values, lists of their coefficients, and bytes, at one type.
 
-use crate::lists::{List, Row, ZERO};
+use crate::lists::{List, ZERO};
 use crate::streams::are_bytes;
 use crate::values::{Listed, Residue, coefficients};
 use p3_base::packed_traits::Packable;
@@ -44,9 +44,9 @@ fn assert_compared<T: Ord + Hash + Debug + Listed>(
 
 #[test]
 fn values_of_one_type(rt: HostRuntime) -> Result<(), Fail> {
-    let x = [1, 2, 3, 4].list();
-    let y = [5, 6, 7, 8].list();
-    let same = [18, 19, 20, 21].list();
+    let x = [1, 2, 3, 4, 0, 0, 0, 0];
+    let y = [5, 6, 7, 8, 0, 0, 0, 0];
+    let same = [18, 19, 20, 21, 0, 0, 0, 0];
     assert_compared(&rt, F17x4::of_list(&x), F17x4::of_list(&y), &same)?;
     assert!(rt; default_lane::<F17x4>().list() == ZERO);
     let pair = F17x4::new_array([coefficients(&x), coefficients(&y)]);
@@ -81,8 +81,8 @@ where
 
 #[test]
 fn lists_of_values(rt: HostRuntime) -> Result<(), Fail> {
-    let x = [1, 2, 3, 4].list();
-    let y = [5, 6, 7, 8].list();
+    let x = [1, 2, 3, 4, 0, 0, 0, 0];
+    let y = [5, 6, 7, 8, 0, 0, 0, 0];
     let numbers = [1, 2, 3, 4, 5, 6, 7, 8];
     let flat = flat_numbers::<F17, F17x4>(rt.alloc(), &[x, y])?;
     assert!(rt; flat.as_slice() == numbers.as_slice());
@@ -98,7 +98,7 @@ fn septic_bytes(rt: HostRuntime) -> Result<(), Fail> {
     let expected = [
         1u8, 0, 0, 0, 0, 0, 0, 0, 0, 0, 0, 0, 1, 0, 0, 0, 1, 0, 0, 0, 1, 0, 0, 0, 0, 0, 0, 0,
     ];
-    let list = [1, 0, 0, 1, 1, 1, 0].list();
+    let list = [1, 0, 0, 1, 1, 1, 0, 0];
     let agrees = are_bytes::<F2t7>(rt.alloc(), &list, &expected)?;
     assert!(rt; agrees);
     Ok(())

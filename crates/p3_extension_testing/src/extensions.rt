@@ -1,131 +1,145 @@
-//! A test for each extension that has a name: its table of outside values, its counted roots, its
-//! constants and two-adic generators.
+//! A test for each extension that has a name: its tables of outside values, its counted roots, and its worked
+//! lines.
 
-use crate::asserts::{assert_case, assert_extension, assert_two_adic, assert_value};
-use crate::calls::{Call, Case};
-use crate::names::Extension;
-use crate::{extension_root_tables as roots, extension_tables as tables, trinomial_tables};
+use crate::cases::Case;
+use crate::fields::binomial_agrees;
+use crate::markers::{Calls, TwoAdicBinomial};
+use crate::{
+    extension_root_tables as roots, extension_tables as tables, trinomial_tables as trinomials,
+    worked_tables as worked,
+};
+use p3_bench_prime::baby_bear::{BabyBear, BabyBearModulus};
+use p3_bench_prime::form::Plain;
+use p3_bench_prime::montgomery::Montgomery;
+use p3_bench_prime::small::{F17b, F31, M2, M15, M17, M17b, M31, Z15};
+use p3_ext::extension::{Binomial, CubicTrinomial, QuinticTrinomial, SepticTrinomial};
+use std::alloc::{AllocError, Global};
+use std::process::Abort;
 use std::test::Fail;
+
+/// Whether the call of a line has its answer; false where the line can't be read or names no call.
+fn agrees<W: Calls<S, D>, S, const D: usize>(
+    alloc: Global,
+    line: &str,
+) -> Result<bool, AllocError> {
+    match Case::read(line) {
+        Some(case) => <W as Calls<S, D>>::agrees(alloc, None, case),
+        None => Ok(false),
+    }
+}
+
+/// Asserts the lines of tables.
+fn assert_lines<W: Calls<S, D>, S, const D: usize>(
+    rt: &(impl Abort + AllocGlobal),
+    tables: &[&str],
+) -> Result<(), Fail> {
+    for table in tables {
+        for line in table.lines() {
+            assert!(rt; agrees::<W, S, D>(rt.alloc(), line)?, "{line}");
+        }
+    }
+    Ok(())
+}
 
 #[test]
 fn f17x2(rt: HostRuntime) -> Result<(), Fail> {
-    let extension = Extension::F17x2;
-    assert_case(&rt, extension, &Case::Constants([3, 16, 1, 2]))?;
-    let generators = [(5, [0, 1]), (3, [9, 0])];
-    assert_two_adic(&rt, extension, 5, &generators, roots::F17X2_TWO_ADIC)?;
-    assert_extension(&rt, extension, &tables::F17X2, roots::F17X2)
+    assert_lines::<Plain<M17>, TwoAdicBinomial, 2>(
+        &rt,
+        &[
+            tables::F17X2,
+            roots::F17X2,
+            roots::F17X2_TWO_ADIC,
+            worked::F17X2,
+        ],
+    )
 }
 
 #[test]
 fn f17x4(rt: HostRuntime) -> Result<(), Fail> {
-    let extension = Extension::F17x4;
-    assert_case(&rt, extension, &Case::Constants([3, 13, 0, 1]))?;
-    let generators = [(3, [9, 0, 0, 0]), (5, [0, 0, 1, 0]), (6, [0, 1, 0, 0])];
-    assert_two_adic(&rt, extension, 6, &generators, &[])?;
-    assert_extension(&rt, extension, &tables::F17X4, &[])
+    assert_lines::<Plain<M17>, TwoAdicBinomial, 4>(&rt, &[tables::F17X4, worked::F17X4])
 }
 
 #[test]
 fn f17x8(rt: HostRuntime) -> Result<(), Fail> {
-    let extension = Extension::F17x8;
-    assert_case(&rt, extension, &Case::Constants([3, 9, 0, 1]))?;
-    let generators = [(4, [3, 0, 0, 0, 0, 0, 0, 0]), (0, [1, 0, 0, 0, 0, 0, 0, 0])];
-    assert_two_adic(&rt, extension, 7, &generators, &[])?;
-    assert_extension(&rt, extension, &tables::F17X8, &[])
+    assert_lines::<Plain<M17>, TwoAdicBinomial, 8>(&rt, &[tables::F17X8, worked::F17X8])
 }
 
 #[test]
 fn f17bx2(rt: HostRuntime) -> Result<(), Fail> {
-    let extension = Extension::F17bx2;
-    assert_case(&rt, extension, &Case::Constants([4, 16, 0, 1]))?;
-    assert_value(&rt, extension, Call::InverseOrZero, [2, 1], Some([0, 0]))?;
-    assert_value(&rt, extension, Call::InverseOrZero, [0, 0], Some([0, 0]))?;
-    assert_extension(&rt, extension, &tables::F17BX2, roots::F17BX2)
+    assert_lines::<Plain<M17b>, Binomial<F17b>, 2>(
+        &rt,
+        &[tables::F17BX2, roots::F17BX2, worked::F17BX2],
+    )
 }
 
 #[test]
 fn z15x2(rt: HostRuntime) -> Result<(), Fail> {
-    let extension = Extension::Z15x2;
-    assert_case(&rt, extension, &Case::Constants([2, 14, 0, 1]))?;
-    assert_extension(&rt, extension, &tables::Z15X2, roots::Z15X2)
+    assert_lines::<Plain<M15>, Binomial<Z15>, 2>(&rt, &[tables::Z15X2, roots::Z15X2, worked::Z15X2])
 }
 
 #[test]
 fn f31x3(rt: HostRuntime) -> Result<(), Fail> {
-    let extension = Extension::F31x3;
-    assert_case(&rt, extension, &Case::Constants([3, 25, 0, 1]))?;
-    assert_extension(&rt, extension, &tables::F31X3, &[])
+    assert_lines::<Plain<M31>, Binomial<F31>, 3>(&rt, &[tables::F31X3, worked::F31X3])
 }
 
 #[test]
 fn f31x5(rt: HostRuntime) -> Result<(), Fail> {
-    let extension = Extension::F31x5;
-    assert_case(&rt, extension, &Case::Constants([3, 16, 0, 1]))?;
-    assert_extension(&rt, extension, &tables::F31X5, &[])
+    assert_lines::<Plain<M31>, Binomial<F31>, 5>(&rt, &[tables::F31X5, worked::F31X5])
 }
 
 #[test]
 fn f31x6(rt: HostRuntime) -> Result<(), Fail> {
-    let extension = Extension::F31x6;
-    assert_case(&rt, extension, &Case::Constants([3, 26, 1, 0]))?;
-    assert_extension(&rt, extension, &tables::F31X6, &[])
+    assert_lines::<Plain<M31>, Binomial<F31>, 6>(&rt, &[tables::F31X6, worked::F31X6])
+}
+
+/// `agrees` of complex values over the residues modulo 31, an extension that a marker has no constants of.
+fn complex_agrees(alloc: Global, line: &str) -> Result<bool, AllocError> {
+    match Case::read(line) {
+        Some(case) => binomial_agrees::<F31, 2>(alloc, None, case),
+        None => Ok(false),
+    }
 }
 
 #[test]
 fn f31c(rt: HostRuntime) -> Result<(), Fail> {
-    let extension = Extension::F31c;
-    assert_case(&rt, extension, &Case::Constants([30, 30, 3, 2]))?;
-    assert_extension(&rt, extension, &tables::F31C, roots::F31C)
+    for table in [tables::F31C, roots::F31C, worked::F31C] {
+        for line in table.lines() {
+            assert!(rt; complex_agrees(rt.alloc(), line)?, "{line}");
+        }
+    }
+    Ok(())
 }
 
 #[test]
 fn bbx4(rt: HostRuntime) -> Result<(), Fail> {
-    let extension = Extension::BabyBearx4;
-    assert_case(&rt, extension, &Case::Constants([31, 1728404513, 0, 1]))?;
-    assert_extension(&rt, extension, &tables::BBX4, &[])
+    assert_lines::<Montgomery<BabyBearModulus>, Binomial<BabyBear>, 4>(
+        &rt,
+        &[tables::BBX4, worked::BBX4],
+    )
 }
 
 #[test]
 fn f31t3(rt: HostRuntime) -> Result<(), Fail> {
-    let extension = Extension::F31t3;
-    assert_two_adic(&rt, extension, 1, &[(1, [30, 0, 0])], &[])?;
-    assert_extension(&rt, extension, &trinomial_tables::F31T3, &[])
+    assert_lines::<Plain<M31>, CubicTrinomial, 3>(&rt, &[trinomials::F31T3, worked::F31T3])
 }
 
 #[test]
 fn f17t5(rt: HostRuntime) -> Result<(), Fail> {
-    let extension = Extension::F17t5;
-    assert_two_adic(&rt, extension, 4, &[(4, [3, 0, 0, 0, 0])], &[])?;
-    assert_extension(&rt, extension, &trinomial_tables::F17T5, &[])
+    assert_lines::<Plain<M17>, QuinticTrinomial, 5>(&rt, &[trinomials::F17T5, worked::F17T5])
 }
 
 #[test]
 fn f2t5(rt: HostRuntime) -> Result<(), Fail> {
-    let extension = Extension::F2t5;
-    assert_two_adic(&rt, extension, 0, &[(0, [1, 0, 0, 0, 0])], &[])?;
-    let inverse = Some([0, 1, 0, 0, 1]);
-    assert_value(
+    assert_lines::<Plain<M2>, QuinticTrinomial, 5>(
         &rt,
-        extension,
-        Call::InverseOrZero,
-        [0, 1, 0, 0, 0],
-        inverse,
-    )?;
-    assert_extension(&rt, extension, &trinomial_tables::F2T5, roots::F2T5)
+        &[trinomials::F2T5, roots::F2T5, worked::F2T5],
+    )
 }
 
 #[test]
 fn f2t7(rt: HostRuntime) -> Result<(), Fail> {
-    let extension = Extension::F2t7;
-    assert_two_adic(&rt, extension, 0, &[(0, [1, 0, 0, 0, 0, 0, 0])], &[])?;
-    let inverse = Some([1, 0, 0, 0, 0, 0, 1]);
-    assert_value(
+    assert_lines::<Plain<M2>, SepticTrinomial, 7>(
         &rt,
-        extension,
-        Call::InverseOrZero,
-        [0, 1, 0, 0, 0, 0, 0],
-        inverse,
-    )?;
-    assert_value(&rt, extension, Call::InverseOrZero, [0; 7], Some([0; 7]))?;
-    assert_extension(&rt, extension, &trinomial_tables::F2T7, roots::F2T7)
+        &[trinomials::F2T7, roots::F2T7, worked::F2T7],
+    )
 }

@@ -2,8 +2,9 @@
 //! have room.
 ghost use Rattle.std.specs.Prelude.{◌<◌};
 
-use crate::calls::{Case, agrees};
-use crate::lists::{List, at};
+use crate::calls::agrees;
+use crate::cases::{Call, Case, TwoAdicCall};
+use crate::lists::{List, at, list_of_text};
 use crate::two_adic_calls::two_adic_agrees;
 use crate::values::Residue;
 use p3_ext::extension::{
@@ -12,11 +13,11 @@ use p3_ext::extension::{
 };
 use std::alloc::{AllocError, Global};
 
-/// Whether the numbers of a case are what the extension of degree D by the shape S answers.
+/// Whether a call of the extension of degree D by the shape S has its answer.
 fn extension_agrees<F: FrobeniusExtendable<D, S> + Residue, S: ExtensionShape, const D: usize>(
     alloc: Global,
     room: Option<ExtField<F, D, S, F>>,
-    case: &Case,
+    case: Case<'_>,
 ) -> Result<bool, AllocError> {
     agrees::<F, ExtField<F, D, S, F>>(alloc, room, case)
 }
@@ -38,24 +39,23 @@ fn has_coefficients<F: TwoAdicExtendable<D, S> + Residue, S: ExtensionShape, con
     true
 }
 
-/// The same of the calls of two-adic generators.
+/// The same of a call of two-adic generators, and of the coefficients that the field gives.
 fn two_adic_extension_agrees<
     F: TwoAdicExtendable<D, S> + Residue,
     S: ExtensionShape,
     const D: usize,
->(room: Option<ExtField<F, D, S, F>>, case: &Case) -> bool {
-    let has_coefficients = match *case {
-        Case::TwoAdicGenerator {
-            bits,
-            generator: Some(generator),
-        } => has_coefficients::<F, S, D>(bits, &generator),
+>(room: Option<ExtField<F, D, S, F>>, call: TwoAdicCall, case: Case<'_>) -> bool {
+    let has_coefficients = match (call, list_of_text(case.answer)) {
+        (TwoAdicCall::Generator, Some(generator)) => {
+            has_coefficients::<F, S, D>(case.number(0) as usize, &generator)
+        }
         _ => true,
     };
-    has_coefficients && two_adic_agrees::<ExtField<F, D, S, F>>(room, case)
+    has_coefficients && two_adic_agrees::<ExtField<F, D, S, F>>(room, call, case)
 }
 
 /// W, the root, and the generator candidate's coefficients at 1 and X.
-fn constants<F: BinomiallyExtendable<D> + Residue, const D: usize>() -> [u64; 4]
+fn constants<F: BinomiallyExtendable<D> + Residue, const D: usize>() -> List
     requires { 1 < D }
 {
     [
@@ -63,6 +63,10 @@ fn constants<F: BinomiallyExtendable<D> + Residue, const D: usize>() -> [u64; 4]
         F::dth_root().canonical(),
         F::ext_generator(0).canonical(),
         F::ext_generator(1).canonical(),
+        0,
+        0,
+        0,
+        0,
     ]
 }
 
@@ -70,28 +74,11 @@ fn constants<F: BinomiallyExtendable<D> + Residue, const D: usize>() -> [u64; 4]
 pub fn binomial_agrees<F: BinomiallyExtendable<D> + Residue, const D: usize>(
     alloc: Global,
     room: Option<BinomialExtensionField<F, D>>,
-    case: &Case,
+    case: Case<'_>,
 ) -> Result<bool, AllocError> {
-    match *case {
-        Case::Constants(numbers) => Ok(D >= 2 && constants::<F, D>() == numbers),
+    match case.call {
+        Call::Constants => Ok(D >= 2 && case.answers(Some(constants::<F, D>()))),
         _ => extension_agrees::<F, Binomial<F>, D>(alloc, room, case),
-    }
-}
-
-/// Whether a case is of calls of two-adic generators.
-fn is_two_adic(case: &Case) -> bool {
-    match *case {
-        Case::TwoAdicity(_) => true,
-        Case::TwoAdicGenerator {
-            bits: _,
-            generator: _,
-        } => true,
-        Case::TwoAdicRoot {
-            x: _,
-            root: _,
-            turns: _,
-        } => true,
-        _ => false,
     }
 }
 
@@ -99,12 +86,13 @@ fn is_two_adic(case: &Case) -> bool {
 pub fn two_adic_binomial_agrees<F: HasTwoAdicBinomialExtension<D> + Residue, const D: usize>(
     alloc: Global,
     room: Option<BinomialExtensionField<F, D>>,
-    case: &Case,
+    case: Case<'_>,
 ) -> Result<bool, AllocError> {
-    if is_two_adic(case) {
-        Ok(two_adic_extension_agrees::<F, Binomial<F>, D>(room, case))
-    } else {
-        binomial_agrees::<F, D>(alloc, room, case)
+    match case.call {
+        Call::TwoAdic(call) => {
+            Ok(two_adic_extension_agrees::<F, Binomial<F>, D>(room, call, case))
+        }
+        _ => binomial_agrees::<F, D>(alloc, room, case),
     }
 }
 
@@ -113,10 +101,9 @@ pub fn two_adic_shape_agrees<
     F: TwoAdicExtendable<D, S> + Residue,
     S: ExtensionShape,
     const D: usize,
->(alloc: Global, room: Option<ExtField<F, D, S, F>>, case: &Case) -> Result<bool, AllocError> {
-    if is_two_adic(case) {
-        Ok(two_adic_extension_agrees::<F, S, D>(room, case))
-    } else {
-        extension_agrees::<F, S, D>(alloc, room, case)
+>(alloc: Global, room: Option<ExtField<F, D, S, F>>, case: Case<'_>) -> Result<bool, AllocError> {
+    match case.call {
+        Call::TwoAdic(call) => Ok(two_adic_extension_agrees::<F, S, D>(room, call, case)),
+        _ => extension_agrees::<F, S, D>(alloc, room, case),
     }
 }

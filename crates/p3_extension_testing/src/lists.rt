@@ -14,28 +14,19 @@ pub fn at(list: &List, index: usize) -> u64 {
     list.get(index).copied().unwrap_or(0)
 }
 
-/// Rows of as many coefficients as a degree says.
-pub trait Row: Copy {
-    /// The coefficients, and zeros from the degree on.
-    fn list(self) -> List;
-}
-
-impl<const D: usize> Row for [u64; D] {
-    fn list(self) -> List {
-        let mut list = ZERO;
-        for i in 0..D {
-            if i < MOST {
-                list[i] = self[i];
-            }
+/// The numbers of a text, which stand between commas, and zeros after them; none where one can't be read, or
+/// where there are too many.
+pub fn list_of_text(text: &str) -> Option<List> {
+    let mut list = ZERO;
+    let mut index: usize = 0;
+    for word in text.split(',') {
+        let number = word.parse::<u64>().ok()?;
+        if index < MOST {
+            list[index] = number;
+        } else {
+            return None;
         }
-        list
+        index = index.wrapping_add(1);
     }
-}
-
-/// The coefficients of an answer.
-pub fn list_of_row<R: Row>(answer: Option<R>) -> Option<List> {
-    match answer {
-        Some(row) => Some(row.list()),
-        None => None,
-    }
+    Some(list)
 }

@@ -1,24 +1,25 @@
 //! The calls of the extensions at the markers of fields, implemented once for all fields: a call at a
 //! marker's own name passes the field's constants alone.
 
-use crate::calls::Case;
+use crate::cases::Case;
 use crate::fields::{binomial_agrees, two_adic_binomial_agrees, two_adic_shape_agrees};
 use p3_bench_prime::binomial_constants::BinomialConstants;
 use p3_bench_prime::form::{Form, OverModulus};
 use p3_bench_prime::fp::Fp;
 use p3_bench_prime::two_adic_constants::{TwoAdicBinomialConstants, TwoAdicPolynomialConstants};
-use p3_ext::extension::{
-    Binomial, BinomialExtensionField, ExtField, ExtensionShape, IntegerPolynomial, Modulo,
-};
+use p3_ext::extension::{Binomial, BinomialExtensionField, ExtField, IntegerPolynomial, Modulo};
 use std::alloc::{AllocError, Global};
 
+/// The extension by `X^D = W` that has two-adic generators.
+pub struct TwoAdicBinomial;
+
 /// The calls at the extension of degree D by the shape S.
-pub trait Calls<S: ExtensionShape, const D: usize>: Form<u32> {
+pub trait Calls<S, const D: usize>: Form<u32> {
     /// The values. Of an associated type it is known that its values have room.
     type Value: Copy;
 
-    /// Whether the numbers of a case are what the calls answer. Nothing is read of `room`.
-    fn agrees(alloc: Global, room: Option<Self::Value>, case: &Case) -> Result<bool, AllocError>;
+    /// Whether a call has its answer. Nothing is read of `room`.
+    fn agrees(alloc: Global, room: Option<Self::Value>, case: Case<'_>) -> Result<bool, AllocError>;
 }
 
 impl<W: OverModulus<u32>, const D: usize> Calls<Binomial<Fp<W>>, D> for W
@@ -30,7 +31,7 @@ where
     fn agrees(
         alloc: Global,
         room: Option<BinomialExtensionField<Fp<W>, D>>,
-        case: &Case,
+        case: Case<'_>,
     ) -> Result<bool, AllocError> {
         binomial_agrees::<Fp<W>, D>(alloc, room, case)
     }
@@ -45,22 +46,13 @@ where
     fn agrees(
         alloc: Global,
         room: Option<ExtField<Fp<W>, D, Modulo<S, D>, Fp<W>>>,
-        case: &Case,
+        case: Case<'_>,
     ) -> Result<bool, AllocError> {
         two_adic_shape_agrees::<Fp<W>, Modulo<S, D>, D>(alloc, room, case)
     }
 }
 
-/// The calls at the extension by `X^D = W` that has two-adic generators, these among them.
-pub trait TwoAdicCalls<const D: usize>: Form<u32> {
-    /// The values. Of an associated type it is known that its values have room.
-    type Value: Copy;
-
-    /// Whether the numbers of a case are what the calls answer. Nothing is read of `room`.
-    fn agrees(alloc: Global, room: Option<Self::Value>, case: &Case) -> Result<bool, AllocError>;
-}
-
-impl<W: OverModulus<u32>, const D: usize> TwoAdicCalls<D> for W
+impl<W: OverModulus<u32>, const D: usize> Calls<TwoAdicBinomial, D> for W
 where
     W::Modulus: TwoAdicBinomialConstants<D>,
 {
@@ -69,7 +61,7 @@ where
     fn agrees(
         alloc: Global,
         room: Option<BinomialExtensionField<Fp<W>, D>>,
-        case: &Case,
+        case: Case<'_>,
     ) -> Result<bool, AllocError> {
         two_adic_binomial_agrees::<Fp<W>, D>(alloc, room, case)
     }

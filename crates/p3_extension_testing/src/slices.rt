@@ -1,8 +1,9 @@
 //! Worked products and squares over slices. What writes to a slice does so where ones were.
 
-use crate::lists::{List, MOST, Row, ZERO};
-use crate::septic_tables as septic;
+use crate::cases::part;
+use crate::lists::{List, MOST, ZERO, list_of_text};
 use crate::values::{Residue, coefficients};
+use crate::{septic_tables as septic, slice_tables as worked};
 use p3_bench_prime::baby_bear::BabyBearModulus;
 use p3_bench_prime::form::{Form, Plain};
 use p3_bench_prime::fp::Fp;
@@ -17,9 +18,9 @@ use p3_ext::extension::{
 use p3_ring::ring::PrimeCharacteristicRing;
 use std::process::Abort;
 
-/// What is computed from two lists of coefficients, a and b.
+/// What is computed from two lists of coefficients, a and b, and W.
 #[derive(Clone, Copy)]
-enum Call {
+enum BinomialCall {
     /// The product at degree 4, by the call for any degree.
     ProductOfFour,
     /// The product at degree 6, by the call for any degree.
@@ -28,22 +29,65 @@ enum Call {
     SquareOfFour,
     /// The square of a at degree 6, by the call for any degree.
     SquareOfSix,
-    /// The product at degree 4.
     QuarticProduct,
-    /// The product at degree 5.
     QuinticProduct,
-    /// The product at degree 8.
     OcticProduct,
-    /// The product by the cubic trinomial, or the square of b written over it.
-    CubicTrinomial { is_square: bool },
-    /// The product by the quintic trinomial, or the square of b written over it.
-    QuinticTrinomial { is_square: bool },
-    /// The product by the septic trinomial, or the square of a written over it.
-    SepticTrinomial { is_square: bool },
-    /// The sum of two vectors.
+}
+
+/// What is computed from two lists of coefficients, a and b.
+#[derive(Clone, Copy)]
+enum Call {
+    Binomial(BinomialCall),
+    CubicProduct,
+    /// The square of b, written over the product.
+    CubicSquare,
+    QuinticProduct,
+    /// The square of b, written over the product.
+    QuinticSquare,
+    SepticProduct,
+    /// The square of a, written over the product.
+    SepticSquare,
     Sum,
-    /// The difference of two vectors.
     Difference,
+}
+
+/// The calls by their names.
+static CALLS: [(&str, Call); 15] = [
+    (
+        "binomial_mul 4",
+        Call::Binomial(BinomialCall::ProductOfFour),
+    ),
+    ("binomial_mul 6", Call::Binomial(BinomialCall::ProductOfSix)),
+    (
+        "binomial_square 4",
+        Call::Binomial(BinomialCall::SquareOfFour),
+    ),
+    (
+        "binomial_square 6",
+        Call::Binomial(BinomialCall::SquareOfSix),
+    ),
+    ("quartic_mul", Call::Binomial(BinomialCall::QuarticProduct)),
+    ("quintic_mul", Call::Binomial(BinomialCall::QuinticProduct)),
+    ("octic_mul", Call::Binomial(BinomialCall::OcticProduct)),
+    ("trinomial_cubic_mul", Call::CubicProduct),
+    ("cubic_square", Call::CubicSquare),
+    ("trinomial_quintic_mul", Call::QuinticProduct),
+    ("quintic_square", Call::QuinticSquare),
+    ("trinomial_septic_mul", Call::SepticProduct),
+    ("septic_square", Call::SepticSquare),
+    ("vector_add", Call::Sum),
+    ("vector_sub", Call::Difference),
+];
+
+/// The call of a name.
+fn call_of(name: &str) -> Option<Call> {
+    for row in CALLS {
+        let (known, call) = row;
+        if known == name {
+            return Some(call);
+        }
+    }
+    None
 }
 
 /// The canonical numbers of coefficients.
@@ -123,63 +167,55 @@ fn septic_results<R: PrimeCharacteristicRing>(a: [R; 7], b: [R; 7]) -> ([R; 7], 
     (product, res)
 }
 
-/// The first of two lists, or the second one.
-fn either<R: Residue, const N: usize>(lists: ([R; N], [R; N]), is_second: bool) -> List {
-    if is_second {
-        numbers(lists.1)
-    } else {
-        numbers(lists.0)
-    }
-}
-
 /// The numbers of what a call answers that takes a w. Nothing is read of `_list`, which tells that lists have
 /// room.
 fn binomial_answer<R: PrimeCharacteristicRing + Residue>(
     _list: Option<[R; MOST]>,
-    call: Call,
+    call: BinomialCall,
     a: &List,
     b: &List,
     w: R,
 ) -> List {
     match call {
-        Call::ProductOfFour => numbers(product::<R, 4>(coefficients(a), coefficients(b), w)),
-        Call::ProductOfSix => numbers(product::<R, 6>(coefficients(a), coefficients(b), w)),
-        Call::SquareOfFour => numbers(square::<R, 4>(coefficients(a), w)),
-        Call::SquareOfSix => numbers(square::<R, 6>(coefficients(a), w)),
-        Call::QuarticProduct => numbers(quartic_product(coefficients(a), coefficients(b), w)),
-        Call::QuinticProduct => numbers(quintic_product(coefficients(a), coefficients(b), w)),
-        _ => numbers(octic_product(coefficients(a), coefficients(b), w)),
+        BinomialCall::ProductOfFour => {
+            numbers(product::<R, 4>(coefficients(a), coefficients(b), w))
+        }
+        BinomialCall::ProductOfSix => {
+            numbers(product::<R, 6>(coefficients(a), coefficients(b), w))
+        }
+        BinomialCall::SquareOfFour => numbers(square::<R, 4>(coefficients(a), w)),
+        BinomialCall::SquareOfSix => numbers(square::<R, 6>(coefficients(a), w)),
+        BinomialCall::QuarticProduct => {
+            numbers(quartic_product(coefficients(a), coefficients(b), w))
+        }
+        BinomialCall::QuinticProduct => {
+            numbers(quintic_product(coefficients(a), coefficients(b), w))
+        }
+        BinomialCall::OcticProduct => numbers(octic_product(coefficients(a), coefficients(b), w)),
     }
 }
 
-/// The numbers of what a call answers. Nothing is read of `list`.
+/// The numbers of what a call answers; W is 3. Nothing is read of `list`.
 fn answer<R: PrimeCharacteristicRing + Residue>(
     list: Option<[R; MOST]>,
     call: Call,
     a: &List,
     b: &List,
-    w: u64,
 ) -> List {
     match call {
-        Call::CubicTrinomial { is_square } => either(
-            cubic_results::<R>(coefficients(a), coefficients(b)),
-            is_square,
-        ),
-        Call::QuinticTrinomial { is_square } => either(
-            quintic_results::<R>(coefficients(a), coefficients(b)),
-            is_square,
-        ),
-        Call::SepticTrinomial { is_square } => either(
-            septic_results::<R>(coefficients(a), coefficients(b)),
-            is_square,
-        ),
+        Call::Binomial(call) => binomial_answer(list, call, a, b, R::residue(3)),
+        Call::CubicProduct => numbers(cubic_results::<R>(coefficients(a), coefficients(b)).0),
+        Call::CubicSquare => numbers(cubic_results::<R>(coefficients(a), coefficients(b)).1),
+        Call::QuinticProduct => numbers(quintic_results::<R>(coefficients(a), coefficients(b)).0),
+        Call::QuinticSquare => numbers(quintic_results::<R>(coefficients(a), coefficients(b)).1),
+        Call::SepticProduct => numbers(septic_results::<R>(coefficients(a), coefficients(b)).0),
+        Call::SepticSquare => numbers(septic_results::<R>(coefficients(a), coefficients(b)).1),
         Call::Sum => numbers(vector_add::<R, R, 2>(&coefficients(a), &coefficients(b))),
         Call::Difference => numbers(vector_sub::<R, R, 2>(&coefficients(a), &coefficients(b))),
-        _ => binomial_answer(list, call, a, b, R::residue(w)),
     }
 }
 
-/// The rings, by their names.
+/// The rings.
 #[derive(Clone, Copy)]
 enum Ring {
     F2,
@@ -190,139 +226,81 @@ enum Ring {
     Goldilocks,
 }
 
+/// The rings by their names.
+static RINGS: [(&str, Ring); 6] = [
+    ("f2", Ring::F2),
+    ("f17", Ring::F17),
+    ("f31", Ring::F31),
+    ("z15", Ring::Z15),
+    ("bb", Ring::BabyBear),
+    ("gl", Ring::Goldilocks),
+];
+
+/// The ring of a name.
+fn ring_of(name: &str) -> Option<Ring> {
+    for row in RINGS {
+        let (known, ring) = row;
+        if known == name {
+            return Some(ring);
+        }
+    }
+    None
+}
+
 /// `answer` for the residues of a marker.
-fn answer_at<W: Form<u32>>(call: Call, a: &List, b: &List, w: u64) -> List {
-    answer::<Fp<W>>(None, call, a, b, w)
+fn answer_at<W: Form<u32>>(call: Call, a: &List, b: &List) -> List {
+    answer::<Fp<W>>(None, call, a, b)
 }
 
 /// `answer` for a ring that has a name.
-fn answer_in(ring: Ring, call: Call, a: &List, b: &List, w: u64) -> List {
+fn answer_in(ring: Ring, call: Call, a: &List, b: &List) -> List {
     match ring {
-        Ring::F2 => answer_at::<Plain<M2>>(call, a, b, w),
-        Ring::F17 => answer_at::<Plain<M17>>(call, a, b, w),
-        Ring::F31 => answer_at::<Plain<M31>>(call, a, b, w),
-        Ring::Z15 => answer_at::<Plain<M15>>(call, a, b, w),
-        Ring::BabyBear => answer_at::<Montgomery<BabyBearModulus>>(call, a, b, w),
-        Ring::Goldilocks => answer::<Goldilocks>(None, call, a, b, w),
+        Ring::F2 => answer_at::<Plain<M2>>(call, a, b),
+        Ring::F17 => answer_at::<Plain<M17>>(call, a, b),
+        Ring::F31 => answer_at::<Plain<M31>>(call, a, b),
+        Ring::Z15 => answer_at::<Plain<M15>>(call, a, b),
+        Ring::BabyBear => answer_at::<Montgomery<BabyBearModulus>>(call, a, b),
+        Ring::Goldilocks => answer::<Goldilocks>(None, call, a, b),
     }
 }
 
-/// Asserts the numbers of what a call with the w 3 answers.
-fn assert_answer<R: Row>(rt: &impl Abort, ring: Ring, call: Call, a: R, b: R, expected: R) {
-    let answer = answer_in(ring, call, &a.list(), &b.list(), 3);
-    assert!(rt; answer == expected.list());
+/// Whether the call of a line like `f17 vector_add;1,2|16,5;0,7` has its answer; none where the line can't be
+/// read or names no call.
+fn agrees(line: &str) -> Option<bool> {
+    let (head, sides) = line.split_once(';')?;
+    let (arguments, answer) = sides.split_once(';')?;
+    let (ring, call) = head.split_once(' ')?;
+    let a = list_of_text(part(arguments, 0))?;
+    let b = list_of_text(part(arguments, 1))?;
+    let told = list_of_text(answer)?;
+    let found = answer_in(ring_of(ring)?, call_of(call)?, &a, &b);
+    Some(found == told)
 }
 
-#[test]
-fn products_where_something_was(rt: HostRuntime) {
-    let high = [0, 0, 0, 0, 0, 1];
-    let x = [0, 1, 0, 0, 0, 0];
-    assert_answer(
-        &rt,
-        Ring::F31,
-        Call::ProductOfSix,
-        high,
-        x,
-        [4, 1, 1, 1, 1, 1],
-    );
-    let high = [0, 0, 0, 1];
-    assert_answer(
-        &rt,
-        Ring::F17,
-        Call::ProductOfFour,
-        high,
-        [0, 1, 0, 0],
-        [3, 0, 0, 0],
-    );
-}
-
-#[test]
-fn squares_where_something_was(rt: HostRuntime) {
-    let cube = [0, 0, 0, 1, 0, 0];
-    assert_answer(
-        &rt,
-        Ring::F31,
-        Call::SquareOfSix,
-        cube,
-        [0; 6],
-        [4, 1, 1, 1, 1, 1],
-    );
-    let square = [0, 0, 1, 0];
-    assert_answer(
-        &rt,
-        Ring::F17,
-        Call::SquareOfFour,
-        square,
-        [0; 4],
-        [3, 0, 0, 0],
-    );
-}
-
-#[test]
-fn products_of_fixed_degrees(rt: HostRuntime) {
-    let high = [0, 0, 0, 1];
-    assert_answer(
-        &rt,
-        Ring::F17,
-        Call::QuarticProduct,
-        high,
-        [0, 1, 0, 0],
-        [3, 0, 0, 0],
-    );
-    let high = [0, 0, 0, 0, 1];
-    let square = [0, 0, 1, 0, 0];
-    assert_answer(
-        &rt,
-        Ring::F31,
-        Call::QuinticProduct,
-        high,
-        square,
-        [0, 3, 0, 0, 0],
-    );
-    let high = [0, 0, 0, 0, 0, 0, 0, 1];
-    assert_answer(
-        &rt,
-        Ring::F17,
-        Call::OcticProduct,
-        high,
-        high,
-        [0, 0, 0, 0, 0, 0, 3, 0],
-    );
-}
-
-#[test]
-fn trinomial_products(rt: HostRuntime) {
-    for is_square in [false, true] {
-        let call = Call::QuinticTrinomial { is_square };
-        let high = [0, 0, 0, 0, 1];
-        assert_answer(&rt, Ring::F17, call, high, high, [16, 0, 1, 1, 0]);
-        let call = Call::CubicTrinomial { is_square };
-        assert_answer(&rt, Ring::F31, call, [0, 0, 1], [0, 0, 1], [0, 1, 1]);
+/// Asserts that the call of each line has its answer.
+fn assert_lines(rt: &impl Abort, table: &str) {
+    for line in table.lines() {
+        assert!(rt; agrees(line) == Some(true), "{line}");
     }
 }
 
-/// Asserts the products and the squares of a table.
-fn assert_septic(rt: &impl Abort, ring: Ring, table: &[septic::Products]) {
-    for row in table {
-        let (a, b, product, square) = *row;
-        let call = Call::SepticTrinomial { is_square: false };
-        assert_answer(rt, ring, call, a, b, product);
-        let call = Call::SepticTrinomial { is_square: true };
-        assert_answer(rt, ring, call, a, b, square);
-    }
+#[test]
+fn products_and_squares(rt: HostRuntime) {
+    assert_lines(&rt, worked::WHERE_ONES_WERE);
+    assert_lines(&rt, worked::OF_ONE_DEGREE);
+    assert_lines(&rt, worked::BY_TRINOMIALS);
 }
 
 #[test]
 fn septic_products(rt: HostRuntime) {
-    assert_septic(&rt, Ring::F2, septic::F2);
-    assert_septic(&rt, Ring::F17, septic::F17);
-    assert_septic(&rt, Ring::Z15, septic::Z15);
-    assert_septic(&rt, Ring::BabyBear, septic::BABY_BEAR);
-    assert_septic(&rt, Ring::Goldilocks, septic::GOLDILOCKS);
+    assert_lines(&rt, septic::F2);
+    assert_lines(&rt, septic::F17);
+    assert_lines(&rt, septic::Z15);
+    assert_lines(&rt, septic::BABY_BEAR);
+    assert_lines(&rt, septic::GOLDILOCKS);
 }
 
 #[test]
 fn vectors(rt: HostRuntime) {
-    assert_answer(&rt, Ring::F17, Call::Sum, [1, 2], [16, 5], [0, 7]);
-    assert_answer(&rt, Ring::F17, Call::Difference, [1, 2], [16, 5], [2, 14]);
+    assert_lines(&rt, worked::OF_VECTORS);
 }

@@ -1,8 +1,8 @@
 //! Counted square roots: worked examples by hand, and the values of `square_root_tables`.
 ghost use Rattle.std.proofs.Common.{lit<};
 
+use crate::cases::part;
 use crate::square_root_tables as tables;
-use crate::square_root_tables::Root;
 use crate::values::Residue;
 use p3_base::field::{Field, TwoAdicField};
 use p3_base::sqrt::{tonelli_shanks_counted, tonelli_shanks_two_adic_counted};
@@ -72,59 +72,76 @@ where
     two_adic_counted::<Fp<W>>(x)
 }
 
-/// Asserts that each row has a value, the root that is answered, if one is, and the turns.
-fn assert_roots<W: Form<u32>>(rt: &impl Abort, rows: &[Root<u64>]) {
-    for row in rows {
-        let (x, answer, turns) = *row;
-        assert_eq!(rt; root::<W>(x), Some((answer, turns)), "{x}");
+/// What a line like `13;8|3` tells: a value, the root that is answered, if one is, and the turns.
+fn row(line: &str) -> Option<(u64, Option<u64>, u32)> {
+    let (value, answer) = line.split_once(';')?;
+    let root = match part(answer, 0) {
+        "None" => None,
+        number => Some(number.parse::<u64>().ok()?),
+    };
+    Some((
+        value.parse::<u64>().ok()?,
+        root,
+        part(answer, 1).parse::<u32>().ok()?,
+    ))
+}
+
+/// Whether the root and the turns of a line are what the search at a marker answers.
+fn agrees<W: Form<u32>>(line: &str) -> bool {
+    match row(line) {
+        Some((x, answer, turns)) => root::<W>(x) == Some((answer, turns)),
+        None => false,
     }
 }
 
 /// The same of the search by the greatest two-adic generator.
-fn assert_two_adic_roots<W: OverModulus<u32>>(rt: &impl Abort, rows: &[Root<u64>])
+fn two_adic_agrees<W: OverModulus<u32>>(line: &str) -> bool
 where
     W::Modulus: TwoAdicConstants,
 {
-    for row in rows {
-        let (x, answer, turns) = *row;
-        assert_eq!(rt; two_adic_root::<W>(x), Some((answer, turns)), "{x}");
+    match row(line) {
+        Some((x, answer, turns)) => two_adic_root::<W>(x) == Some((answer, turns)),
+        None => false,
+    }
+}
+
+/// Asserts that each line has a value, the root that is answered, if one is, and the turns.
+fn assert_roots<W: Form<u32>>(rt: &impl Abort, table: &str) {
+    for line in table.lines() {
+        assert!(rt; agrees::<W>(line), "{line}");
+    }
+}
+
+/// The same of the search by the greatest two-adic generator.
+fn assert_two_adic_roots<W: OverModulus<u32>>(rt: &impl Abort, table: &str)
+where
+    W::Modulus: TwoAdicConstants,
+{
+    for line in table.lines() {
+        assert!(rt; two_adic_agrees::<W>(line), "{line}");
     }
 }
 
 #[test]
 fn residues_of_order_17(rt: HostRuntime) {
-    let rows = [
-        (13, Some(8), 3),
-        (3, None, 4),
-        (0, Some(0), 0),
-        (2, Some(6), 3),
-    ];
-    assert_roots::<Plain<M17>>(&rt, &rows);
-    assert_roots::<Plain<M17b>>(&rt, &[(16, Some(4), 1)]);
+    assert_roots::<Plain<M17>>(&rt, tables::WORKED_F17);
+    assert_roots::<Plain<M17>>(&rt, tables::F17);
+    assert_two_adic_roots::<Plain<M17>>(&rt, tables::F17_TWO_ADIC);
+    assert_roots::<Plain<M17b>>(&rt, tables::WORKED_F17B);
 }
 
 #[test]
 fn residues(rt: HostRuntime) {
-    assert_roots::<Plain<M31>>(&rt, &[(2, Some(8), 0), (3, None, 1)]);
-    assert_roots::<Plain<M2>>(&rt, &[(1, Some(1), 0)]);
+    assert_roots::<Plain<M31>>(&rt, tables::WORKED_F31);
+    assert_roots::<Plain<M31>>(&rt, tables::F31);
+    assert_two_adic_roots::<Plain<M31>>(&rt, tables::F31_TWO_ADIC);
+    assert_roots::<Plain<M2>>(&rt, tables::WORKED_F2);
 }
 
 #[test]
 fn residues_of_composite_orders(rt: HostRuntime) {
-    assert_roots::<Plain<M15>>(&rt, &[(4, None, 1)]);
-    assert_roots::<Plain<M4>>(&rt, &[(2, None, 0), (3, None, 0)]);
-}
-
-#[test]
-fn residues_of_tables(rt: HostRuntime) {
-    assert_roots::<Plain<M17>>(&rt, tables::F17);
-    assert_roots::<Plain<M31>>(&rt, tables::F31);
+    assert_roots::<Plain<M15>>(&rt, tables::WORKED_Z15);
     assert_roots::<Plain<M15>>(&rt, tables::Z15);
-}
-
-#[test]
-fn two_adic_residues_of_tables(rt: HostRuntime) {
-    assert_two_adic_roots::<Plain<M17>>(&rt, tables::F17_TWO_ADIC);
-    assert_two_adic_roots::<Plain<M31>>(&rt, tables::F31_TWO_ADIC);
     assert_two_adic_roots::<Plain<M15>>(&rt, tables::Z15_TWO_ADIC);
+    assert_roots::<Plain<M4>>(&rt, tables::WORKED_Z4);
 }

@@ -1,7 +1,7 @@
 //! The calls of values of a field that has two-adic generators.
 
-use crate::calls::{Case, list_of};
-use crate::lists::List;
+use crate::calls::list_of;
+use crate::cases::{Case, TwoAdicCall};
 use crate::values::Listed;
 use p3_base::field::TwoAdicField;
 use p3_base::sqrt::tonelli_shanks_two_adic_counted;
@@ -15,25 +15,26 @@ fn generator<T: TwoAdicField>(bits: usize) -> Option<T> {
     }
 }
 
-/// Whether the root and the turns that the search by the greatest generator answers are these.
-fn has_root<T: TwoAdicField + Listed>(x: T, root: Option<List>, turns: u32) -> bool {
+/// Whether the root and the turns that the search by the greatest generator answers are the answer.
+fn root_agrees<T: TwoAdicField + Listed>(case: Case<'_>) -> bool {
     match T::order() {
         Some(_) => {
-            let (answer, count) = tonelli_shanks_two_adic_counted(x);
-            list_of(answer) == root && count.count() == turns
+            let (root, turns) = tonelli_shanks_two_adic_counted(T::of_list(&case.list(0)));
+            case.answers_root(list_of(root), turns.count())
         }
         None => false,
     }
 }
 
-/// Whether the numbers of a case are what the calls answer. Nothing is read of `_room`, which tells that
-/// values have room. False where the case is of no call here.
-pub fn two_adic_agrees<T: TwoAdicField + Listed>(_room: Option<T>, case: &Case) -> bool {
-    match *case {
-        Case::TwoAdicity(bits) => T::TWO_ADICITY == bits,
-        Case::TwoAdicGenerator { bits, generator } => list_of(self::generator::<T>(bits))
-            == generator,
-        Case::TwoAdicRoot { x, root, turns } => has_root(T::of_list(&x), root, turns),
-        _ => false,
+/// Whether a call has its answer. Nothing is read of `_room`, which tells that values have room.
+pub fn two_adic_agrees<T: TwoAdicField + Listed>(
+    _room: Option<T>,
+    call: TwoAdicCall,
+    case: Case<'_>,
+) -> bool {
+    match call {
+        TwoAdicCall::TwoAdicity => case.answer.parse::<usize>() == Ok(T::TWO_ADICITY),
+        TwoAdicCall::Generator => { case.answers(list_of(generator::<T>(case.number(0) as usize))) }
+        TwoAdicCall::Root => root_agrees::<T>(case),
     }
 }
