@@ -114,13 +114,7 @@ pub extern "C" fn p3_gl_scale(values: &mut [u64], factor: u64) -> i32
 pub extern "C" fn p3_gl_add_scaled(left: &mut [u64], right: &[u64], factor: u64) -> i32
     ensures { Tells (WritesScaledPairs ⟦<Goldilocks as Stored<u64>>⟧.words (λ c x y. ⟦<Goldilocks as PrimeCharacteristicRing>⟧.ops.add x (⟦<Goldilocks as PrimeCharacteristicRing>⟧.ops.mul y c)) factor left.old right.now left.new) result }
 {
-    status(pairs::add_scaled::<Goldilocks, u64>(
-        left,
-        right,
-        factor,
-        &mut left_room,
-        &mut right_room,
-    ))
+    status(pairs::add_scaled::<Goldilocks, u64>(left, right, factor))
 }
 
 /// The value at the point of the polynomial with these coefficients, the constant one first.

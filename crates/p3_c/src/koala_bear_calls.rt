@@ -118,13 +118,7 @@ pub extern "C" fn p3_kb_scale(values: &mut [u32], factor: u32) -> i32
 pub extern "C" fn p3_kb_add_scaled(left: &mut [u32], right: &[u32], factor: u32) -> i32
     ensures { Tells (WritesScaledPairs ⟦<KoalaBear as Stored<u32>>⟧.words (λ c x y. ⟦<KoalaBear as PrimeCharacteristicRing>⟧.ops.add x (⟦<KoalaBear as PrimeCharacteristicRing>⟧.ops.mul y c)) factor left.old right.now left.new) result }
 {
-    status(pairs::add_scaled::<KoalaBear, u32>(
-        left,
-        right,
-        factor,
-        &mut left_room,
-        &mut right_room,
-    ))
+    status(pairs::add_scaled::<KoalaBear, u32>(left, right, factor))
 }
 
 /// The value at the point of the polynomial with these coefficients, the constant one first.
