@@ -1,37 +1,44 @@
 //! Columns of rows as packings, and back, told by the rows of tables.
 ghost use Rattle.std.specs.Prelude.{◌≡◌, length};
 
+use crate::calls::ColumnCall;
 use crate::rows::{Row, entry, holds, packing, word};
-use p3_base::field::Field;
-use p3_base::packed_traits::{PackedField, PackedValue};
+use p3_base::packed_traits::PackedValue;
 use p3_columns::columns::{pack_columns, pack_columns_fn, unpack_into};
 use p3_columns::unpacked_rows::{UnpackedRows, unpack_iter};
 use p3_ring::ring::PrimeCharacteristicRing;
 use std::alloc::{AllocError, Global};
 
 /// The N values of a text, zero past its end.
-fn array<F: Field, const N: usize>(text: &str) -> [F; N] {
+fn array<F: PrimeCharacteristicRing, const N: usize>(text: &str) -> [F; N] {
     std::array::from_fn(|c: usize| -> F { entry::<F>(text, c) })
 }
 
 /// The arrays of N values of a text.
-fn arrays<F: Field, const N: usize>(
+fn arrays<F: PrimeCharacteristicRing, const N: usize>(
     alloc: Global,
     _array: &[[F; N]],
     text: &str,
 ) -> Result<Vec<[F; N]>, AllocError> {
-    text.split_ascii_whitespace()
-        .map(|word: &str| -> [F; N] { array::<F, N>(word) })
-        .collect(alloc)
+    let mut arrays = Vec::new(alloc);
+    for word in text.split_ascii_whitespace() {
+        arrays.push(array::<F, N>(word))?;
+    }
+    Ok(arrays)
 }
 
 /// The packings of a text.
-fn columns<F: Field, P: PackedField<F>, const N: usize>(text: &str) -> [P; N] {
+fn columns<F: PrimeCharacteristicRing, P: PackedValue<Value = F>, const N: usize>(
+    text: &str,
+) -> [P; N] {
     std::array::from_fn(|c: usize| -> P { packing::<F, P>(word(text, c)) })
 }
 
 /// Whether the packings hold the values of a text, word by word.
-fn all_hold<F: Field, P: PackedField<F>, const N: usize>(packings: [P; N], text: &str) -> bool {
+fn all_hold<F: PrimeCharacteristicRing + PartialEq, P: PackedValue<Value = F>, const N: usize>(
+    packings: [P; N],
+    text: &str,
+) -> bool {
     for c in 0..N {
         let packing = packings[c];
         if !holds::<F, P>(&packing, word(text, c)) {
@@ -42,7 +49,7 @@ fn all_hold<F: Field, P: PackedField<F>, const N: usize>(packings: [P; N], text:
 }
 
 /// The packings of the columns of what a closure answers, the rows of a text.
-fn called_columns<F: Field, P: PackedField<F>, const N: usize>(
+fn called_columns<F: PrimeCharacteristicRing, P: PackedValue<Value = F>, const N: usize>(
     _array: &[[F; N]],
     text: &str,
 ) -> [P; N] {
@@ -51,7 +58,7 @@ fn called_columns<F: Field, P: PackedField<F>, const N: usize>(
 
 /// Whether the columns of rows are the packings of a text, by both calls. Signatures name the arrays, of
 /// which it is known then that they have room.
-fn packed_agree<F: Field, P: PackedField<F>, const N: usize>(
+fn packed_agree<F: PrimeCharacteristicRing + PartialEq, P: PackedValue<Value = F>, const N: usize>(
     alloc: Global,
     array: &[[F; N]],
     _column: &[[P; N]],
@@ -67,7 +74,11 @@ fn packed_agree<F: Field, P: PackedField<F>, const N: usize>(
 }
 
 /// Whether the rows of packings are those of a text, written to a slice and one after the other.
-fn unpacked_agree<F: Field, P: PackedField<F>, const N: usize>(
+fn unpacked_agree<
+    F: PrimeCharacteristicRing + PartialEq,
+    P: PackedValue<Value = F>,
+    const N: usize,
+>(
     alloc: Global,
     array: &[[F; N]],
     _rows: Option<UnpackedRows<P, N>>,
@@ -89,20 +100,20 @@ fn unpacked_agree<F: Field, P: PackedField<F>, const N: usize>(
 }
 
 /// Whether packing columns, or unpacking them, gives the packings or rows of a text.
-fn columns_agree<F: Field, P: PackedField<F>, const N: usize>(
+fn columns_agree<F: PrimeCharacteristicRing + PartialEq, P: PackedValue<Value = F>, const N: usize>(
     alloc: Global,
     array: &[[F; N]],
     column: &[[P; N]],
     rows: Option<UnpackedRows<P, N>>,
+    call: ColumnCall,
     row: Row<'_>,
 ) -> Result<Option<bool>, AllocError> {
-    match word(row.call, 0) {
-        "pack_columns" => packed_agree::<F, P, N>(alloc, array, column, row),
-        "unpack_into" => {
+    match call {
+        ColumnCall::Pack(_) => packed_agree::<F, P, N>(alloc, array, column, row),
+        ColumnCall::Unpack(_) => {
             let packed = columns::<F, P, N>(row.arguments);
             unpacked_agree::<F, P, N>(alloc, array, rows, packed, row.answer)
         }
-        _ => Ok(None),
     }
 }
 
@@ -117,17 +128,22 @@ pub(crate) type Rooms<F, P> = (
     UnpackedRows<P, 5>,
 );
 
-/// `columns_agree` at the number of columns, the call's second word. Nothing is read of `_rooms`.
-pub(crate) fn counted_columns_agree<F: Field, P: PackedField<F>>(
+/// `columns_agree` at the call's number of columns. Nothing is read of `_rooms`.
+pub(crate) fn counted_columns_agree<
+    F: PrimeCharacteristicRing + PartialEq,
+    P: PackedValue<Value = F>,
+>(
     alloc: Global,
     _rooms: Option<Rooms<F, P>>,
+    call: ColumnCall,
     row: Row<'_>,
 ) -> Result<Option<bool>, AllocError> {
-    match word(row.call, 1) {
-        "1" => columns_agree::<F, P, 1>(alloc, &[], &[], None, row),
-        "2" => columns_agree::<F, P, 2>(alloc, &[], &[], None, row),
-        "3" => columns_agree::<F, P, 3>(alloc, &[], &[], None, row),
-        "5" => columns_agree::<F, P, 5>(alloc, &[], &[], None, row),
+    let (ColumnCall::Pack(count) | ColumnCall::Unpack(count)) = call;
+    match count {
+        1 => columns_agree::<F, P, 1>(alloc, &[], &[], None, call, row),
+        2 => columns_agree::<F, P, 2>(alloc, &[], &[], None, call, row),
+        3 => columns_agree::<F, P, 3>(alloc, &[], &[], None, call, row),
+        5 => columns_agree::<F, P, 5>(alloc, &[], &[], None, call, row),
         _ => Ok(None),
     }
 }

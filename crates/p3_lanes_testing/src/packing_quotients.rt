@@ -5,10 +5,11 @@ ghost use Rattle.p3_theory.specs.Rings.Ring.{Invertible};
 use crate::rows::value_at;
 use p3_base::field::Field;
 use p3_base::packed_traits::{PackedField, PackedValue};
+use p3_ring::packed_ring::PackedRing;
 use p3_ring::ring::{Algebra, PrimeCharacteristicRing};
 
 /// The packing of the inverses of the lanes, zero where a lane has none.
-fn lane_inverses<F: Field, P: PackedField<F>>(packing: &P) -> P {
+fn lane_inverses<F: Field, P: PackedValue<Value = F>>(packing: &P) -> P {
     P::from_fn(
         |lane: usize| -> F
             requires { lane < P.WIDTH }
@@ -20,7 +21,7 @@ fn lane_inverses<F: Field, P: PackedField<F>>(packing: &P) -> P {
 }
 
 /// Whether each lane is one.
-fn lanes_are_one<F: Field, P: PackedField<F>>(packing: P) -> bool
+fn lanes_are_one<F: Field, P: PackedRing<F>>(packing: P) -> bool
     ensures { IsTrue result → packing ≡ P.ops.one }
 {
     for lane in 0..P::WIDTH {
@@ -33,7 +34,7 @@ fn lanes_are_one<F: Field, P: PackedField<F>>(packing: P) -> bool
 }
 
 /// Whether each lane has an inverse.
-fn lanes_have_inverses<F: Field, P: PackedField<F>>(packing: P) -> bool
+fn lanes_have_inverses<F: Field, P: PackedRing<F>>(packing: P) -> bool
     ensures { IsTrue result → Invertible P.ops packing }
 {
     let inverses = lane_inverses::<F, P>(&packing);

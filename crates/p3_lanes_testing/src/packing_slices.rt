@@ -4,6 +4,7 @@ ghost use Rattle.std.specs.Prelude.{◌≤◌, ◌+◌, ◌*◌, IfSome};
 use crate::rows::{Row, packing, value_at, values};
 use p3_base::field::Field;
 use p3_base::packed_traits::{PackedField, PackedValue};
+use p3_ring::packed_ring::PackedRing;
 use p3_ring::ring::PrimeCharacteristicRing;
 use p3_tools::helpers::{add_scaled_slice_in_place, add_slices, scale_slice_in_place_single_core};
 use std::alloc::{AllocError, Global};
@@ -19,9 +20,11 @@ fn multiples<R: PrimeCharacteristicRing>(
     length: usize,
     step: u64,
 ) -> Result<Vec<R>, AllocError> {
-    (0..length)
-        .map(|i: usize| -> R { multiple::<R>(i, step) })
-        .collect(alloc)
+    let mut multiples = Vec::new(alloc);
+    for i in 0..length {
+        multiples.push(multiple::<R>(i, step))?;
+    }
+    Ok(multiples)
 }
 
 /// Whether each entry is that of the first list and that of the second one times the factor.
@@ -66,7 +69,7 @@ fn sums_of_length<F: Field, P: PackedField<F>>(
 }
 
 /// The number of a group that lies whole in so many values.
-fn group_within<F: Field, P: PackedField<F>>(length: usize, group: usize) -> Option<usize>
+fn group_within<P: PackedValue>(length: usize, group: usize) -> Option<usize>
     ensures { IfSome result (λ i. i * P.WIDTH + P.WIDTH ≤ length) }
 {
     let start = group.checked_mul(P::WIDTH)?;
@@ -78,7 +81,7 @@ fn group_within<F: Field, P: PackedField<F>>(length: usize, group: usize) -> Opt
 }
 
 /// Whether each entry of a group is the packing's lane, and each other one the multiple that it was.
-fn holds_block<F: Field, P: PackedField<F>>(
+fn holds_block<F: PrimeCharacteristicRing + PartialEq, P: PackedRing<F>>(
     slice: &[F],
     block: &P,
     group: usize,
@@ -90,7 +93,8 @@ fn holds_block<F: Field, P: PackedField<F>>(
         } else {
             F::from_u64((i as u64).wrapping_add(1).wrapping_mul(step))
         };
-        if slice[i] != expected {
+        let agrees = slice[i] == expected;
+        if !agrees {
             return false;
         }
     }
@@ -98,14 +102,14 @@ fn holds_block<F: Field, P: PackedField<F>>(
 }
 
 /// Whether a packing written to each whole group of a slice stands there alone, and is read there again.
-fn blocks_of_length<F: Field, P: PackedField<F>>(
+fn blocks_of_length<F: PrimeCharacteristicRing + PartialEq, P: PackedRing<F>>(
     alloc: Global,
     length: usize,
 ) -> Result<bool, AllocError> {
     let block = P::from_fn(|lane: usize| -> F { F::from_usize(lane) });
     for group in 0..length {
         let mut slice: Vec<F> = multiples(alloc, length, 7)?;
-        let Some(i) = group_within::<F, P>(slice.len(), group) else {
+        let Some(i) = group_within::<P>(slice.len(), group) else {
             return Ok(true);
         };
         block.store_block(&mut slice, i);
@@ -150,26 +154,26 @@ pub(crate) fn slices_agree<F: Field, P: PackedField<F>>(
 }
 
 /// The group of a slice at an index; `Ok(None)` where the slice has none.
-pub(crate) fn loaded<F: Field, P: PackedField<F>>(
+pub(crate) fn loaded<F: PrimeCharacteristicRing, P: PackedValue<Value = F>>(
     alloc: Global,
     slice: &str,
     index: &str,
 ) -> Result<Option<P>, AllocError> {
     let slice: Vec<F> = values(alloc, slice)?;
-    match group_within::<F, P>(slice.len(), index.parse::<usize>().unwrap_or(usize::MAX)) {
+    match group_within::<P>(slice.len(), index.parse::<usize>().unwrap_or(usize::MAX)) {
         Some(i) => Ok(Some(P::load_block(&slice, i))),
         None => Ok(None),
     }
 }
 
 /// Whether the slice is what the row says once the packing is written to the group at an index.
-pub(crate) fn stored<F: Field, P: PackedField<F>>(
+pub(crate) fn stored<F: PrimeCharacteristicRing + PartialEq, P: PackedValue<Value = F>>(
     alloc: Global,
     row: Row<'_>,
 ) -> Result<Option<bool>, AllocError> {
     let mut slice: Vec<F> = values(alloc, row.argument(1))?;
     let index = row.argument(2).parse::<usize>().unwrap_or(usize::MAX);
-    match group_within::<F, P>(slice.len(), index) {
+    match group_within::<P>(slice.len(), index) {
         Some(i) => packing::<F, P>(row.argument(0)).store_block(&mut slice, i),
         None => return Ok(None),
     }

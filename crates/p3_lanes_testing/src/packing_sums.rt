@@ -7,10 +7,15 @@ use p3_base::packed_traits::{PackedField, PackedValue};
 use p3_columns::columnwise::{
     AsRow, coeffwise_dot_product, generic_batched_columnwise_dot_product,
 };
+use p3_ring::packed_ring::PackedRing;
+use p3_ring::ring::PrimeCharacteristicRing;
 use std::alloc::{AllocError, Global};
 
 /// Whether eight packings hold the values of a text, word by word.
-fn all_hold<F: Field, P: PackedField<F>>(packings: [P; 8], text: &str) -> bool {
+fn all_hold<F: PrimeCharacteristicRing + PartialEq, P: PackedValue<Value = F>>(
+    packings: [P; 8],
+    text: &str,
+) -> bool {
     for i in 0..8 {
         let packing = packings[i];
         if !holds::<F, P>(&packing, word(text, i)) {
@@ -21,7 +26,7 @@ fn all_hold<F: Field, P: PackedField<F>>(packings: [P; 8], text: &str) -> bool {
 }
 
 /// The pairs of coefficients and the packing that they go with, told by turns between bars.
-fn pairs<F: Field, P: PackedField<F>>(
+fn pairs<F: PrimeCharacteristicRing, P: PackedValue<Value = F>>(
     alloc: Global,
     text: &str,
 ) -> Result<Vec<(Vec<P>, P)>, AllocError> {
@@ -76,7 +81,7 @@ impl<T, const N: usize> AsRow<T, N> for Scales<T, N> {
 }
 
 /// The items of a columnwise product, told by turns by a row and its N scales.
-fn items<F: Field, P: PackedField<F>, const N: usize>(
+fn items<F: PrimeCharacteristicRing, P: PackedValue<Value = F>, const N: usize>(
     alloc: Global,
     text: &str,
 ) -> Result<Option<Vec<(Vec<P>, Scales<F, N>)>>, AllocError> {
@@ -87,7 +92,7 @@ fn items<F: Field, P: PackedField<F>, const N: usize>(
         let (Some(row), Some(scales)) = (sides.next(), sides.next()) else {
             break;
         };
-        let scales = entries::<F>(alloc, scales)?;
+        let scales: Vec<F> = entries::<F>(alloc, scales)?;
         if scales.len() != N {
             return Ok(None);
         }
@@ -96,33 +101,44 @@ fn items<F: Field, P: PackedField<F>, const N: usize>(
     Ok(Some(items))
 }
 
-/// The values of a text.
-fn entries<F: Field>(alloc: Global, text: &str) -> Result<Vec<F>, AllocError> {
-    text.split_ascii_whitespace()
-        .map(|word: &str| -> F { entry::<F>(word, 0) })
-        .collect(alloc)
+/// The values of a text, which stand between spaces.
+fn entries<F: PrimeCharacteristicRing>(alloc: Global, text: &str) -> Result<Vec<F>, AllocError> {
+    let mut entries = Vec::new(alloc);
+    for word in text.split_ascii_whitespace() {
+        entries.push(entry::<F>(word, 0))?;
+    }
+    Ok(entries)
 }
 
 /// The packing whose lanes stand between spaces, zero past the end of the text.
-fn spaced<F: Field, P: PackedField<F>>(text: &str) -> P {
+fn spaced<F: PrimeCharacteristicRing, P: PackedValue<Value = F>>(text: &str) -> P {
     P::from_fn(|lane: usize| -> F { entry::<F>(word(text, lane), 0) })
 }
 
 /// The packings of a text with semicolons, whose lanes stand between spaces.
-fn listed<F: Field, P: PackedField<F>>(alloc: Global, text: &str) -> Result<Vec<P>, AllocError> {
-    text.split_terminator(';')
-        .map(|word: &str| -> P { spaced::<F, P>(word) })
-        .collect(alloc)
+fn listed<F: PrimeCharacteristicRing, P: PackedValue<Value = F>>(
+    alloc: Global,
+    text: &str,
+) -> Result<Vec<P>, AllocError> {
+    let mut packings = Vec::new(alloc);
+    for word in text.split_terminator(';') {
+        packings.push(spaced::<F, P>(word))?;
+    }
+    Ok(packings)
 }
 
 /// Whether two lists have the same packings, lane by lane.
-fn same<F: Field, P: PackedField<F>>(left: &[P], right: &[P]) -> bool {
+fn same<F: PrimeCharacteristicRing + PartialEq, P: PackedValue<Value = F>>(
+    left: &[P],
+    right: &[P],
+) -> bool {
     if left.len() != right.len() {
         return false;
     }
     for i in 0..left.len() {
         for lane in 0..P::WIDTH {
-            if left[i].extract(lane) != right[i].extract(lane) {
+            let agrees = left[i].extract(lane) == right[i].extract(lane);
+            if !agrees {
                 return false;
             }
         }
@@ -132,7 +148,7 @@ fn same<F: Field, P: PackedField<F>>(left: &[P], right: &[P]) -> bool {
 
 /// Whether the accumulators are what the row says once the products are added. The arguments are the
 /// accumulators, and then by turns a row of packings and its N scales.
-fn columnwise_agree<F: Field, P: PackedField<F>, const N: usize>(
+fn columnwise_agree<F: PrimeCharacteristicRing + PartialEq, P: PackedRing<F>, const N: usize>(
     alloc: Global,
     row: Row<'_>,
 ) -> Result<Option<bool>, AllocError>
@@ -150,15 +166,16 @@ fn columnwise_agree<F: Field, P: PackedField<F>, const N: usize>(
     Ok(Some(same::<F, P>(&accumulators, &wanted)))
 }
 
-/// `columnwise_agree` at the number of scales, the call's second word.
-pub(crate) fn counted_columnwise_agree<F: Field, P: PackedField<F>>(
+/// `columnwise_agree` at a number of scales.
+pub(crate) fn counted_columnwise_agree<F: PrimeCharacteristicRing + PartialEq, P: PackedRing<F>>(
     alloc: Global,
+    scales: usize,
     row: Row<'_>,
 ) -> Result<Option<bool>, AllocError> {
-    match word(row.call, 1) {
-        "2" => columnwise_agree::<F, P, 2>(alloc, row),
-        "3" => columnwise_agree::<F, P, 3>(alloc, row),
-        "4" => columnwise_agree::<F, P, 4>(alloc, row),
+    match scales {
+        2 => columnwise_agree::<F, P, 2>(alloc, row),
+        3 => columnwise_agree::<F, P, 3>(alloc, row),
+        4 => columnwise_agree::<F, P, 4>(alloc, row),
         _ => Ok(None),
     }
 }

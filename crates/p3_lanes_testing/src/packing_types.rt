@@ -1,6 +1,8 @@
 //! The packings that rows name, and vectors of them: each row's call at its field and its number of lanes.
-use crate::packing_calls::{any_agrees, row_agrees};
-use crate::packing_columns::Rooms;
+use crate::calls::{BlockCall, Call, ColumnCall, LaneCall, ListCall, call_of};
+use crate::packing_blocks::blocks_agree;
+use crate::packing_calls::{lanes_agree, lists_agree};
+use crate::packing_columns::{Rooms, counted_columns_agree};
 use crate::packing_list_tables::{LISTS, POWER_GROWTHS, POWERS, POWERS_OF_31, WORKED_POWERS};
 use crate::packing_sum_tables::{COLUMNS, SUMS, WORKED_COLUMNS, WORKED_SUMS};
 use crate::packing_tables::{BLOCKS, OPERATIONS, THREE_LANES, WORKED_BLOCKS};
@@ -11,7 +13,7 @@ use crate::vector_tables::VECTORS;
 use p3_bench_packed::lanes::{LaneCount, LaneCountPow2};
 use p3_bench_packed::packed::Packed;
 use p3_bench_prime::baby_bear::BabyBearModulus;
-use p3_bench_prime::form::{Form, Plain};
+use p3_bench_prime::form::{Form, Plain, Word};
 use p3_bench_prime::fp::Fp;
 use p3_bench_prime::goldilocks::Goldilocks;
 use p3_bench_prime::koala_bear::KoalaBearModulus;
@@ -21,99 +23,320 @@ use std::alloc::{AllocError, Global};
 use std::process::Abort;
 use std::test::Fail;
 
-/// The calls of rows on packings of this type and on vectors of them, implemented once for all fields in words
-/// of one type and all numbers of lanes that are a power of two: a call at a packing's own name passes the
-/// form of its words, and not what the packing has by that.
+/// The calls of rows on packings of this type, implemented once for all fields and all numbers of lanes: a
+/// call at a packing's own name passes the form of its words, and not what the packing has by that.
 trait LaneCalls: Copy {
-    /// The types that calls on packings make values of. Of an associated type it is known that its values
-    /// have room.
+    /// Eight packings. Of an associated type it is known that its values have room.
+    type Eight: Copy;
+
+    /// The types that calls on columns make values of.
     type Rooms: Drop;
 
+    /// `lanes_agree` over packings of this type. Nothing is read of `room`.
+    fn lanes(
+        alloc: Global,
+        room: Option<Self::Eight>,
+        call: LaneCall,
+        row: Row<'_>,
+    ) -> Result<Option<bool>, AllocError>;
+
+    /// `lists_agree` over packings of this type. Nothing is read of `room`.
+    fn lists(
+        alloc: Global,
+        room: Option<Self::Eight>,
+        call: ListCall,
+        row: Row<'_>,
+    ) -> Result<Option<bool>, AllocError>;
+
+    /// `counted_columns_agree` over packings of this type. Nothing is read of `rooms`.
+    fn columns(
+        alloc: Global,
+        rooms: Option<Self::Rooms>,
+        call: ColumnCall,
+        row: Row<'_>,
+    ) -> Result<Option<bool>, AllocError>;
+}
+
+impl<W: Form<T> + LaneCount<N>, T: Word, const N: usize> LaneCalls for Packed<Fp<W, T>, N> {
+    type Eight = [Packed<Fp<W, T>, N>; 8];
+
+    type Rooms = Rooms<Fp<W, T>, Packed<Fp<W, T>, N>>;
+
+    fn lanes(
+        alloc: Global,
+        room: Option<[Packed<Fp<W, T>, N>; 8]>,
+        call: LaneCall,
+        row: Row<'_>,
+    ) -> Result<Option<bool>, AllocError> {
+        lanes_agree::<Fp<W, T>, Packed<Fp<W, T>, N>>(alloc, room, call, row)
+    }
+
+    fn lists(
+        alloc: Global,
+        _room: Option<[Packed<Fp<W, T>, N>; 8]>,
+        call: ListCall,
+        row: Row<'_>,
+    ) -> Result<Option<bool>, AllocError> {
+        lists_agree::<Fp<W, T>, Packed<Fp<W, T>, N>>(alloc, call, row)
+    }
+
+    fn columns(
+        alloc: Global,
+        rooms: Option<Rooms<Fp<W, T>, Packed<Fp<W, T>, N>>>,
+        call: ColumnCall,
+        row: Row<'_>,
+    ) -> Result<Option<bool>, AllocError> {
+        counted_columns_agree::<Fp<W, T>, Packed<Fp<W, T>, N>>(alloc, rooms, call, row)
+    }
+}
+
+/// The calls of rows on packings of this type whose number of lanes is a power of two.
+trait BlockCalls: Copy {
     /// Vectors of one, three and four packings.
     type Vectors: Copy;
 
-    /// `any_agrees` over packings of this type. Nothing is read of `rooms` and `vectors`.
-    fn agrees(
+    /// `blocks_agree` over packings of this type. Nothing is read of `vectors`.
+    fn blocks(
         alloc: Global,
-        rooms: Option<Self::Rooms>,
         vectors: Option<Self::Vectors>,
+        call: BlockCall,
         row: Row<'_>,
     ) -> Result<Option<bool>, AllocError>;
 }
 
-impl<W: Form<u32> + LaneCountPow2<N>, const N: usize> LaneCalls for Packed<Fp<W>, N> {
-    type Rooms = Rooms<Fp<W>, Packed<Fp<W>, N>>;
+impl<W: Form<T> + LaneCountPow2<N>, T: Word, const N: usize> BlockCalls for Packed<Fp<W, T>, N> {
+    type Vectors = Vectors<Fp<W, T>, Packed<Fp<W, T>, N>>;
 
-    type Vectors = Vectors<Fp<W>, Packed<Fp<W>, N>>;
-
-    fn agrees(
+    fn blocks(
         alloc: Global,
-        rooms: Option<Rooms<Fp<W>, Packed<Fp<W>, N>>>,
-        vectors: Option<Vectors<Fp<W>, Packed<Fp<W>, N>>>,
+        vectors: Option<Vectors<Fp<W, T>, Packed<Fp<W, T>, N>>>,
+        call: BlockCall,
         row: Row<'_>,
     ) -> Result<Option<bool>, AllocError> {
-        any_agrees::<Fp<W>, Packed<Fp<W>, N>>(alloc, rooms, vectors, row)
+        blocks_agree::<Fp<W, T>, Packed<Fp<W, T>, N>>(alloc, vectors, call, row)
     }
 }
 
-impl<W: Form<u64> + LaneCountPow2<N>, const N: usize> LaneCalls for Packed<Fp<W, u64>, N> {
-    type Rooms = Rooms<Fp<W, u64>, Packed<Fp<W, u64>, N>>;
+/// The fields that rows name.
+#[derive(Clone, Copy)]
+enum FieldName {
+    F2,
+    F17,
+    F31,
+    Z15,
+    BabyBear,
+    KoalaBear,
+    Goldilocks,
+}
 
-    type Vectors = Vectors<Fp<W, u64>, Packed<Fp<W, u64>, N>>;
-
-    fn agrees(
-        alloc: Global,
-        rooms: Option<Rooms<Fp<W, u64>, Packed<Fp<W, u64>, N>>>,
-        vectors: Option<Vectors<Fp<W, u64>, Packed<Fp<W, u64>, N>>>,
-        row: Row<'_>,
-    ) -> Result<Option<bool>, AllocError> {
-        any_agrees::<Fp<W, u64>, Packed<Fp<W, u64>, N>>(alloc, rooms, vectors, row)
+/// The field of a name.
+fn field_of(name: &str) -> Option<FieldName> {
+    match name {
+        "f2" => Some(FieldName::F2),
+        "f17" => Some(FieldName::F17),
+        "f31" => Some(FieldName::F31),
+        "z15" => Some(FieldName::Z15),
+        "bb" => Some(FieldName::BabyBear),
+        "kb" => Some(FieldName::KoalaBear),
+        "gl" => Some(FieldName::Goldilocks),
+        _ => None,
     }
 }
 
-/// The calls of rows on packings of this type, of any number of lanes.
-trait AnyLaneCalls: Copy {
-    /// The types that calls on packings make values of.
-    type AnyRooms: Drop;
-
-    /// `row_agrees` over packings of this type. Nothing is read of `rooms`.
-    fn any_lanes_agree(
-        alloc: Global,
-        rooms: Option<Self::AnyRooms>,
-        row: Row<'_>,
-    ) -> Result<Option<bool>, AllocError>;
-}
-
-impl<W: Form<u32> + LaneCount<N>, const N: usize> AnyLaneCalls for Packed<Fp<W>, N> {
-    type AnyRooms = Rooms<Fp<W>, Packed<Fp<W>, N>>;
-
-    fn any_lanes_agree(
-        alloc: Global,
-        rooms: Option<Rooms<Fp<W>, Packed<Fp<W>, N>>>,
-        row: Row<'_>,
-    ) -> Result<Option<bool>, AllocError> {
-        row_agrees::<Fp<W>, Packed<Fp<W>, N>>(alloc, rooms, row)
-    }
-}
-
-/// Whether a row's call has its answer over a prime field in words of 32 bits.
-fn over<W: Form<u32>>(alloc: Global, row: Row<'_>) -> Result<Option<bool>, AllocError> {
-    match row.lanes {
-        "1" => <Packed<Fp<W>, 1> as LaneCalls>::agrees(alloc, None, None, row),
-        "3" => <Packed<Fp<W>, 3> as AnyLaneCalls>::any_lanes_agree(alloc, None, row),
-        "4" => <Packed<Fp<W>, 4> as LaneCalls>::agrees(alloc, None, None, row),
-        "8" => <Packed<Fp<W>, 8> as LaneCalls>::agrees(alloc, None, None, row),
-        "16" => <Packed<Fp<W>, 16> as LaneCalls>::agrees(alloc, None, None, row),
+/// Whether a call on packings has the row's answer over a prime field.
+fn lanes_over<W: Form<u32>>(
+    alloc: Global,
+    lanes: usize,
+    call: LaneCall,
+    row: Row<'_>,
+) -> Result<Option<bool>, AllocError> {
+    match lanes {
+        1 => <Packed<Fp<W>, 1> as LaneCalls>::lanes(alloc, None, call, row),
+        4 => <Packed<Fp<W>, 4> as LaneCalls>::lanes(alloc, None, call, row),
+        8 => <Packed<Fp<W>, 8> as LaneCalls>::lanes(alloc, None, call, row),
         _ => Ok(None),
     }
 }
 
-/// Whether a row's call has its answer over Goldilocks.
-fn over_goldilocks(alloc: Global, row: Row<'_>) -> Result<Option<bool>, AllocError> {
-    match row.lanes {
-        "1" => <Packed<Goldilocks, 1> as LaneCalls>::agrees(alloc, None, None, row),
-        "4" => <Packed<Goldilocks, 4> as LaneCalls>::agrees(alloc, None, None, row),
-        "8" => <Packed<Goldilocks, 8> as LaneCalls>::agrees(alloc, None, None, row),
+/// The same over Goldilocks.
+fn lanes_over_goldilocks(
+    alloc: Global,
+    lanes: usize,
+    call: LaneCall,
+    row: Row<'_>,
+) -> Result<Option<bool>, AllocError> {
+    match lanes {
+        1 => <Packed<Goldilocks, 1> as LaneCalls>::lanes(alloc, None, call, row),
+        4 => <Packed<Goldilocks, 4> as LaneCalls>::lanes(alloc, None, call, row),
+        8 => <Packed<Goldilocks, 8> as LaneCalls>::lanes(alloc, None, call, row),
+        _ => Ok(None),
+    }
+}
+
+/// The same over the field that a row names. Modulo 17 there are packings of 3 and 16 lanes too.
+fn lanes_at(
+    alloc: Global,
+    field: FieldName,
+    lanes: usize,
+    call: LaneCall,
+    row: Row<'_>,
+) -> Result<Option<bool>, AllocError> {
+    match (field, lanes) {
+        (FieldName::F17, 3) => <Packed<F17, 3> as LaneCalls>::lanes(alloc, None, call, row),
+        (FieldName::F17, 16) => <Packed<F17, 16> as LaneCalls>::lanes(alloc, None, call, row),
+        (FieldName::F17, _) => lanes_over::<Plain<M17>>(alloc, lanes, call, row),
+        (FieldName::F2, _) => lanes_over::<Plain<M2>>(alloc, lanes, call, row),
+        (FieldName::F31, _) => lanes_over::<Plain<M31>>(alloc, lanes, call, row),
+        (FieldName::Z15, _) => lanes_over::<Plain<M15>>(alloc, lanes, call, row),
+        (FieldName::BabyBear, _) => lanes_over::<Montgomery<BabyBearModulus>>(
+            alloc, lanes, call, row,
+        ),
+        (FieldName::KoalaBear, _) => lanes_over::<Plain<KoalaBearModulus>>(alloc, lanes, call, row),
+        (FieldName::Goldilocks, _) => lanes_over_goldilocks(alloc, lanes, call, row),
+    }
+}
+
+/// Whether a call on lists or slices has the row's answer over a prime field.
+fn lists_over<W: Form<u32>>(
+    alloc: Global,
+    lanes: usize,
+    call: ListCall,
+    row: Row<'_>,
+) -> Result<Option<bool>, AllocError> {
+    match lanes {
+        1 => <Packed<Fp<W>, 1> as LaneCalls>::lists(alloc, None, call, row),
+        4 => <Packed<Fp<W>, 4> as LaneCalls>::lists(alloc, None, call, row),
+        8 => <Packed<Fp<W>, 8> as LaneCalls>::lists(alloc, None, call, row),
+        _ => Ok(None),
+    }
+}
+
+/// The same over Goldilocks.
+fn lists_over_goldilocks(
+    alloc: Global,
+    lanes: usize,
+    call: ListCall,
+    row: Row<'_>,
+) -> Result<Option<bool>, AllocError> {
+    match lanes {
+        4 => <Packed<Goldilocks, 4> as LaneCalls>::lists(alloc, None, call, row),
+        8 => <Packed<Goldilocks, 8> as LaneCalls>::lists(alloc, None, call, row),
+        _ => Ok(None),
+    }
+}
+
+/// The same over the field that a row names: modulo 17, over BabyBear and over Goldilocks.
+fn lists_at(
+    alloc: Global,
+    field: FieldName,
+    lanes: usize,
+    call: ListCall,
+    row: Row<'_>,
+) -> Result<Option<bool>, AllocError> {
+    match (field, lanes) {
+        (FieldName::F17, 3) => <Packed<F17, 3> as LaneCalls>::lists(alloc, None, call, row),
+        (FieldName::F17, 16) => <Packed<F17, 16> as LaneCalls>::lists(alloc, None, call, row),
+        (FieldName::F17, _) => lists_over::<Plain<M17>>(alloc, lanes, call, row),
+        (FieldName::BabyBear, _) => lists_over::<Montgomery<BabyBearModulus>>(
+            alloc, lanes, call, row,
+        ),
+        (FieldName::Goldilocks, _) => lists_over_goldilocks(alloc, lanes, call, row),
+        _ => Ok(None),
+    }
+}
+
+/// Whether a call on columns has the row's answer over a prime field.
+fn columns_over<W: Form<u32>>(
+    alloc: Global,
+    lanes: usize,
+    call: ColumnCall,
+    row: Row<'_>,
+) -> Result<Option<bool>, AllocError> {
+    match lanes {
+        1 => <Packed<Fp<W>, 1> as LaneCalls>::columns(alloc, None, call, row),
+        4 => <Packed<Fp<W>, 4> as LaneCalls>::columns(alloc, None, call, row),
+        8 => <Packed<Fp<W>, 8> as LaneCalls>::columns(alloc, None, call, row),
+        _ => Ok(None),
+    }
+}
+
+/// The same over Goldilocks.
+fn columns_over_goldilocks(
+    alloc: Global,
+    lanes: usize,
+    call: ColumnCall,
+    row: Row<'_>,
+) -> Result<Option<bool>, AllocError> {
+    match lanes {
+        4 => <Packed<Goldilocks, 4> as LaneCalls>::columns(alloc, None, call, row),
+        _ => Ok(None),
+    }
+}
+
+/// The same over the field that a row names.
+fn columns_at(
+    alloc: Global,
+    field: FieldName,
+    lanes: usize,
+    call: ColumnCall,
+    row: Row<'_>,
+) -> Result<Option<bool>, AllocError> {
+    match field {
+        FieldName::F2 => columns_over::<Plain<M2>>(alloc, lanes, call, row),
+        FieldName::F17 => columns_over::<Plain<M17>>(alloc, lanes, call, row),
+        FieldName::F31 => columns_over::<Plain<M31>>(alloc, lanes, call, row),
+        FieldName::Z15 => columns_over::<Plain<M15>>(alloc, lanes, call, row),
+        FieldName::BabyBear => columns_over::<Montgomery<BabyBearModulus>>(alloc, lanes, call, row),
+        FieldName::KoalaBear => columns_over::<Plain<KoalaBearModulus>>(alloc, lanes, call, row),
+        FieldName::Goldilocks => columns_over_goldilocks(alloc, lanes, call, row),
+    }
+}
+
+/// Whether a call on blocks of lanes or on vectors has the row's answer over a prime field.
+fn blocks_over<W: Form<u32>>(
+    alloc: Global,
+    lanes: usize,
+    call: BlockCall,
+    row: Row<'_>,
+) -> Result<Option<bool>, AllocError> {
+    match lanes {
+        4 => <Packed<Fp<W>, 4> as BlockCalls>::blocks(alloc, None, call, row),
+        8 => <Packed<Fp<W>, 8> as BlockCalls>::blocks(alloc, None, call, row),
+        _ => Ok(None),
+    }
+}
+
+/// The same over Goldilocks.
+fn blocks_over_goldilocks(
+    alloc: Global,
+    lanes: usize,
+    call: BlockCall,
+    row: Row<'_>,
+) -> Result<Option<bool>, AllocError> {
+    match lanes {
+        4 => <Packed<Goldilocks, 4> as BlockCalls>::blocks(alloc, None, call, row),
+        8 => <Packed<Goldilocks, 8> as BlockCalls>::blocks(alloc, None, call, row),
+        _ => Ok(None),
+    }
+}
+
+/// The same over the field that a row names. Modulo 17 there are packings of one lane too.
+fn blocks_at(
+    alloc: Global,
+    field: FieldName,
+    lanes: usize,
+    call: BlockCall,
+    row: Row<'_>,
+) -> Result<Option<bool>, AllocError> {
+    match (field, lanes) {
+        (FieldName::F17, 1) => <Packed<F17, 1> as BlockCalls>::blocks(alloc, None, call, row),
+        (FieldName::F17, _) => blocks_over::<Plain<M17>>(alloc, lanes, call, row),
+        (FieldName::F31, _) => blocks_over::<Plain<M31>>(alloc, lanes, call, row),
+        (FieldName::Z15, _) => blocks_over::<Plain<M15>>(alloc, lanes, call, row),
+        (FieldName::BabyBear, _) => blocks_over::<Montgomery<BabyBearModulus>>(
+            alloc, lanes, call, row,
+        ),
+        (FieldName::Goldilocks, _) => blocks_over_goldilocks(alloc, lanes, call, row),
         _ => Ok(None),
     }
 }
@@ -129,22 +352,34 @@ fn powers_over_f17x2(alloc: Global, row: Row<'_>) -> Result<Option<bool>, AllocE
     }
 }
 
+/// Whether a row's call has its answer over a field and at so many lanes.
+fn row_agrees(
+    alloc: Global,
+    field: FieldName,
+    lanes: usize,
+    row: Row<'_>,
+) -> Result<Option<bool>, AllocError> {
+    match call_of(row.call) {
+        Some(Call::Lanes(call)) => lanes_at(alloc, field, lanes, call, row),
+        Some(Call::Lists(call)) => lists_at(alloc, field, lanes, call, row),
+        Some(Call::Columns(call)) => columns_at(alloc, field, lanes, call, row),
+        Some(Call::Blocks(call)) => blocks_at(alloc, field, lanes, call, row),
+        None => Ok(None),
+    }
+}
+
 /// Whether the call of a line has its answer; `Ok(None)` where the line can't be read or names no call.
 fn agrees(alloc: Global, line: &str) -> Result<Option<bool>, AllocError> {
     let Some(row) = Row::read(line) else {
         return Ok(None);
     };
-    match row.field {
-        "f2" => over::<Plain<M2>>(alloc, row),
-        "f17" => over::<Plain<M17>>(alloc, row),
-        "f31" => over::<Plain<M31>>(alloc, row),
-        "z15" => over::<Plain<M15>>(alloc, row),
-        "bb" => over::<Montgomery<BabyBearModulus>>(alloc, row),
-        "kb" => over::<Plain<KoalaBearModulus>>(alloc, row),
-        "gl" => over_goldilocks(alloc, row),
-        "f17x2" => powers_over_f17x2(alloc, row),
-        _ => Ok(None),
+    if row.field == "f17x2" {
+        return powers_over_f17x2(alloc, row);
     }
+    let Some(field) = field_of(row.field) else {
+        return Ok(None);
+    };
+    row_agrees(alloc, field, row.lanes.parse::<usize>().unwrap_or(0), row)
 }
 
 /// Asserts that the call of each line has its answer.

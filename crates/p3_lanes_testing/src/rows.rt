@@ -1,18 +1,7 @@
 //! The rows of the tables, and what stands in them.
-use p3_base::field::Field;
-use p3_base::packed_traits::PackedField;
+use p3_base::packed_traits::PackedValue;
 use p3_ring::ring::PrimeCharacteristicRing;
 use std::alloc::{AllocError, Global};
-
-/// What a row's call is on.
-#[derive(Clone, Copy)]
-pub(crate) enum Shape {
-    Packing,
-    /// Columns of rows, as packings.
-    Columns,
-    /// A vector of packings.
-    Vector,
-}
 
 /// A row of a table.
 #[derive(Clone, Copy)]
@@ -46,17 +35,6 @@ impl<'a> Row<'a> {
     pub(crate) fn argument(self, index: usize) -> &'a str {
         self.arguments.split('|').nth(index).unwrap_or("")
     }
-
-    /// What the call is on.
-    pub(crate) fn shape(self) -> Shape {
-        if self.call.starts_with("pack_columns") || self.call.starts_with("unpack_into") {
-            Shape::Columns
-        } else if self.call.starts_with("vectorized") {
-            Shape::Vector
-        } else {
-            Shape::Packing
-        }
-    }
 }
 
 /// The word at an index of a text.
@@ -64,49 +42,61 @@ pub(crate) fn word(text: &str, index: usize) -> &str {
     text.split_ascii_whitespace().nth(index).unwrap_or("")
 }
 
-/// The value at an index of a text.
-pub(crate) fn value_at<F: Field>(text: &str, index: usize) -> Option<F> {
+/// The number at an index of a text; none where no number stands there.
+#[inline(never)]
+pub(crate) fn number_at(text: &str, index: usize) -> Option<u64> {
     let word = text.split_terminator(',').nth(index)?;
-    Some(F::from_u64(word.parse::<u64>().ok()?))
+    word.parse::<u64>().ok()
+}
+
+/// The value at an index of a text.
+pub(crate) fn value_at<F: PrimeCharacteristicRing>(text: &str, index: usize) -> Option<F> {
+    Some(F::from_u64(number_at(text, index)?))
 }
 
 /// The value at an index of a text, zero past its end.
-pub(crate) fn entry<F: Field>(text: &str, index: usize) -> F {
-    value_at::<F>(text, index).unwrap_or(F::zero())
+pub(crate) fn entry<F: PrimeCharacteristicRing>(text: &str, index: usize) -> F {
+    F::from_u64(number_at(text, index).unwrap_or(0))
 }
 
 /// The values of a text.
-pub(crate) fn values<F: Field>(alloc: Global, text: &str) -> Result<Vec<F>, AllocError> {
-    text.split_terminator(',')
-        .map(|word: &str| -> F { entry::<F>(word, 0) })
-        .collect(alloc)
+pub(crate) fn values<F: PrimeCharacteristicRing>(
+    alloc: Global,
+    text: &str,
+) -> Result<Vec<F>, AllocError> {
+    let mut values = Vec::new(alloc);
+    for word in text.split_terminator(',') {
+        values.push(entry::<F>(word, 0))?;
+    }
+    Ok(values)
 }
 
 /// The packing with the values of a text, zero past its end.
-pub(crate) fn packing<F: Field, P: PackedField<F>>(text: &str) -> P {
+pub(crate) fn packing<F: PrimeCharacteristicRing, P: PackedValue<Value = F>>(text: &str) -> P {
     P::from_fn(|lane: usize| -> F { entry::<F>(text, lane) })
 }
 
 /// The packings of a text.
-pub(crate) fn packings<F: Field, P: PackedField<F>>(
+pub(crate) fn packings<F: PrimeCharacteristicRing, P: PackedValue<Value = F>>(
     alloc: Global,
     text: &str,
 ) -> Result<Vec<P>, AllocError> {
-    text.split_ascii_whitespace()
-        .map(|word: &str| -> P { packing::<F, P>(word) })
-        .collect(alloc)
+    let mut packings = Vec::new(alloc);
+    for word in text.split_ascii_whitespace() {
+        packings.push(packing::<F, P>(word))?;
+    }
+    Ok(packings)
 }
 
 /// Whether the lanes of a packing are the values of a text.
-pub(crate) fn holds<F: Field, P: PackedField<F>>(packing: &P, text: &str) -> bool {
+pub(crate) fn holds<F: PrimeCharacteristicRing + PartialEq, P: PackedValue<Value = F>>(
+    packing: &P,
+    text: &str,
+) -> bool {
     for lane in 0..P::WIDTH {
         match value_at::<F>(text, lane) {
-            Some(value) => {
-                if packing.extract(lane) != value {
-                    return false;
-                }
-            }
-            None => return false,
+            Some(value) if packing.extract(lane) == value => {}
+            _ => return false,
         }
     }
     true
