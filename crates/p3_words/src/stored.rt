@@ -11,6 +11,7 @@ use p3_bench_prime::fp::Fp;
 use p3_bench_prime::goldilocks::{Goldilocks, GoldilocksForm};
 use p3_bench_prime::lane_words::values_of;
 use p3_bench_prime::montgomery::{Montgomery, MontgomeryModulus};
+use p3_integers::integers::QuotientMap;
 use p3_kernels::montgomery_slices::multiply_slice;
 use p3_ring::ring::PrimeCharacteristicRing;
 
@@ -121,7 +122,7 @@ fn goldilocks_value(word: u64) -> Goldilocks
     ensures value { result ≡ value_of ⟦<GoldilocksForm as Form<u64>>⟧ word }
     ensures number { canon ⟦<GoldilocksForm as Form<u64>>⟧ result ≡ word }
 {
-    Goldilocks::new(word)
+    Goldilocks::from_canonical_unchecked(word)
 }
 
 /// The products modulo 2^64 - 2^32 + 1 at each index.
