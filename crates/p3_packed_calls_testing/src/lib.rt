@@ -3,10 +3,6 @@
 #![tactic(auto)]
 
 #[cfg(test)]
-mod generic;
-#[cfg(test)]
 mod own_field;
 #[cfg(test)]
 mod quadratic;
-#[cfg(test)]
-mod quartic;
