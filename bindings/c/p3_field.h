@@ -332,8 +332,8 @@ int32_t p3_bbx4_mul(uint32_t *left, size_t left_len, const uint32_t *right, size
 /* Writes over each value its square. Refused by P3_LENGTH, P3_WORD. */
 int32_t p3_bbx4_square(uint32_t *values, size_t values_len);
 
-/* Writes over each value its image under the Frobenius map, taken so many times: the power whose
-   exponent is that power of the order. Refused by P3_LENGTH, P3_WORD. */
+/* Writes over each value its image under the Frobenius map, taken so many times. Refused by
+   P3_LENGTH, P3_WORD. */
 int32_t p3_bbx4_frobenius(uint32_t *values, size_t values_len, size_t count);
 
 /* Writes the sum of the products, index by index: one value. Refused by P3_LENGTH, P3_WORD. */

@@ -389,8 +389,8 @@ pub mod bbx4 {
         /// Writes over each value its square. Refused by P3_LENGTH, P3_WORD.
         #[link_name = "p3_bbx4_square"]
         pub fn square(values: *mut u32, values_len: usize) -> i32;
-        /// Writes over each value its image under the Frobenius map, taken so many times: the power
-        /// whose exponent is that power of the order. Refused by P3_LENGTH, P3_WORD.
+        /// Writes over each value its image under the Frobenius map, taken so many times. Refused
+        /// by P3_LENGTH, P3_WORD.
         #[link_name = "p3_bbx4_frobenius"]
         pub fn frobenius(values: *mut u32, values_len: usize, count: usize) -> i32;
         /// Writes the sum of the products, index by index: one value. Refused by P3_LENGTH,

@@ -34,8 +34,7 @@ pub extern "C" fn p3_bbx4_square(values: &mut [u32]) -> i32
     status(extensions::square::<BabyBear, u32, 4, Binomial<BabyBear>>(None, values))
 }
 
-/// Writes over each value its image under the Frobenius map, taken so many times: the power whose exponent is that
-/// power of the order.
+/// Writes over each value its image under the Frobenius map, taken so many times.
 #[unsafe(no_mangle)]
 pub extern "C" fn p3_bbx4_frobenius(values: &mut [u32], count: usize) -> i32
     ensures { Tells (WritesEach 4 ⟦<BabyBear as Stored<u32>>⟧.words (iterate (frobenius_list ⟦<BabyBear as PrimeCharacteristicRing>⟧.ops 4 ⟦<BabyBear as ExtensionAlgebra<BabyBear, 4, Binomial<BabyBear>>>⟧.modulus ⟦<BabyBear as FrobeniusExtendable<4, Binomial<BabyBear>>>⟧.image) count) values.old values.new) result }
