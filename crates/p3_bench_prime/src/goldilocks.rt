@@ -1,7 +1,8 @@
 //! The residues modulo 2^64 - 2^32 + 1, with all that the field owes as numbers.
-ghost use Rattle.std.specs.Prelude.{◌≡◌, ◌≤◌, ◌<◌, ◌+◌, ◌*◌, ◌^◌, length, true, refl};
+ghost use Rattle.std.specs.Prelude.{◌≡◌, ◌≤◌, ◌<◌, ◌+◌, ◌*◌, ◌%◌, ◌^◌, ℕ, length, true, refl};
+ghost use Rattle.p3_bench_residues.specs.declared.goldilocks_words.TheConstants.{P};
 ghost use Rattle.p3_theory.specs.ResidueRings.SumsOfProducts.{sum_of_products};
-ghost use Rattle.p3_bench_prime.specs.Elements.{word_number};
+ghost use Rattle.p3_bench_prime.specs.Elements.{canon, word_number};
 
 use crate::form::{Form, Order, OverModulus};
 use crate::fp::Fp;
@@ -21,6 +22,34 @@ pub struct GoldilocksForm;
 /// A residue modulo 2^64 - 2^32 + 1. Upstream's `Goldilocks`.
 pub type Goldilocks = Fp<GoldilocksForm, u64>;
 
+/// What has a word of 64 bits: a residue, or the word alone.
+trait LongWord {
+    /// The word.
+    ghost word: { Self → ℕ };
+
+    /// The word.
+    fn long_word(&self) -> u64
+        ensures { result ≡ word self.now };
+}
+
+impl LongWord for Goldilocks {
+    ghost word = { word_number };
+
+    #[inline(always)]
+    fn long_word(&self) -> u64 {
+        self.word
+    }
+}
+
+impl LongWord for u64 {
+    ghost word = { λ w. w };
+
+    #[inline(always)]
+    fn long_word(&self) -> u64 {
+        *self
+    }
+}
+
 /// Adds a product to a sum of 128 bits and the count of its carries.
 #[inline]
 fn add_with_carry(product: u128, low: u128, carries: u64) -> (u128, u64)
@@ -36,19 +65,40 @@ fn add_with_carry(product: u128, low: u128, carries: u64) -> (u128, u64)
 /// The sum of the products, position by position: its low 128 bits, and how often these were carried
 /// over.
 #[inline]
-fn sum_with_carries(u: &[Goldilocks], v: &[Goldilocks]) -> (u128, u64)
+fn sum_with_carries<V: LongWord>(u: &[V], v: &[V]) -> (u128, u64)
     requires { length u.now ≡ length v.now }
-    ensures { result.0 + 2 ^ 128 * result.1 ≡ sum_of_products word_number u.now v.now }
+    ensures { result.0 + 2 ^ 128 * result.1 ≡ sum_of_products V.word u.now v.now }
 {
     let mut low = 0u128;
     let mut carries = 0u64;
     for i in 0..u.len() {
-        let product = u[i].word as u128 * v[i].word as u128;
+        let x = u[i].long_word();
+        let y = v[i].long_word();
+        let product = x as u128 * y as u128;
         let added = add_with_carry(product, low, carries);
         low = added.0;
         carries = added.1;
     }
     (low, carries)
+}
+
+/// The sum of the products of the words, index by index, which is reduced once, at the end.
+#[inline]
+fn reduced_dot<V: LongWord>(u: &[V], v: &[V]) -> u64
+    requires { length u.now ≡ length v.now }
+    ensures { result ≡ sum_of_products V.word u.now v.now % P }
+{
+    let (low, carries) = sum_with_carries(u, v);
+    reduce_halves(low, carries as u128 * 0x1_0000_0000_0000_0000)
+}
+
+/// The residue that is the sum of the products of words, index by index.
+#[inline]
+pub fn dot_of_words(u: &[u64], v: &[u64]) -> Goldilocks
+    requires { length u.now ≡ length v.now }
+    ensures { canon ⟦<GoldilocksForm as Form<u64>>⟧ result ≡ sum_of_products (λ w. w) u.now v.now % P }
+{
+    Fp::with_word(reduced_dot(u, v))
 }
 
 impl Form<u64> for GoldilocksForm {
@@ -153,11 +203,9 @@ impl Form<u64> for GoldilocksForm {
         reduce128(words)
     }
 
-    /// The sum of the products of the words, which is reduced once, at the end.
     #[inline]
     fn dot_product(u: &[Goldilocks], v: &[Goldilocks]) -> u64 {
-        let (low, carries) = sum_with_carries(u, v);
-        reduce_halves(low, carries as u128 * 0x1_0000_0000_0000_0000)
+        reduced_dot(u, v)
     }
 }
 

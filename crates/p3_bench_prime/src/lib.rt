@@ -22,4 +22,4 @@ pub mod two_adic;
 pub mod two_adic_constants;
 mod two_adic_extensions;
 mod word_products;
-mod word_sums;
+pub mod word_sums;

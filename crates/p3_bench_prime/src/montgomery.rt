@@ -1,5 +1,7 @@
 //! Residues in Montgomery's form: the word holds the residue times 2^32.
-ghost use Rattle.std.specs.Prelude.{◌≡◌, ◌<◌, ◌*◌, ◌%◌, ◌^◌, ℕ, false, refl, ⊤};
+ghost use Rattle.std.specs.Prelude.{◌≡◌, ◌<◌, ◌*◌, ◌%◌, ◌^◌, ℕ, All, false, length, refl, ⊤};
+ghost use Rattle.p3_theory.specs.ResidueRings.SumsOfProducts.{sum_of_products};
+ghost use Rattle.p3_bench_prime.specs.Elements.{canon};
 
 use crate::form::{Form, Order, OverModulus, ShortForm, add_short};
 use crate::fp::Fp;
@@ -225,6 +227,19 @@ impl<M: MontgomeryModulus> Form<u32> for Montgomery<M> {
             reduced_sum::<M>(sum)
         }
     }
+}
+
+/// The residue that is the sum of the products of residues, index by index of their words.
+#[inline]
+pub fn dot_of_words<M: MontgomeryModulus>(u: &[u32], v: &[u32]) -> Fp<Montgomery<M>>
+    requires lengths { length u.now ≡ length v.now }
+    requires left { All (λ w. w < M.ORDER) u.now }
+    requires right { All (λ w. w < M.ORDER) v.now }
+    ensures { canon ⟦<Montgomery<M> as Form<u32>>⟧ result ≡ sum_of_products ⟦<Montgomery<M> as Form<u32>>⟧.canon u.now v.now % M.ORDER }
+{
+    let products = sum_products(u, v);
+    let word = reduced_sum::<M>(products);
+    Fp::with_word(word)
 }
 
 impl<M: MontgomeryOrder> OverModulus<u32> for Montgomery<M> {

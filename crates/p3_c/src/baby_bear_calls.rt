@@ -59,8 +59,7 @@ pub extern "C" fn p3_bb_check(values: &[u32]) -> i32
 pub extern "C" fn p3_bb_sum(values: &[u32], sum: &mut u32) -> i32
     ensures { Answers (AnswersOne ⟦<BabyBear as Stored<u32>>⟧.words (λ xs. sum_list ⟦<BabyBear as PrimeCharacteristicRing>⟧.ops xs) values.now) sum.old sum.new result }
 {
-    let mut room = [BabyBear::zero(); BLOCK];
-    answer(totals::sum::<BabyBear, u32>(values, &mut room), sum)
+    answer(totals::sum::<BabyBear, u32>(values), sum)
 }
 
 /// The product of the values; of none it is one.
@@ -81,12 +80,7 @@ pub extern "C" fn p3_bb_product(values: &[u32], product: &mut u32) -> i32
 pub extern "C" fn p3_bb_dot(left: &[u32], right: &[u32], dot: &mut u32) -> i32
     ensures { Answers (AnswersPair ⟦<BabyBear as Stored<u32>>⟧.words (λ xs ys. products.dot ⟦<BabyBear as PrimeCharacteristicRing>⟧.ops xs ys) left.now right.now) dot.old dot.new result }
 {
-    let mut left_room = [BabyBear::zero(); BLOCK];
-    let mut right_room = [BabyBear::zero(); BLOCK];
-    answer(
-        totals::dot_product::<BabyBear, u32>(left, right, &mut left_room, &mut right_room),
-        dot,
-    )
+    answer(totals::dot_product::<BabyBear, u32>(left, right), dot)
 }
 
 /// Adds to each value of the left slice that of the right one at its index.

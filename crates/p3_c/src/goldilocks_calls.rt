@@ -55,8 +55,7 @@ pub extern "C" fn p3_gl_check(values: &[u64]) -> i32
 pub extern "C" fn p3_gl_sum(values: &[u64], sum: &mut u64) -> i32
     ensures { Answers (AnswersOne ⟦<Goldilocks as Stored<u64>>⟧.words (λ xs. sum_list ⟦<Goldilocks as PrimeCharacteristicRing>⟧.ops xs) values.now) sum.old sum.new result }
 {
-    let mut room = [Goldilocks::zero(); BLOCK];
-    answer(totals::sum::<Goldilocks, u64>(values, &mut room), sum)
+    answer(totals::sum::<Goldilocks, u64>(values), sum)
 }
 
 /// The product of the values; of none it is one.
@@ -77,12 +76,7 @@ pub extern "C" fn p3_gl_product(values: &[u64], product: &mut u64) -> i32
 pub extern "C" fn p3_gl_dot(left: &[u64], right: &[u64], dot: &mut u64) -> i32
     ensures { Answers (AnswersPair ⟦<Goldilocks as Stored<u64>>⟧.words (λ xs ys. products.dot ⟦<Goldilocks as PrimeCharacteristicRing>⟧.ops xs ys) left.now right.now) dot.old dot.new result }
 {
-    let mut left_room = [Goldilocks::zero(); BLOCK];
-    let mut right_room = [Goldilocks::zero(); BLOCK];
-    answer(
-        totals::dot_product::<Goldilocks, u64>(left, right, &mut left_room, &mut right_room),
-        dot,
-    )
+    answer(totals::dot_product::<Goldilocks, u64>(left, right), dot)
 }
 
 /// Adds to each value of the left slice that of the right one at its index.

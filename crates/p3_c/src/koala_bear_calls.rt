@@ -59,8 +59,7 @@ pub extern "C" fn p3_kb_check(values: &[u32]) -> i32
 pub extern "C" fn p3_kb_sum(values: &[u32], sum: &mut u32) -> i32
     ensures { Answers (AnswersOne ⟦<KoalaBear as Stored<u32>>⟧.words (λ xs. sum_list ⟦<KoalaBear as PrimeCharacteristicRing>⟧.ops xs) values.now) sum.old sum.new result }
 {
-    let mut room = [KoalaBear::zero(); BLOCK];
-    answer(totals::sum::<KoalaBear, u32>(values, &mut room), sum)
+    answer(totals::sum::<KoalaBear, u32>(values), sum)
 }
 
 /// The product of the values; of none it is one.
@@ -81,12 +80,7 @@ pub extern "C" fn p3_kb_product(values: &[u32], product: &mut u32) -> i32
 pub extern "C" fn p3_kb_dot(left: &[u32], right: &[u32], dot: &mut u32) -> i32
     ensures { Answers (AnswersPair ⟦<KoalaBear as Stored<u32>>⟧.words (λ xs ys. products.dot ⟦<KoalaBear as PrimeCharacteristicRing>⟧.ops xs ys) left.now right.now) dot.old dot.new result }
 {
-    let mut left_room = [KoalaBear::zero(); BLOCK];
-    let mut right_room = [KoalaBear::zero(); BLOCK];
-    answer(
-        totals::dot_product::<KoalaBear, u32>(left, right, &mut left_room, &mut right_room),
-        dot,
-    )
+    answer(totals::dot_product::<KoalaBear, u32>(left, right), dot)
 }
 
 /// Adds to each value of the left slice that of the right one at its index.

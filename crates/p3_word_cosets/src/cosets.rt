@@ -6,7 +6,7 @@ ghost use Rattle.p3_words.specs.Words.{Stands};
 use p3_base::field::TwoAdicField;
 use p3_tools::coset::TwoAdicMultiplicativeCoset;
 use p3_word_lists::points::write_powers;
-use p3_words::blocks::{all_stand, values_of, write};
+use p3_words::blocks::{values_of, write};
 use p3_words::refusal::Refusal;
 use p3_words::stored::Stored;
 use poly_eval::eval_coset;
@@ -74,7 +74,7 @@ pub fn coset_values<F: Stored<T> + TwoAdicField, T: Copy>(
     ensures { WritesValues F.ops F.words F.TWO_ADICITY F.two_adic coefficients.now shift log_size values.old values.new result }
 {
     check_size::<F>(log_size, values.len())?;
-    if !F::stands(shift) || !all_stand::<F, T>(coefficients) {
+    if !F::stands(shift) || !F::all_stand(coefficients) {
         return Err(Refusal::Word);
     }
     let coset = find_coset::<F, T>(shift, log_size)?;

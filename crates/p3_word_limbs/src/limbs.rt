@@ -6,7 +6,7 @@ use p3_base::field::{PrimeField, PrimeField32};
 use p3_limbs::limits::max_packed_injective_limbs;
 use p3_limbs::packing::reduce_packed;
 use p3_limbs::splits::split_pf_to_packed_limbs;
-use p3_words::blocks::{all_stand, values_of, write};
+use p3_words::blocks::{values_of, write};
 use p3_words::refusal::Refusal;
 use p3_words::stored::Stored;
 use std::alloc::Global;
@@ -23,7 +23,7 @@ pub fn pack<SF: Stored<T> + PrimeField32, T: Copy, TF: Stored<U> + PrimeField, U
     if radix_bits == 0 || radix_bits >= 64 {
         return Err(Refusal::Radix);
     }
-    if !all_stand::<SF, T>(limbs) {
+    if !SF::all_stand(limbs) {
         return Err(Refusal::Word);
     }
     let Ok(values) = values_of::<SF, T>(alloc, limbs) else {

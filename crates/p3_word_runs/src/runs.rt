@@ -6,7 +6,7 @@ ghost use Rattle.p3_word_runs.specs.Calls.{decoded, IsStep, AreSteps, WritesRun}
 use crate::coded::RunStep;
 use p3_base::field::Field;
 use p3_runs::steps::{FieldStep, Registers, StepFault, StepRefused, run_field_steps};
-use p3_words::blocks::{all_stand, values_of, write};
+use p3_words::blocks::{values_of, write};
 use p3_words::refusal::Refusal;
 use p3_words::stored::Stored;
 use std::alloc::{AllocError, Global};
@@ -111,7 +111,7 @@ pub fn run<F: Stored<T> + Field, T: Copy>(
     if !are_steps(steps, registers.len()) {
         return Err(Refusal::Step);
     }
-    if !all_stand::<F, T>(registers) {
+    if !F::all_stand(registers) {
         return Err(Refusal::Word);
     }
     let Ok(known) = decode_all(alloc, steps, registers.len()) else {

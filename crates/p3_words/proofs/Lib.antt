@@ -3,4 +3,5 @@ pub mod ListProducts
 pub mod PairedWords
 mod Refusals
 mod StoredProducts
+mod StoredSums
 mod WrittenWords

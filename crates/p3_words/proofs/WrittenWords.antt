@@ -1,12 +1,11 @@
 -- Lists that a loop writes item by item from another list.
-use Rattle.std.proofs.Common.{◌≡◌, ◌+◌, ◌<◌, ℕ, Bool, ◌&&◌, List, [], ◌∷◌, ◌++◌, length, map, take, drop, get_or, sym, ap, ap₂, subst, ◌∙◌, arith, append_assoc}
-use Rattle.std.specs.Prelude.{◌↔◌, IsTrue, All}
+use Rattle.std.proofs.Common.{◌≡◌, ◌+◌, ◌<◌, ℕ, List, [], ◌∷◌, ◌++◌, length, map, take, drop, get_or, sym, ap, ap₂, subst, ◌∙◌, arith, append_assoc}
+use Rattle.std.specs.Prelude.{◌↔◌, All}
 use Rattle.std.proofs.Math.ListN.{set}
 use Rattle.std.proofs.lemmas.Grind.{take-set_at}
 use Rattle.std.proofs.lemmas.List.{length-map, length-take, get_or-take, get_or-drop, drop_more, drop-drop, map_more, map-append, set_at}
 use lib.Seq.{drop-set-lt}
 use Rattle.std.proofs.lemmas.List.Elements.{All-more}
-use Rattle.p3_theory.specs.RingSolver.SolverSound.{and_true}
 
 -- a loop that writes f x for each item x of ws over the items of another list
 pub written-more : {T A : Type 0} (f : T → A) (ws : List T) (old xs : List A) (i : ℕ) (w : T) (y : A) → i < length ws → length old ≡ length ws
@@ -18,20 +17,20 @@ written-more f ws old xs i w y inside same h is e =
     ap (λ l. set l i y) (h ∙ ap (λ l. front ++ l) (drop_more old i y room)) ∙ set_at front _ _ y i long ∙ sym (append_assoc front (y ∷ []) _)
     ∙ ap (λ l. l ++ drop (i + 1) old) (ap (λ z. front ++ z ∷ []) (e ∙ ap f is) ∙ sym (map_more f ws i w inside))
 
--- one more word is below the order
-pub stand-more : {T : Type 0} (P : T → Type 0) (ws : List T) (i : ℕ) (w : T) (s a b : Bool) → i < length ws → w ≡ get_or ws i w → (IsTrue s ↔ P w) → (IsTrue a ↔ All P (take i ws))
-    → b ≡ (s && a) → IsTrue b ↔ All P (take (i + 1) ws)
-stand-more P ws i w s a b inside is stands before e =
+-- what tells of the first items that each has a property, and of the next one that it has, tells it of one item more
+pub holds-more : {T : Type 0} (P : T → Type 0) (ws : List T) (i : ℕ) (w : T) {A B : Type 0} → i < length ws → w ≡ get_or ws i w → (A ↔ All P (take i ws)) → (B ↔ (P w × A))
+    → B ↔ All P (take (i + 1) ws)
+holds-more P ws i w inside is before next =
     let long : length (take (i + 1) ws) ≡ i + 1 = omega (arith, length-take (i + 1) ws, inside) in (
       λ h.
-          let both = and_true s a (sym e ∙ h) in
-          All-more P ws i w inside (before.0 both.1) (subst P is (stands.0 both.0)),
+          let both = next.0 h in
+          All-more P ws i w inside (before.0 both.1) (subst P is both.0),
       λ h.
           let last : P w = subst P (get_or-take (i + 1) ws i w (omega arith) ∙ sym is) (h i w (omega (arith, long))) in
           let front : All P (take i ws) = λ k d lt.
           let below : k < i = omega (arith, lt, length-take i ws) in
           subst P (get_or-take (i + 1) ws k d (omega (arith, below)) ∙ sym (get_or-take i ws k d below)) (h k d (omega (arith, long, below))) in
-          e ∙ ap₂ (λ x y. x && y) (stands.1 last) (before.1 front),
+          next.1 (last, before.1 front),
     )
 
 -- a loop that writes v over each item n, where f v is g n

@@ -1,30 +1,9 @@
 //! Blocks of words as values, and back.
-ghost use Rattle.std.specs.Prelude.{◌≡◌, ◌↔◌, ◌&&◌, IsTrue, IfOk, length, map};
+ghost use Rattle.std.specs.Prelude.{◌≡◌, IfOk, length, map};
 ghost use Rattle.p3_words.specs.Words.{AllStand};
 
 use crate::stored::Stored;
 use std::alloc::{AllocError, Global};
-
-/// Whether both hold.
-#[inline(always)]
-fn both(left: bool, right: bool) -> bool
-    ensures { result ≡ (left && right) }
-{
-    left && right
-}
-
-/// Whether each word is below the order.
-#[inline]
-pub fn all_stand<F: Stored<T>, T: Copy>(words: &[T]) -> bool
-    ensures { IsTrue result ↔ AllStand F.words words.now }
-{
-    let mut all = true;
-    for i in 0..words.len() {
-        let stands = F::stands(words[i]);
-        all = both(stands, all);
-    }
-    all
-}
 
 /// Writes the values that the words stand for.
 #[inline(always)]

@@ -1,7 +1,6 @@
 //! Canonical numbers and stored words, in place.
 ghost use Rattle.p3_words.specs.Calls.{WritesNumbers, WritesWords, Checks};
 
-use crate::blocks::all_stand;
 use crate::refusal::Refusal;
 use crate::stored::Stored;
 
@@ -10,7 +9,7 @@ use crate::stored::Stored;
 pub fn from_canonical<F: Stored<T>, T: Copy>(words: &mut [T]) -> Result<(), Refusal>
     ensures { WritesWords F.words words.old words.new result }
 {
-    if !all_stand::<F, T>(words) {
+    if !F::all_stand(words) {
         return Err(Refusal::Word);
     }
     for i in 0..words.len() {
@@ -24,7 +23,7 @@ pub fn from_canonical<F: Stored<T>, T: Copy>(words: &mut [T]) -> Result<(), Refu
 pub fn to_canonical<F: Stored<T>, T: Copy>(words: &mut [T]) -> Result<(), Refusal>
     ensures { WritesNumbers F.words words.old words.new result }
 {
-    if !all_stand::<F, T>(words) {
+    if !F::all_stand(words) {
         return Err(Refusal::Word);
     }
     for i in 0..words.len() {
@@ -38,7 +37,7 @@ pub fn to_canonical<F: Stored<T>, T: Copy>(words: &mut [T]) -> Result<(), Refusa
 pub fn check<F: Stored<T>, T: Copy>(words: &[T]) -> Result<(), Refusal>
     ensures { Checks F.words words.now result }
 {
-    if all_stand::<F, T>(words) {
+    if F::all_stand(words) {
         Ok(())
     } else {
         Err(Refusal::Word)

@@ -1,4 +1,4 @@
-use Rattle.std.proofs.Common.{◌≡◌, ◌+◌, ◌-◌, ◌%◌, ◌<◌, ◌≤◌, [], ◌∷◌, ◌++◌, length, map, take, drop, refl, arith, ap, sym, ◌∙◌, append-nil}
+use Rattle.std.proofs.Common.{◌≡◌, ◌+◌, ◌-◌, ◌%◌, ◌<◌, ◌≤◌, [], ◌∷◌, ◌++◌, length, map, drop, refl, arith, ap, sym, ◌∙◌, append-nil}
 use Rattle.std.proofs.lemmas.List.{drop-drop, drop_all, take_all, map-append}
 use Rattle.std.proofs.lemmas.List.Elements.{All-same, All-drop}
 use Rattle.std.proofs.lemmas.Slice.{drop-put_mid}

@@ -1,6 +1,6 @@
-use Rattle.std.proofs.Common.{◌≡◌, ◌∷◌, [], ◌++◌, Some, map, take, ap, ap₂, sym, ◌∙◌, refl, arith}
-use Rattle.std.proofs.lemmas.List.{map_more, map-append, take_all}
-use Rattle.std.proofs.lemmas.List.Elements.{All-nil, All-push, All-same}
+use Rattle.std.proofs.Common.{◌∷◌, [], ◌++◌, Some, map, ap, ap₂, sym, ◌∙◌}
+use Rattle.std.proofs.lemmas.List.{map_more, map-append}
+use Rattle.std.proofs.lemmas.List.Elements.{All-push, All-same}
 use Rattle.p3_runs.specs.FieldRuns.{FieldStepFits}
 use Rattle.p3_word_runs.specs.Calls.{decoded}
 use Rattle.p3_word_runs.proofs.runs.decode_all.Goals as goal

@@ -1,4 +1,4 @@
-use Rattle.std.proofs.Common.{◌≡◌, ◌++◌, ℕ, length, take, drop}
+use Rattle.std.proofs.Common.{◌≡◌, ◌++◌, length, take, drop}
 use Rattle.p3_theory.specs.Lists.PairedLists.{zip_with}
 use Rattle.p3_bench_prime.specs.Elements.{ops}
 use Rattle.p3_bench_prime.specs.contracts.form.U64Word.TheImpl as word_impl
