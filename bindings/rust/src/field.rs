@@ -1,6 +1,6 @@
 //! What the three prime fields have in common.
 use crate::{Error, RunStep};
-use std::fmt::Debug;
+use std::fmt::{Debug, Display};
 use std::hash::Hash;
 
 /// Keeps [`PrimeField`] to the fields of the library.
@@ -8,10 +8,11 @@ pub trait Sealed {}
 
 /// A prime field of the library: calls on values and on slices of them.
 ///
-/// A value is its stored word. Words that weren't looked at may be taken as values too, and each call looks at those
-/// that it is given: where one isn't below the order it answers [`Error::Word`]. What a call says it writes is
-/// unchanged where it is refused.
-pub trait PrimeField: Sealed + Copy + Eq + Hash + Debug + Send + Sync + 'static {
+/// A value is its stored word; it is shown by its canonical number. Words that weren't looked at may be taken as values
+/// too, and each call looks at those that it is given: where one isn't below the order it answers [`Error::Word`].
+/// So there are no operators, which couldn't: the product of two values is `product(&[a, b])`. What a call says it
+/// writes is unchanged where it is refused.
+pub trait PrimeField: Sealed + Copy + Eq + Hash + Debug + Display + Send + Sync + 'static {
     /// The word that a value is in memory.
     type Word: Copy + Ord + Debug + Into<u64> + TryFrom<u64, Error: Debug> + 'static;
 
@@ -80,6 +81,8 @@ pub trait PrimeField: Sealed + Copy + Eq + Hash + Debug + Send + Sync + 'static 
 
     /// Writes over each canonical number, which is below the order, the word of its value.
     ///
+    /// Refused by [`Error::Word`].
+    ///
     /// ```
     /// use p3_field_proved::{KoalaBear, PrimeField};
     /// let mut numbers = [7, 8];
@@ -90,6 +93,8 @@ pub trait PrimeField: Sealed + Copy + Eq + Hash + Debug + Send + Sync + 'static 
     fn from_canonical(numbers: &mut [Self::Word]) -> Result<&mut [Self], Error>;
 
     /// Writes over each value its canonical number.
+    ///
+    /// Refused by [`Error::Word`].
     ///
     /// ```
     /// use p3_field_proved::{KoalaBear, PrimeField};
@@ -126,6 +131,8 @@ pub trait PrimeField: Sealed + Copy + Eq + Hash + Debug + Send + Sync + 'static 
 
     /// Whether each word is below the order.
     ///
+    /// Refused by [`Error::Word`].
+    ///
     /// ```
     /// use p3_field_proved::{Error, Goldilocks, PrimeField};
     /// let values = Goldilocks::from_words_unchecked(&[0, Goldilocks::ORDER]);
@@ -134,6 +141,8 @@ pub trait PrimeField: Sealed + Copy + Eq + Hash + Debug + Send + Sync + 'static 
     fn check(values: &[Self]) -> Result<(), Error>;
 
     /// The sum of the values; of none it is zero.
+    ///
+    /// Refused by [`Error::Word`].
     ///
     /// ```
     /// use p3_field_proved::{BabyBear, PrimeField};
@@ -146,6 +155,8 @@ pub trait PrimeField: Sealed + Copy + Eq + Hash + Debug + Send + Sync + 'static 
 
     /// The product of the values; of none it is one.
     ///
+    /// Refused by [`Error::Word`].
+    ///
     /// ```
     /// use p3_field_proved::{BabyBear, PrimeField};
     /// let mut numbers = [2, 3, 7];
@@ -156,6 +167,8 @@ pub trait PrimeField: Sealed + Copy + Eq + Hash + Debug + Send + Sync + 'static 
     fn product(values: &[Self]) -> Result<Self, Error>;
 
     /// The sum of the products, index by index.
+    ///
+    /// Refused by [`Error::Length`], [`Error::Word`].
     ///
     /// ```
     /// use p3_field_proved::{Error, Goldilocks, PrimeField};
@@ -168,6 +181,8 @@ pub trait PrimeField: Sealed + Copy + Eq + Hash + Debug + Send + Sync + 'static 
 
     /// Adds to each value on the left the one on the right at its index.
     ///
+    /// Refused by [`Error::Length`], [`Error::Word`].
+    ///
     /// ```
     /// use p3_field_proved::{Goldilocks, PrimeField};
     /// let mut words = [1, 2];
@@ -179,6 +194,8 @@ pub trait PrimeField: Sealed + Copy + Eq + Hash + Debug + Send + Sync + 'static 
 
     /// Multiplies each value on the left by the one on the right at its index.
     ///
+    /// Refused by [`Error::Length`], [`Error::Word`].
+    ///
     /// ```
     /// use p3_field_proved::{Goldilocks, PrimeField};
     /// let mut words = [1, 2];
@@ -189,6 +206,8 @@ pub trait PrimeField: Sealed + Copy + Eq + Hash + Debug + Send + Sync + 'static 
     fn mul(left: &mut [Self], right: &[Self]) -> Result<(), Error>;
 
     /// Multiplies each value by the factor.
+    ///
+    /// Refused by [`Error::Word`].
     ///
     /// ```
     /// use p3_field_proved::{BabyBear, PrimeField};
@@ -202,6 +221,8 @@ pub trait PrimeField: Sealed + Copy + Eq + Hash + Debug + Send + Sync + 'static 
 
     /// Adds to each value on the left the one on the right at its index, times the factor.
     ///
+    /// Refused by [`Error::Length`], [`Error::Word`].
+    ///
     /// ```
     /// use p3_field_proved::{Goldilocks, PrimeField};
     /// let mut words = [1, 2];
@@ -214,6 +235,8 @@ pub trait PrimeField: Sealed + Copy + Eq + Hash + Debug + Send + Sync + 'static 
 
     /// The value at the point of the polynomial with these coefficients, the constant one first.
     ///
+    /// Refused by [`Error::Word`].
+    ///
     /// ```
     /// use p3_field_proved::{Goldilocks, PrimeField};
     /// let coefficients = Goldilocks::from_words(&[1, 0, 2])?;
@@ -223,6 +246,8 @@ pub trait PrimeField: Sealed + Copy + Eq + Hash + Debug + Send + Sync + 'static 
     fn horner(coefficients: &[Self], point: Self) -> Result<Self, Error>;
 
     /// Writes `start`, `start * base`, `start * base^2` and so on: as many as there is room for.
+    ///
+    /// Refused by [`Error::Word`].
     ///
     /// ```
     /// use p3_field_proved::{BabyBear, PrimeField};
@@ -236,6 +261,8 @@ pub trait PrimeField: Sealed + Copy + Eq + Hash + Debug + Send + Sync + 'static 
 
     /// The inverse.
     ///
+    /// Refused by [`Error::Word`], [`Error::NoInverse`].
+    ///
     /// ```
     /// use p3_field_proved::{BabyBear, Error, PrimeField};
     /// assert_eq!(BabyBear::from_number(2)?.inverse()?.number()?, 1006632961);
@@ -245,6 +272,8 @@ pub trait PrimeField: Sealed + Copy + Eq + Hash + Debug + Send + Sync + 'static 
     fn inverse(self) -> Result<Self, Error>;
 
     /// Writes over each value its inverse.
+    ///
+    /// Refused by [`Error::Word`], [`Error::NoInverse`], [`Error::Memory`].
     ///
     /// ```
     /// use p3_field_proved::{BabyBear, Error, PrimeField};
@@ -257,6 +286,8 @@ pub trait PrimeField: Sealed + Copy + Eq + Hash + Debug + Send + Sync + 'static 
 
     /// A square root.
     ///
+    /// Refused by [`Error::Word`], [`Error::NoRoot`].
+    ///
     /// ```
     /// use p3_field_proved::{BabyBear, Error, PrimeField};
     /// let root = BabyBear::from_number(9)?.sqrt()?.number()?;
@@ -266,8 +297,10 @@ pub trait PrimeField: Sealed + Copy + Eq + Hash + Debug + Send + Sync + 'static 
     /// ```
     fn sqrt(self) -> Result<Self, Error>;
 
-    /// Writes the members of the coset with this shift, as many as 2 to the power `log_size`, for which there has to
-    /// be room: the shift times each power of the generator.
+    /// Writes the members of the coset with this shift: the shift times each power, from the first on, of the two-adic
+    /// generator of order 2 to the power `log_size`. So many members has the slice, no fewer and no more.
+    ///
+    /// Refused by [`Error::LogSize`], [`Error::Length`], [`Error::Word`], [`Error::NoInverse`].
     ///
     /// ```
     /// use p3_field_proved::{Goldilocks, PrimeField};
@@ -279,8 +312,11 @@ pub trait PrimeField: Sealed + Copy + Eq + Hash + Debug + Send + Sync + 'static 
     /// ```
     fn coset(shift: Self, log_size: usize, points: &mut [Self]) -> Result<(), Error>;
 
-    /// Writes the values over that coset of the polynomial with these coefficients, the constant one first, of which
-    /// there may be any number.
+    /// Writes the values of the polynomial with these coefficients, the constant one first, at the members of the coset
+    /// that [`PrimeField::coset`] writes, in their order. There may be any number of coefficients; the slice of values
+    /// has 2 to the power `log_size`. A shift of zero has no inverse.
+    ///
+    /// Refused by [`Error::LogSize`], [`Error::Length`], [`Error::Word`], [`Error::NoInverse`], [`Error::Memory`].
     ///
     /// ```
     /// use p3_field_proved::{Goldilocks, PrimeField};
@@ -299,6 +335,8 @@ pub trait PrimeField: Sealed + Copy + Eq + Hash + Debug + Send + Sync + 'static 
     ) -> Result<(), Error>;
 
     /// Carries out the steps, one after the other, over the registers.
+    ///
+    /// Refused by [`Error::Step`], [`Error::Word`], [`Error::NoInverse`], [`Error::NoRoot`], [`Error::Memory`].
     ///
     /// ```
     /// use p3_field_proved::{Error, Goldilocks, PrimeField, RunStep};

@@ -2,6 +2,7 @@
 use crate::calls::{self, RunStep};
 use crate::error::{Error, done, written};
 use crate::field::{PrimeField, Sealed};
+use std::fmt;
 use std::slice::{from_raw_parts, from_raw_parts_mut};
 
 /// A field whose values are words, by a module of calls.
@@ -11,9 +12,25 @@ use std::slice::{from_raw_parts, from_raw_parts_mut};
 macro_rules! prime_field {
     ($(#[$doc:meta])* $name:ident($word:ty), $calls:ident, $order:expr) => {
         $(#[$doc])*
-        #[derive(Clone, Copy, Debug, PartialEq, Eq, Hash)]
+        #[derive(Clone, Copy, PartialEq, Eq, Hash)]
         #[repr(transparent)]
         pub struct $name(pub(crate) $word);
+
+        /// The canonical number; where the word is no value, the word.
+        impl fmt::Display for $name {
+            fn fmt(&self, f: &mut fmt::Formatter<'_>) -> fmt::Result {
+                match self.number() {
+                    Ok(number) => number.fmt(f),
+                    Err(_) => write!(f, "no value: the word {}", self.0),
+                }
+            }
+        }
+
+        impl fmt::Debug for $name {
+            fn fmt(&self, f: &mut fmt::Formatter<'_>) -> fmt::Result {
+                write!(f, "{}({self})", stringify!($name))
+            }
+        }
 
         impl Sealed for $name {}
 

@@ -8,6 +8,8 @@ use crate::fields::{BabyBear, Goldilocks, KoalaBear};
 pub trait Limb: PrimeField {
     /// The value for the number whose digits in radix 2 to the power `radix_bits`, the lowest first, are the limbs.
     ///
+    /// Refused by [`Error::Radix`], [`Error::Word`], [`Error::Memory`].
+    ///
     /// ```
     /// use p3_field_proved::{BabyBear, Error, Limb, PrimeField};
     /// let mut numbers = [5, 1];
@@ -21,6 +23,8 @@ pub trait Limb: PrimeField {
     /// Writes the lowest digits of the value in radix 2 to the power `radix_bits`, the lowest first, as many as there
     /// are limbs.
     ///
+    /// Refused by [`Error::Radix`], [`Error::Word`], [`Error::Memory`].
+    ///
     /// ```
     /// use p3_field_proved::{BabyBear, Error, Goldilocks, Limb, PrimeField};
     /// let mut limbs = [BabyBear::from_number(0)?; 3];
@@ -32,6 +36,8 @@ pub trait Limb: PrimeField {
 
     /// How many limbs can be packed into one value at most, so that lists of one length stay apart where the radix is
     /// not below the order.
+    ///
+    /// Refused by [`Error::Radix`].
     ///
     /// ```
     /// use p3_field_proved::{BabyBear, Error, Limb};

@@ -49,6 +49,8 @@ impl BabyBearx4 {
 
     /// Multiplies each value on the left by the one on the right at its index.
     ///
+    /// Refused by [`Error::Length`], [`Error::Word`].
+    ///
     /// ```
     /// use p3_field_proved::BabyBearx4;
     /// let mut values = [BabyBearx4::from_numbers([0, 0, 0, 1])?];
@@ -62,6 +64,8 @@ impl BabyBearx4 {
     }
 
     /// Writes over each value its square.
+    ///
+    /// Refused by [`Error::Word`].
     ///
     /// ```
     /// use p3_field_proved::BabyBearx4;
@@ -77,6 +81,8 @@ impl BabyBearx4 {
 
     /// Writes over each value its image under the Frobenius map, taken `count` times.
     ///
+    /// Refused by [`Error::Word`].
+    ///
     /// ```
     /// use p3_field_proved::{BabyBear, BabyBearx4, PrimeField};
     /// let mut values = [BabyBearx4::from_numbers([5, 1, 0, 0])?];
@@ -90,6 +96,8 @@ impl BabyBearx4 {
     }
 
     /// The sum of the products, index by index.
+    ///
+    /// Refused by [`Error::Length`], [`Error::Word`].
     ///
     /// ```
     /// use p3_field_proved::BabyBearx4;
@@ -106,6 +114,8 @@ impl BabyBearx4 {
 
     /// The inverse.
     ///
+    /// Refused by [`Error::Word`], [`Error::NoInverse`].
+    ///
     /// ```
     /// use p3_field_proved::{BabyBearx4, Error};
     /// assert_eq!(BabyBearx4::from_numbers([2, 0, 0, 0])?.inverse()?.numbers()?, [1006632961, 0, 0, 0]);
@@ -120,6 +130,8 @@ impl BabyBearx4 {
     }
 
     /// Writes over each value its inverse.
+    ///
+    /// Refused by [`Error::Word`], [`Error::NoInverse`], [`Error::Memory`].
     ///
     /// ```
     /// use p3_field_proved::BabyBearx4;
