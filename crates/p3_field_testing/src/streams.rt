@@ -82,7 +82,7 @@ fn agrees<T: RawDataSerializable + Numbered>(
 }
 
 /// Asserts that each line has numbers and the bytes, or the words, of their values.
-fn assert_streams<T: RawDataSerializable + Numbered>(
+pub(crate) fn assert_streams<T: RawDataSerializable + Numbered>(
     rt: &(impl Abort + AllocGlobal),
     table: &str,
 ) -> Result<(), Fail> {
