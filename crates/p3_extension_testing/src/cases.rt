@@ -114,8 +114,8 @@ static CALLS: [(&str, Call); 27] = [
 
 /// The call of a name.
 fn call_of(name: &str) -> Option<Call> {
-    for row in CALLS {
-        let (known, call) = row;
+    for row in &CALLS {
+        let (known, call) = *row;
         if known == name {
             return Some(call);
         }

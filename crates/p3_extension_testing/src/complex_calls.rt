@@ -1,5 +1,7 @@
 //! The calls of complex values, and of the extension of degree 2 over them, by numbers.
 
+use crate::cases::Case;
+use crate::fields::binomial_agrees;
 use crate::values::Residue;
 use p3_base::field::Field;
 use p3_ext::extension::{
@@ -7,6 +9,7 @@ use p3_ext::extension::{
     HasComplexBinomialExtension, HasTwoAdicComplexBinomialExtension,
 };
 use p3_ring::ring::PrimeCharacteristicRing;
+use std::alloc::{AllocError, Global};
 
 /// The numbers of a complex value, its real and its imaginary part.
 pub type Pair = [u64; 2];
@@ -154,7 +157,7 @@ fn tower_pairs<F: Residue>(y: Tower<F>) -> [Pair; 2] {
 }
 
 /// The coefficients of the inverse in that extension, if there is one, and of the product with a second value.
-pub fn tower_answers<F: HasComplexBinomialExtension<2> + Residue>(
+fn tower_answers<F: HasComplexBinomialExtension<2> + Residue>(
     _room: Option<Tower<F>>,
     y: [Pair; 2],
     z: [Pair; 2],
@@ -170,7 +173,7 @@ pub fn tower_answers<F: HasComplexBinomialExtension<2> + Residue>(
 }
 
 /// The name of the extension over complex values as an algebra.
-pub fn tower_name<F: HasComplexBinomialExtension<2>>() -> &'static str {
+fn tower_name<F: HasComplexBinomialExtension<2>>() -> &'static str {
     F::complex_binomial_algebra_id()
 }
 
@@ -199,7 +202,7 @@ fn extension_answer<F: HasTwoAdicComplexBinomialExtension<2> + Residue>(
 }
 
 /// The numbers that a call answers, if it answers any. Nothing is read of `room`.
-pub fn answer<F: HasTwoAdicComplexBinomialExtension<2> + Residue>(
+fn answer<F: HasTwoAdicComplexBinomialExtension<2> + Residue>(
     room: Option<Complex<F>>,
     call: PairCall,
 ) -> Option<Pair> {
@@ -210,5 +213,43 @@ pub fn answer<F: HasTwoAdicComplexBinomialExtension<2> + Residue>(
             Some(pair) => Some(pair),
             None => pair_of(extension_answer::<F>(call)),
         },
+    }
+}
+
+/// What is told of complex values and of the extension over them.
+#[derive(Clone, Copy)]
+pub enum Task<'a> {
+    /// A call and the numbers that it answers.
+    Pair(PairCall, Pair),
+    /// A call of complex values as an extension.
+    Case(Case<'a>),
+    /// The inverse of a value of the extension over complex values.
+    Inverse([Pair; 2], [Pair; 2]),
+    /// The name of that extension as an algebra.
+    Name(&'a str),
+}
+
+/// Whether the inverse of y is the one that is told, and the product of both is one. Nothing is read of `room`.
+fn inverse_agrees<F: HasComplexBinomialExtension<2> + Residue>(
+    room: Option<Tower<F>>,
+    y: [Pair; 2],
+    inverse: [Pair; 2],
+) -> bool {
+    let (found, product) = tower_answers::<F>(room, y, inverse);
+    found == Some(inverse) && product == [[1, 0], [0, 0]]
+}
+
+/// Whether what is told holds: one call at a field passes what the field owes for all of it. Nothing is read of
+/// `_rooms`, which tells that values have room.
+pub fn task_agrees<F: HasTwoAdicComplexBinomialExtension<2> + Residue>(
+    alloc: Global,
+    _rooms: Option<(Complex<F>, Tower<F>)>,
+    task: Task<'_>,
+) -> Result<bool, AllocError> {
+    match task {
+        Task::Pair(call, pair) => Ok(answer::<F>(None, call) == Some(pair)),
+        Task::Case(case) => binomial_agrees::<F, 2>(alloc, None, case),
+        Task::Inverse(y, inverse) => Ok(inverse_agrees::<F>(None, y, inverse)),
+        Task::Name(name) => Ok(tower_name::<F>() == name),
     }
 }

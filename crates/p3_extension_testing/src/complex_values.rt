@@ -1,14 +1,43 @@
 //! Complex values over the residues modulo 31, and the extension of degree 2 over them.
 
-use crate::complex_calls::{Pair, PairCall, answer, tower_answers, tower_name};
+use crate::cases::Case;
+use crate::complex_calls::{Pair, PairCall, Task, task_agrees};
+use crate::{extension_root_tables as roots, extension_tables as tables, worked_tables as worked};
 use p3_bench_prime::complex_tower::F31cx2;
 use p3_bench_prime::small::F31;
 use p3_spaces::streams::RawDataSerializable;
+use std::alloc::Global;
 use std::process::Abort;
 
+/// Whether what is told holds, with memory for it.
+fn agrees(alloc: Global, task: Task<'_>) -> bool {
+    match task_agrees::<F31>(alloc, None, task) {
+        Ok(agrees) => agrees,
+        Err(_) => false,
+    }
+}
+
 /// Asserts the numbers that a call answers.
-fn assert_pair(rt: &impl Abort, call: PairCall, expected: Pair) {
-    assert!(rt; answer::<F31>(None, call) == Some(expected));
+fn assert_pair(rt: &(impl Abort + AllocGlobal), call: PairCall, expected: Pair) {
+    assert!(rt; agrees(rt.alloc(), Task::Pair(call, expected)));
+}
+
+/// Whether the call of a line of an extension's table has its answer.
+fn line_agrees(alloc: Global, line: &str) -> bool {
+    match Case::read(line) {
+        Some(case) => agrees(alloc, Task::Case(case)),
+        None => false,
+    }
+}
+
+/// The tables of complex values as an extension, for which a marker has no constants.
+#[test]
+fn f31c(rt: HostRuntime) {
+    for table in [tables::F31C, roots::F31C, worked::F31C] {
+        for line in table.lines() {
+            assert!(rt; line_agrees(rt.alloc(), line), "{line}");
+        }
+    }
 }
 
 #[test]
@@ -47,10 +76,8 @@ fn tower_constants(rt: HostRuntime) {
 fn inverse_of_y(rt: HostRuntime) {
     let y = [[0, 0], [1, 0]];
     let inverse = [[0, 0], [5, 7]];
-    let (found, product) = tower_answers::<F31>(None, y, inverse);
-    assert_eq!(rt; found, Some(inverse));
-    assert_eq!(rt; product, [[1, 0], [0, 0]]);
-    assert_eq!(rt; tower_name::<F31>(), "bench:f31cx2");
+    assert!(rt; agrees(rt.alloc(), Task::Inverse(y, inverse)));
+    assert!(rt; agrees(rt.alloc(), Task::Name("bench:f31cx2")));
 }
 
 #[test]
@@ -59,7 +86,7 @@ fn tower_bytes(rt: HostRuntime) {
 }
 
 /// Asserts both coefficients of a two-adic generator of the extension over complex values.
-fn assert_two_adic(rt: &impl Abort, bits: usize, generator: [Pair; 2]) {
+fn assert_two_adic(rt: &(impl Abort + AllocGlobal), bits: usize, generator: [Pair; 2]) {
     for index in 0..2 {
         let call = PairCall::TwoAdicCoefficient { bits, index };
         assert_pair(rt, call, generator[index]);

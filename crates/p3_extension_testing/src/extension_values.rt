@@ -1,10 +1,9 @@
-//! Order, hash and default of extension values, lists of their coefficients, and bytes, at one type.
+//! Order, hash and default of extension values, and lists of their coefficients, at one type.
 
 use crate::lists::{List, ZERO};
-use crate::streams::are_bytes;
 use crate::values::{Listed, Residue, coefficients};
 use p3_base::packed_traits::Packable;
-use p3_bench_prime::extensions::{F2t7, F17x4};
+use p3_bench_prime::extensions::F17x4;
 use p3_bench_prime::small::F17;
 use p3_ring::ring::PrimeCharacteristicRing;
 use p3_spaces::basis::BasedVectorSpace;
@@ -90,16 +89,5 @@ fn lists_of_values(rt: HostRuntime) -> Result<(), Fail> {
     assert!(rt; back.len() == 2);
     assert!(rt; back[0].list() == x);
     assert!(rt; back[1].list() == y);
-    Ok(())
-}
-
-#[test]
-fn septic_bytes(rt: HostRuntime) -> Result<(), Fail> {
-    let expected = [
-        1u8, 0, 0, 0, 0, 0, 0, 0, 0, 0, 0, 0, 1, 0, 0, 0, 1, 0, 0, 0, 1, 0, 0, 0, 0, 0, 0, 0,
-    ];
-    let list = [1, 0, 0, 1, 1, 1, 0, 0];
-    let agrees = are_bytes::<F2t7>(rt.alloc(), &list, &expected)?;
-    assert!(rt; agrees);
     Ok(())
 }

@@ -2,7 +2,6 @@
 //! lines.
 
 use crate::cases::Case;
-use crate::fields::binomial_agrees;
 use crate::markers::{Calls, TwoAdicBinomial};
 use crate::{
     extension_root_tables as roots, extension_tables as tables, trinomial_tables as trinomials,
@@ -90,24 +89,6 @@ fn f31x5(rt: HostRuntime) -> Result<(), Fail> {
 #[test]
 fn f31x6(rt: HostRuntime) -> Result<(), Fail> {
     assert_lines::<Plain<M31>, Binomial<F31>, 6>(&rt, &[tables::F31X6, worked::F31X6])
-}
-
-/// `agrees` of complex values over the residues modulo 31, an extension that a marker has no constants of.
-fn complex_agrees(alloc: Global, line: &str) -> Result<bool, AllocError> {
-    match Case::read(line) {
-        Some(case) => binomial_agrees::<F31, 2>(alloc, None, case),
-        None => Ok(false),
-    }
-}
-
-#[test]
-fn f31c(rt: HostRuntime) -> Result<(), Fail> {
-    for table in [tables::F31C, roots::F31C, worked::F31C] {
-        for line in table.lines() {
-            assert!(rt; complex_agrees(rt.alloc(), line)?, "{line}");
-        }
-    }
-    Ok(())
 }
 
 #[test]

@@ -5,9 +5,9 @@ use crate::lists::{List, MOST, ZERO, list_of_text};
 use crate::values::{Residue, coefficients};
 use crate::{septic_tables as septic, slice_tables as worked};
 use p3_bench_prime::baby_bear::BabyBearModulus;
-use p3_bench_prime::form::{Form, Plain};
+use p3_bench_prime::form::{Form, Plain, Word};
 use p3_bench_prime::fp::Fp;
-use p3_bench_prime::goldilocks::Goldilocks;
+use p3_bench_prime::goldilocks::GoldilocksForm;
 use p3_bench_prime::montgomery::Montgomery;
 use p3_bench_prime::small::{M2, M15, M17, M31};
 use p3_ext::extension::{
@@ -81,8 +81,8 @@ static CALLS: [(&str, Call); 15] = [
 
 /// The call of a name.
 fn call_of(name: &str) -> Option<Call> {
-    for row in CALLS {
-        let (known, call) = row;
+    for row in &CALLS {
+        let (known, call) = *row;
         if known == name {
             return Some(call);
         }
@@ -238,8 +238,8 @@ static RINGS: [(&str, Ring); 6] = [
 
 /// The ring of a name.
 fn ring_of(name: &str) -> Option<Ring> {
-    for row in RINGS {
-        let (known, ring) = row;
+    for row in &RINGS {
+        let (known, ring) = *row;
         if known == name {
             return Some(ring);
         }
@@ -247,20 +247,25 @@ fn ring_of(name: &str) -> Option<Ring> {
     None
 }
 
-/// `answer` for the residues of a marker.
-fn answer_at<W: Form<u32>>(call: Call, a: &List, b: &List) -> List {
-    answer::<Fp<W>>(None, call, a, b)
+/// `answer` for the residues of a marker. Nothing is read of `list`.
+fn answer_at<W: Form<T>, T: Word>(
+    list: Option<[Fp<W, T>; MOST]>,
+    call: Call,
+    a: &List,
+    b: &List,
+) -> List {
+    answer::<Fp<W, T>>(list, call, a, b)
 }
 
 /// `answer` for a ring that has a name.
 fn answer_in(ring: Ring, call: Call, a: &List, b: &List) -> List {
     match ring {
-        Ring::F2 => answer_at::<Plain<M2>>(call, a, b),
-        Ring::F17 => answer_at::<Plain<M17>>(call, a, b),
-        Ring::F31 => answer_at::<Plain<M31>>(call, a, b),
-        Ring::Z15 => answer_at::<Plain<M15>>(call, a, b),
-        Ring::BabyBear => answer_at::<Montgomery<BabyBearModulus>>(call, a, b),
-        Ring::Goldilocks => answer::<Goldilocks>(None, call, a, b),
+        Ring::F2 => answer_at::<Plain<M2>, u32>(None, call, a, b),
+        Ring::F17 => answer_at::<Plain<M17>, u32>(None, call, a, b),
+        Ring::F31 => answer_at::<Plain<M31>, u32>(None, call, a, b),
+        Ring::Z15 => answer_at::<Plain<M15>, u32>(None, call, a, b),
+        Ring::BabyBear => answer_at::<Montgomery<BabyBearModulus>, u32>(None, call, a, b),
+        Ring::Goldilocks => answer_at::<GoldilocksForm, u64>(None, call, a, b),
     }
 }
 

@@ -2,13 +2,15 @@
 
 use crate::lists::{List, list_of_text};
 use crate::stream_tables as tables;
-use crate::values::Listed;
-use p3_bench_prime::extensions::{
-    BabyBearx4, F2t5, F2t7, F17bx2, F17t5, F17x2, F17x4, F17x8, F31c, F31t3, F31x3, F31x5, F31x6,
-    Z15x2,
+use crate::values::{Listed, Residue};
+use p3_bench_prime::baby_bear::BabyBear;
+use p3_bench_prime::small::{F2, F17, F17b, F31, Z15};
+use p3_ext::extension::{
+    Binomial, ByteCountFits, CubicTrinomial, ExtField, QuinticTrinomial, SepticTrinomial,
 };
-use p3_spaces::streams::RawDataSerializable;
+use p3_spaces::streams::{ByteStream, RawDataSerializable};
 use std::alloc::{AllocError, Global};
+use std::array::IntoIter;
 use std::process::Abort;
 use std::test::Fail;
 
@@ -44,19 +46,33 @@ fn words_agree<T: RawDataSerializable + Listed>(
     Ok(are_words(&stream, words))
 }
 
-/// Asserts that each line has values and the words of their bytes.
-fn assert_words<T: RawDataSerializable + Listed>(
+/// `words_agree` of values of the extension of F of degree D by the shape S: a call at a base passes how it counts
+/// bytes alone. Nothing is read of `_rooms`, which tells that values and their bytes have room.
+fn extension_words_agree<F: ByteCountFits<D> + Residue, S: Copy, const D: usize>(
+    alloc: Global,
+    _rooms: Option<(ExtField<F, D, S, F>, ByteStream<IntoIter<F, D>, F::Bytes>)>,
+    line: &str,
+) -> Result<bool, AllocError> {
+    words_agree::<ExtField<F, D, S, F>>(alloc, line)
+}
+
+/// Asserts that each line has values and the words of their bytes. Nothing is read of `_rooms`.
+fn assert_words<F: ByteCountFits<D> + Residue, S: Copy, const D: usize>(
     rt: &(impl Abort + AllocGlobal),
+    _rooms: Option<(ExtField<F, D, S, F>, ByteStream<IntoIter<F, D>, F::Bytes>)>,
     table: &str,
 ) -> Result<(), Fail> {
     for line in table.lines() {
-        assert!(rt; words_agree::<T>(rt.alloc(), line)?, "{line}");
+        assert!(rt;
+            extension_words_agree::<F, S, D>(rt.alloc(), None, line)?,
+            "{line}"
+        );
     }
     Ok(())
 }
 
 /// Whether the bytes of a value are these.
-pub fn are_bytes<T: RawDataSerializable + Listed>(
+fn are_bytes<T: RawDataSerializable + Listed>(
     alloc: Global,
     list: &List,
     bytes: &[u8],
@@ -65,28 +81,54 @@ pub fn are_bytes<T: RawDataSerializable + Listed>(
     Ok(answer.as_slice() == bytes && T::NUM_BYTES == bytes.len())
 }
 
+/// The same of a value of the extension of F of degree D by the shape S. Nothing is read of `_rooms`.
+fn extension_bytes_agree<F: ByteCountFits<D> + Residue, S: Copy, const D: usize>(
+    alloc: Global,
+    _rooms: Option<(ExtField<F, D, S, F>, ByteStream<IntoIter<F, D>, F::Bytes>)>,
+    list: &List,
+    bytes: &[u8],
+) -> Result<bool, AllocError> {
+    are_bytes::<ExtField<F, D, S, F>>(alloc, list, bytes)
+}
+
 #[test]
 fn words_modulo_17(rt: HostRuntime) -> Result<(), Fail> {
-    assert_words::<F17x2>(&rt, tables::F17X2)?;
-    assert_words::<F17x4>(&rt, tables::F17X4)?;
-    assert_words::<F17x8>(&rt, tables::F17X8)?;
-    assert_words::<F17bx2>(&rt, tables::F17BX2)?;
-    assert_words::<F17t5>(&rt, tables::F17T5)
+    assert_words::<F17, Binomial<F17>, 2>(&rt, None, tables::F17X2)?;
+    assert_words::<F17, Binomial<F17>, 4>(&rt, None, tables::F17X4)?;
+    assert_words::<F17, Binomial<F17>, 8>(&rt, None, tables::F17X8)?;
+    assert_words::<F17b, Binomial<F17b>, 2>(&rt, None, tables::F17BX2)?;
+    assert_words::<F17, QuinticTrinomial, 5>(&rt, None, tables::F17T5)
 }
 
 #[test]
 fn words_modulo_31(rt: HostRuntime) -> Result<(), Fail> {
-    assert_words::<F31x3>(&rt, tables::F31X3)?;
-    assert_words::<F31x5>(&rt, tables::F31X5)?;
-    assert_words::<F31x6>(&rt, tables::F31X6)?;
-    assert_words::<F31c>(&rt, tables::F31C)?;
-    assert_words::<F31t3>(&rt, tables::F31T3)
+    assert_words::<F31, Binomial<F31>, 3>(&rt, None, tables::F31X3)?;
+    assert_words::<F31, Binomial<F31>, 5>(&rt, None, tables::F31X5)?;
+    assert_words::<F31, Binomial<F31>, 6>(&rt, None, tables::F31X6)?;
+    assert_words::<F31, Binomial<F31>, 2>(&rt, None, tables::F31C)?;
+    assert_words::<F31, CubicTrinomial, 3>(&rt, None, tables::F31T3)
 }
 
 #[test]
 fn words_modulo_other_orders(rt: HostRuntime) -> Result<(), Fail> {
-    assert_words::<F2t5>(&rt, tables::F2T5)?;
-    assert_words::<F2t7>(&rt, tables::F2T7)?;
-    assert_words::<Z15x2>(&rt, tables::Z15X2)?;
-    assert_words::<BabyBearx4>(&rt, tables::BBX4)
+    assert_words::<F2, QuinticTrinomial, 5>(&rt, None, tables::F2T5)?;
+    assert_words::<F2, SepticTrinomial, 7>(&rt, None, tables::F2T7)?;
+    assert_words::<Z15, Binomial<Z15>, 2>(&rt, None, tables::Z15X2)?;
+    assert_words::<BabyBear, Binomial<BabyBear>, 4>(&rt, None, tables::BBX4)
+}
+
+#[test]
+fn septic_bytes(rt: HostRuntime) -> Result<(), Fail> {
+    let expected = [
+        1u8, 0, 0, 0, 0, 0, 0, 0, 0, 0, 0, 0, 1, 0, 0, 0, 1, 0, 0, 0, 1, 0, 0, 0, 0, 0, 0, 0,
+    ];
+    let list = [1, 0, 0, 1, 1, 1, 0, 0];
+    let agrees = extension_bytes_agree::<F2, SepticTrinomial, 7>(
+        rt.alloc(),
+        None,
+        &list,
+        &expected,
+    )?;
+    assert!(rt; agrees);
+    Ok(())
 }

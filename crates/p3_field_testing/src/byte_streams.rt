@@ -1,9 +1,14 @@
 //! Streams of bytes and of words.
 
+use crate::cases::numbers;
+use crate::numbered::{Numbered, all_hold};
+use crate::stream_tables as tables;
+use crate::streams::assert_streams;
 use p3_field::{
     RawDataSerializable, into_parallel_byte_streams, into_parallel_u32_streams,
     into_parallel_u64_streams,
 };
+use std::alloc::{AllocError, Global};
 use std::array;
 use std::test::Fail;
 
@@ -30,45 +35,69 @@ impl RawDataSerializable for Word {
     }
 }
 
+/// A word by its number.
+impl Numbered for Word {
+    fn count() -> usize {
+        1
+    }
+
+    fn read(numbers: &[u64], first: usize) -> Word {
+        Word(u32::read(numbers, first))
+    }
+
+    fn number(&self, _index: usize) -> u64 {
+        self.0 as u64
+    }
+}
+
 #[test]
 fn joins_words(rt: HostRuntime) -> Result<(), Fail> {
-    let words = [Word(1), Word(2), Word(3)];
-    let bytes: Vec<u8> = Word::into_byte_stream(words.iter().copied()).collect(rt.alloc())?;
-    assert_eq!(rt;
-        bytes.as_slice(),
-        [1, 0, 0, 0, 2, 0, 0, 0, 3, 0, 0, 0].as_slice()
-    );
-    let narrow: Vec<u32> = Word::into_u32_stream(words.iter().copied()).collect(rt.alloc())?;
-    assert_eq!(rt; narrow.as_slice(), [1, 2, 3].as_slice());
-    let wide: Vec<u64> = Word::into_u64_stream(words.iter().copied()).collect(rt.alloc())?;
-    assert_eq!(rt; wide.as_slice(), [8589934593, 3].as_slice());
-    Ok(())
+    assert_streams::<Word>(&rt, tables::WORDS)
+}
+
+/// Whether pairs have the numbers of a text, one pair after the other.
+fn pairs_hold<T: Numbered>(
+    alloc: Global,
+    pairs: &[[T; 2]],
+    text: &str,
+) -> Result<bool, AllocError> {
+    let mut flat: Vec<T> = Vec::new(alloc);
+    for pair in pairs {
+        flat.push(pair[0])?;
+        flat.push(pair[1])?;
+    }
+    Ok(all_hold(&flat, &numbers(alloc, text)?))
+}
+
+/// Whether the bytes of rows side by side are those of a text.
+fn bytes_agree(alloc: Global, rows: &[[Word; 2]], text: &str) -> Result<bool, AllocError> {
+    let bytes: Vec<[u8; 2]> = into_parallel_byte_streams::<Word, 2, _>(
+        rows.iter().copied(),
+    ).collect(alloc)?;
+    pairs_hold(alloc, &bytes, text)
+}
+
+/// The same of words of 32 bits.
+fn short_words_agree(alloc: Global, rows: &[[Word; 2]], text: &str) -> Result<bool, AllocError> {
+    let words: Vec<[u32; 2]> = into_parallel_u32_streams::<Word, 2, _>(
+        rows.iter().copied(),
+    ).collect(alloc)?;
+    pairs_hold(alloc, &words, text)
+}
+
+/// The same of words of 64 bits.
+fn long_words_agree(alloc: Global, rows: &[[Word; 2]], text: &str) -> Result<bool, AllocError> {
+    let words: Vec<[u64; 2]> = into_parallel_u64_streams::<Word, 2, _>(
+        rows.iter().copied(),
+    ).collect(alloc)?;
+    pairs_hold(alloc, &words, text)
 }
 
 #[test]
 fn joins_rows(rt: HostRuntime) -> Result<(), Fail> {
     let rows = [[Word(1), Word(5)], [Word(2), Word(6)]];
-    let bytes: Vec<[u8; 2]> = into_parallel_byte_streams::<Word, 2, _>(
-        rows.iter().copied(),
-    ).collect(rt.alloc())?;
-    let side_by_side = [
-        [1, 5],
-        [0, 0],
-        [0, 0],
-        [0, 0],
-        [2, 6],
-        [0, 0],
-        [0, 0],
-        [0, 0],
-    ];
-    assert_eq!(rt; bytes.as_slice(), side_by_side.as_slice());
-    let narrow: Vec<[u32; 2]> = into_parallel_u32_streams::<Word, 2, _>(
-        rows.iter().copied(),
-    ).collect(rt.alloc())?;
-    assert_eq!(rt; narrow.as_slice(), [[1, 5], [2, 6]].as_slice());
-    let wide: Vec<[u64; 2]> = into_parallel_u64_streams::<Word, 2, _>(rows.iter().copied()).collect(
-        rt.alloc(),
-    )?;
-    assert_eq!(rt; wide.as_slice(), [[8589934593, 25769803781]].as_slice());
+    assert!(rt; bytes_agree(rt.alloc(), &rows, tables::BYTES_SIDE_BY_SIDE)?);
+    assert!(rt; short_words_agree(rt.alloc(), &rows, "1,5,2,6")?);
+    assert!(rt; long_words_agree(rt.alloc(), &rows, "8589934593,25769803781")?);
     Ok(())
 }

@@ -103,33 +103,52 @@ pub(crate) enum Call {
     Coset(CosetCall),
 }
 
+/// The index of a name among those of a text, which stand between commas.
+fn index_of(names: &str, name: &str) -> Option<usize> {
+    let mut index: usize = 0;
+    for known in names.split(',') {
+        if known == name {
+            return Some(index);
+        }
+        index = index.wrapping_add(1);
+    }
+    None
+}
+
+/// The names of `constant_of`, by their indices.
+const CONSTANTS: &str = "generator,order,ORDER_U64,bits,TWO_ADICITY";
+
 /// The constant of a name.
 fn constant_of(name: &str) -> Option<Constant> {
-    match name {
-        "generator" => Some(Constant::Generator),
-        "order" => Some(Constant::Order),
-        "ORDER_U64" => Some(Constant::OrderU64),
-        "bits" => Some(Constant::Bits),
-        "TWO_ADICITY" => Some(Constant::TwoAdicity),
+    match index_of(CONSTANTS, name)? {
+        0 => Some(Constant::Generator),
+        1 => Some(Constant::Order),
+        2 => Some(Constant::OrderU64),
+        3 => Some(Constant::Bits),
+        4 => Some(Constant::TwoAdicity),
         _ => None,
     }
 }
 
+/// The names of `operation_of`, by their indices.
+const OPERATIONS: &str =
+    "add,sub,mul,xor,xor3,andn,bool_check,cube,exp_u64,exp_power_of_2,exp_const_u64 7,mul_2exp_u64";
+
 /// The operation of a name.
 fn operation_of(name: &str) -> Option<Operation> {
-    match name {
-        "add" => Some(Operation::Add),
-        "sub" => Some(Operation::Sub),
-        "mul" => Some(Operation::Mul),
-        "xor" => Some(Operation::Xor),
-        "xor3" => Some(Operation::Xor3),
-        "andn" => Some(Operation::AndNot),
-        "bool_check" => Some(Operation::BoolCheck),
-        "cube" => Some(Operation::Cube),
-        "exp_u64" => Some(Operation::Exp),
-        "exp_power_of_2" => Some(Operation::ExpPowerOf2),
-        "exp_const_u64 7" => Some(Operation::SeventhPower),
-        "mul_2exp_u64" => Some(Operation::Mul2Exp),
+    match index_of(OPERATIONS, name)? {
+        0 => Some(Operation::Add),
+        1 => Some(Operation::Sub),
+        2 => Some(Operation::Mul),
+        3 => Some(Operation::Xor),
+        4 => Some(Operation::Xor3),
+        5 => Some(Operation::AndNot),
+        6 => Some(Operation::BoolCheck),
+        7 => Some(Operation::Cube),
+        8 => Some(Operation::Exp),
+        9 => Some(Operation::ExpPowerOf2),
+        10 => Some(Operation::SeventhPower),
+        11 => Some(Operation::Mul2Exp),
         _ => None,
     }
 }
@@ -149,46 +168,57 @@ fn name_of(name: &str, argument: &str) -> Option<Name> {
     }
 }
 
+/// The names of `quotient_call_of`, by their indices.
+const QUOTIENT_CALLS: &str = "div,try_inverse,halve,div_2exp_u64";
+
 /// The call of a name that a quotient comes of.
 fn quotient_call_of(name: &str) -> Option<QuotientCall> {
-    match name {
-        "div" => Some(QuotientCall::Divide),
-        "try_inverse" => Some(QuotientCall::Invert),
-        "halve" => Some(QuotientCall::Halve),
-        "div_2exp_u64" => Some(QuotientCall::Div2Exp),
+    match index_of(QUOTIENT_CALLS, name)? {
+        0 => Some(QuotientCall::Divide),
+        1 => Some(QuotientCall::Invert),
+        2 => Some(QuotientCall::Halve),
+        3 => Some(QuotientCall::Div2Exp),
         _ => None,
     }
 }
+
+/// The names of `list_call_of`, by their indices.
+const LIST_CALLS: &str =
+    "sum,product,sum_array 3,horner,horner_acc,sums of products,dot_product of minus ones,dot_product of iterators,add_slices";
 
 /// The call on lists of a name.
 fn list_call_of(name: &str) -> Option<ListCall> {
-    match name {
-        "sum" => Some(ListCall::Sum),
-        "product" => Some(ListCall::Product),
-        "sum_array 3" => Some(ListCall::SumOfThree),
-        "horner" => Some(ListCall::Horner),
-        "horner_acc" => Some(ListCall::HornerAfter),
-        "sums of products" => Some(ListCall::SumsOfProducts),
-        "dot_product of minus ones" => Some(ListCall::MinusOnes),
-        "dot_product of iterators" => Some(ListCall::IteratorProduct),
-        "add_slices" => Some(ListCall::AddSlices),
+    match index_of(LIST_CALLS, name)? {
+        0 => Some(ListCall::Sum),
+        1 => Some(ListCall::Product),
+        2 => Some(ListCall::SumOfThree),
+        3 => Some(ListCall::Horner),
+        4 => Some(ListCall::HornerAfter),
+        5 => Some(ListCall::SumsOfProducts),
+        6 => Some(ListCall::MinusOnes),
+        7 => Some(ListCall::IteratorProduct),
+        8 => Some(ListCall::AddSlices),
         _ => None,
     }
 }
 
+/// The names of `tool_call_of`, by their indices.
+const TOOL_CALLS: &str =
+    "exp_1717986917,exp_1420470955,exp_1725656503,exp_10540996611094048183,sum of a subgroup,product of a coset,add_scaled_slice_in_place,par_add_scaled_slice_in_place,scale_slice_in_place_single_core,par_scale_slice_in_place";
+
 /// The chain or helper of a name.
 fn tool_call_of(name: &str) -> Option<ToolCall> {
-    match name {
-        "exp_1717986917" => Some(ToolCall::Exp1717986917),
-        "exp_1420470955" => Some(ToolCall::Exp1420470955),
-        "exp_1725656503" => Some(ToolCall::Exp1725656503),
-        "exp_10540996611094048183" => Some(ToolCall::Exp10540996611094048183),
-        "sum of a subgroup" => Some(ToolCall::SubgroupSum),
-        "product of a coset" => Some(ToolCall::SubgroupCosetProduct),
-        "add_scaled_slice_in_place" => Some(ToolCall::AddScaled),
-        "par_add_scaled_slice_in_place" => Some(ToolCall::ParAddScaled),
-        "scale_slice_in_place_single_core" => Some(ToolCall::Scale),
-        "par_scale_slice_in_place" => Some(ToolCall::ParScale),
+    match index_of(TOOL_CALLS, name)? {
+        0 => Some(ToolCall::Exp1717986917),
+        1 => Some(ToolCall::Exp1420470955),
+        2 => Some(ToolCall::Exp1725656503),
+        3 => Some(ToolCall::Exp10540996611094048183),
+        4 => Some(ToolCall::SubgroupSum),
+        5 => Some(ToolCall::SubgroupCosetProduct),
+        6 => Some(ToolCall::AddScaled),
+        7 => Some(ToolCall::ParAddScaled),
+        8 => Some(ToolCall::Scale),
+        9 => Some(ToolCall::ParScale),
         _ => None,
     }
 }

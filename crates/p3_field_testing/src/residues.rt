@@ -1,7 +1,9 @@
 //! Residues of integers, their order, hash and text.
 
+use p3_bench_prime::form::{Plain, ShortForm};
+use p3_bench_prime::fp::Fp;
 use p3_bench_prime::goldilocks::Goldilocks;
-use p3_bench_prime::small::{F17, F31};
+use p3_bench_prime::small::{F17, M17, M31};
 use p3_field::integers::QuotientMap;
 use p3_field::{Algebra, PrimeCharacteristicRing, PrimeField32, PrimeField64, PrimeFieldBounds};
 use std::alloc::{AllocError, Global};
@@ -66,14 +68,6 @@ fn assert_values<F: PrimeField64 + PrimeFieldBounds>(
     Ok(())
 }
 
-#[test]
-fn residues_of_order_17(rt: HostRuntime) -> Result<(), Fail> {
-    assert_integers::<F17>(&rt);
-    assert!(rt; F17::from_prime_subfield(F17::new(19)) == F17::two());
-    let sixteen = F17::from_canonical_unchecked(16usize);
-    assert_values(&rt, &[F17::new(17), F17::new(20), F17::new(33), sixteen])
-}
-
 /// Asserts that the text of a value is its canonical number, whatever the formatter is told of its form
 /// and width.
 fn assert_texts<F: PrimeField64>(rt: &(impl Abort + AllocGlobal), order: u64) -> Result<(), Fail> {
@@ -87,9 +81,70 @@ fn assert_texts<F: PrimeField64>(rt: &(impl Abort + AllocGlobal), order: u64) ->
     Ok(())
 }
 
+/// Whether the value has this word and this canonical value, by both widths.
+fn has_word<F: PrimeField32>(x: F, word: u32, canonical: u32) -> bool {
+    x.to_unique_u32() == word
+        && x.to_unique_u64() == word as u64
+        && x.as_canonical_u32() == canonical
+        && x.as_canonical_u64() == canonical as u64
+}
+
+/// What is asserted of residues.
+#[derive(Clone, Copy)]
+pub(crate) enum Topic {
+    /// Residues modulo 17 of integers.
+    Integers,
+    /// The order, the hash and the text of the given residues modulo 17.
+    Values,
+    /// The texts of the residues of all numbers below this one.
+    Texts(u64),
+    /// The word that stands for each given residue, and its canonical value.
+    Word(u32, u32),
+}
+
+/// Asserts a topic of residues.
+fn assert_residues<F: PrimeField32 + PrimeFieldBounds>(
+    rt: &(impl Abort + AllocGlobal),
+    topic: Topic,
+    residues: &[F],
+) -> Result<(), Fail> {
+    match topic {
+        Topic::Integers => {
+            assert_integers::<F>(rt);
+            Ok(())
+        }
+        Topic::Values => assert_values::<F>(rt, residues),
+        Topic::Texts(order) => assert_texts::<F>(rt, order),
+        Topic::Word(word, canonical) => {
+            for x in residues {
+                assert!(rt; has_word(*x, word, canonical), "{word}");
+            }
+            Ok(())
+        }
+    }
+}
+
+/// Asserts a topic of residues of the field of a marker: a check passes what the field owes once for all topics.
+pub(crate) fn assert_over<W: ShortForm>(
+    rt: &(impl Abort + AllocGlobal),
+    topic: Topic,
+    residues: &[Fp<W>],
+) -> Result<(), Fail> {
+    assert_residues::<Fp<W>>(rt, topic, residues)
+}
+
+#[test]
+fn residues_of_order_17(rt: HostRuntime) -> Result<(), Fail> {
+    assert_over::<Plain<M17>>(&rt, Topic::Integers, &[])?;
+    assert!(rt; F17::from_prime_subfield(F17::new(19)) == F17::two());
+    let sixteen = F17::from_canonical_unchecked(16usize);
+    let residues = [F17::new(17), F17::new(20), F17::new(33), sixteen];
+    assert_over::<Plain<M17>>(&rt, Topic::Values, &residues)
+}
+
 #[test]
 fn texts_of_residues(rt: HostRuntime) -> Result<(), Fail> {
-    assert_texts::<F31>(&rt, 31)
+    assert_over::<Plain<M31>>(&rt, Topic::Texts(31), &[])
 }
 
 /// Asserts residues of Goldilocks, of which that of 2^64 - 1 is given, and 2^32 - 2 as a canonical value.

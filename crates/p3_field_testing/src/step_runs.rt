@@ -2,14 +2,17 @@
 ghost use Rattle.std.specs.Prelude.{IsSome};
 ghost use Rattle.p3_runs.specs.FieldRuns.{OrdersGiven};
 
-use crate::numbered::{Numbered, all_hold};
+use crate::numbered::{Numbered, all_hold, values};
 use p3_bench_prime::extensions::F17x2;
-use p3_bench_prime::small::F17;
+use p3_bench_prime::form::{Form, Plain};
+use p3_bench_prime::fp::Fp;
+use p3_bench_prime::small::{F17, M17};
 use p3_field::steps::{
     FieldStep, Step, StepFault, StepRefused, run_field_steps, run_steps, steps_fit,
 };
 use p3_field::{Field, PrimeCharacteristicRing};
 use std::process::Abort;
+use std::test::Fail;
 
 /// Runs the steps where they fit the registers; whether they do.
 fn runs<R: PrimeCharacteristicRing>(regs: &mut [R], steps: &[Step]) -> bool {
@@ -88,24 +91,60 @@ fn assert_field_run<F: Field + Numbered>(rt: &impl Abort, regs: &mut [F])
     assert!(rt; all_hold(regs, &[9, 2]));
 }
 
-#[test]
-fn runs_over_a_ring(rt: HostRuntime) {
-    assert_run(&rt, &mut [F17::new(3), F17::new(0), F17::new(0)]);
+/// What is run over the registers.
+#[derive(Clone, Copy)]
+enum Run {
+    Ring,
+    Field,
+    RefusedInverse,
+    RefusedRoot,
+}
+
+/// Asserts a run over registers that hold the residues of these numbers.
+fn assert_run_of<F: Field + Numbered>(
+    rt: &(impl Abort + AllocGlobal),
+    run: Run,
+    numbers: &[u64],
+) -> Result<(), Fail>
+    requires { IsSome F.size }
+{
+    let mut regs: Vec<F> = values::<F>(rt.alloc(), numbers)?;
+    match run {
+        Run::Ring => assert_run::<F>(rt, &mut regs),
+        Run::Field => assert_field_run::<F>(rt, &mut regs),
+        Run::RefusedInverse => assert_refused_inverse::<F>(rt, &mut regs),
+        Run::RefusedRoot => assert_refused_root::<F>(rt, &mut regs),
+    }
+    Ok(())
+}
+
+/// The same over the field of a marker.
+fn assert_run_over<W: Form<u32>>(
+    rt: &(impl Abort + AllocGlobal),
+    run: Run,
+    numbers: &[u64],
+) -> Result<(), Fail> {
+    assert_run_of::<Fp<W>>(rt, run, numbers)
 }
 
 #[test]
-fn an_inverse_is_refused(rt: HostRuntime) {
-    assert_refused_inverse(&rt, &mut [F17::new(2), F17::new(0)]);
+fn runs_over_a_ring(rt: HostRuntime) -> Result<(), Fail> {
+    assert_run_over::<Plain<M17>>(&rt, Run::Ring, &[3, 0, 0])
 }
 
 #[test]
-fn a_root_is_refused(rt: HostRuntime) {
-    assert_refused_root(&rt, &mut [F17::new(3)]);
+fn an_inverse_is_refused(rt: HostRuntime) -> Result<(), Fail> {
+    assert_run_over::<Plain<M17>>(&rt, Run::RefusedInverse, &[2, 0])
 }
 
 #[test]
-fn a_run_over_a_field(rt: HostRuntime) {
-    assert_field_run(&rt, &mut [F17::new(1), F17::new(0)]);
+fn a_root_is_refused(rt: HostRuntime) -> Result<(), Fail> {
+    assert_run_over::<Plain<M17>>(&rt, Run::RefusedRoot, &[3])
+}
+
+#[test]
+fn a_run_over_a_field(rt: HostRuntime) -> Result<(), Fail> {
+    assert_run_over::<Plain<M17>>(&rt, Run::Field, &[1, 0])
 }
 
 #[test]

@@ -30,3 +30,11 @@ pub(crate) const F17X2: &str = "into_byte_stream;1,2,20,16;1,0,0,0,2,0,0,0,3,0,0
 pub(crate) const BABY_BEAR_X4: &str =
     "into_byte_stream;0,0,2013265919,1655397457,1,1006632961,1435861115,0;0,0,0,0,0,0,0,0,5,0,0,88,51,93,129,21,254,255,255,15,255,255,255,7,183,186,107,17,0,0,0,0
 into_u32_stream;;";
+
+/// Words of 32 bits, which are written with their lowest bytes first.
+pub(crate) const WORDS: &str = "into_byte_stream;1,2,3;1,0,0,0,2,0,0,0,3,0,0,0
+into_u32_stream;1,2,3;1,2,3
+into_u64_stream;1,2,3;8589934593,3";
+
+/// The bytes of the words 1 and 2, and beside each that of the words 5 and 6.
+pub(crate) const BYTES_SIDE_BY_SIDE: &str = "1,5,0,0,0,0,0,0,2,6,0,0,0,0,0,0";

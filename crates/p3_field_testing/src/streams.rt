@@ -2,13 +2,17 @@
 use crate::cases::numbers;
 use crate::numbered::{Numbered, all_hold, value, values};
 use crate::stream_tables as tables;
-use p3_bench_prime::baby_bear::BabyBear;
-use p3_bench_prime::extensions::{BabyBearx4, F17x2};
+use p3_bench_prime::baby_bear::{BabyBear, BabyBearModulus};
+use p3_bench_prime::form::{Plain, ShortForm};
+use p3_bench_prime::fp::Fp;
 use p3_bench_prime::goldilocks::Goldilocks;
-use p3_bench_prime::small::{F2, F17};
+use p3_bench_prime::montgomery::Montgomery;
+use p3_bench_prime::small::{F17, M2, M17};
 use p3_columns::parallel_streams::into_parallel_u64_streams;
-use p3_spaces::streams::RawDataSerializable;
+use p3_ext::extension::{Binomial, ByteCountFits, ExtField};
+use p3_spaces::streams::{ByteStream, RawDataSerializable};
 use std::alloc::{AllocError, Global};
+use std::array::IntoIter;
 use std::process::Abort;
 use std::test::Fail;
 
@@ -78,7 +82,7 @@ fn agrees<T: RawDataSerializable + Numbered>(
 }
 
 /// Asserts that each line has numbers and the bytes, or the words, of their values.
-fn assert_streams<T: RawDataSerializable + Numbered>(
+pub(crate) fn assert_streams<T: RawDataSerializable + Numbered>(
     rt: &(impl Abort + AllocGlobal),
     table: &str,
 ) -> Result<(), Fail> {
@@ -88,18 +92,33 @@ fn assert_streams<T: RawDataSerializable + Numbered>(
     Ok(())
 }
 
+/// `assert_streams` of the residues of a marker in words of 32 bits: a check passes how residues are written once.
+fn assert_residues<W: ShortForm>(rt: &(impl Abort + AllocGlobal), table: &str) -> Result<(), Fail> {
+    assert_streams::<Fp<W>>(rt, table)
+}
+
+/// `assert_streams` of values of the extension of F of degree D by the shape S. Nothing is read of `_rooms`,
+/// which tells that values and their bytes have room.
+fn assert_values<F: ByteCountFits<D> + Numbered, S: Copy, const D: usize>(
+    rt: &(impl Abort + AllocGlobal),
+    _rooms: Option<(ExtField<F, D, S, F>, ByteStream<IntoIter<F, D>, F::Bytes>)>,
+    table: &str,
+) -> Result<(), Fail> {
+    assert_streams::<ExtField<F, D, S, F>>(rt, table)
+}
+
 #[test]
 fn streams_of_residues(rt: HostRuntime) -> Result<(), Fail> {
-    assert_streams::<F2>(&rt, tables::F2)?;
-    assert_streams::<F17>(&rt, tables::F17)?;
-    assert_streams::<BabyBear>(&rt, tables::BABY_BEAR)?;
+    assert_residues::<Plain<M2>>(&rt, tables::F2)?;
+    assert_residues::<Plain<M17>>(&rt, tables::F17)?;
+    assert_residues::<Montgomery<BabyBearModulus>>(&rt, tables::BABY_BEAR)?;
     assert_streams::<Goldilocks>(&rt, tables::GOLDILOCKS)
 }
 
 #[test]
 fn streams_of_extension_values(rt: HostRuntime) -> Result<(), Fail> {
-    assert_streams::<F17x2>(&rt, tables::F17X2)?;
-    assert_streams::<BabyBearx4>(&rt, tables::BABY_BEAR_X4)
+    assert_values::<F17, Binomial<F17>, 2>(&rt, None, tables::F17X2)?;
+    assert_values::<BabyBear, Binomial<BabyBear>, 4>(&rt, None, tables::BABY_BEAR_X4)
 }
 
 #[test]

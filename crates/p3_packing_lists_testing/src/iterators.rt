@@ -4,6 +4,7 @@
 mod lane_items;
 mod streams;
 
+pub(crate) use lane_items::{assert_field_powers, assert_items};
 use std::alloc::{AllocError, Global};
 
 /// Whether an iterator, after so many items were taken, says that just so many are left.
@@ -32,6 +33,19 @@ where
     }
     let (lower, upper) = items.size_hint();
     lower == 0 && upper == Some(0)
+}
+
+/// Whether an iterator says what is left after so many items were taken, of so many in all.
+fn says<I: Iterator>(items: I, taken: usize, total: usize) -> bool
+where
+    I::Item: Drop,
+    requires { I.can_next items }
+{
+    if taken <= total {
+        says_left(items, taken, total - taken)
+    } else {
+        says_none_left(items, total)
+    }
 }
 
 /// So many times a value.

@@ -7,6 +7,8 @@ mod arrays;
 #[cfg(test)]
 mod entries;
 #[cfg(test)]
+mod fields;
+#[cfg(test)]
 mod iterators;
 #[cfg(test)]
 mod numbered;

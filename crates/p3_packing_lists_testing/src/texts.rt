@@ -1,6 +1,11 @@
-//! Numbers of texts, which stand between commas, and packings of residues with these numbers.
+//! Parts of texts, numbers, which stand between commas, and packings of residues with these numbers.
 use crate::numbered::Numbered;
 use p3_base::packed_traits::PackedValue;
+
+/// The text at an index of those that stand between semicolons, empty past the last one.
+pub(crate) fn part(text: &str, index: usize) -> &str {
+    text.split(';').nth(index).unwrap_or("")
+}
 
 /// The number at an index of a text; none past its end, or where no number stands.
 pub(crate) fn number_at(text: &str, index: usize) -> Option<u64> {
@@ -17,13 +22,22 @@ pub(crate) fn packing<F: Numbered, P: PackedValue<Value = F>>(text: &str) -> P {
     P::from_fn(|lane: usize| -> F { value_at::<F>(text, lane) })
 }
 
-/// Whether the lanes have the first numbers of a text.
-pub(crate) fn holds<F: Numbered, P: PackedValue<Value = F>>(packing: P, text: &str) -> bool {
+/// Whether the lanes have the numbers of a text from an index on.
+pub(crate) fn holds_from<F: Numbered, P: PackedValue<Value = F>>(
+    packing: P,
+    text: &str,
+    first: usize,
+) -> bool {
     for lane in 0..P::WIDTH {
         let value = packing.extract(lane);
-        if number_at(text, lane) != Some(value.number()) {
+        if number_at(text, first.wrapping_add(lane)) != Some(value.number()) {
             return false;
         }
     }
     true
+}
+
+/// Whether the lanes have the first numbers of a text.
+pub(crate) fn holds<F: Numbered, P: PackedValue<Value = F>>(packing: P, text: &str) -> bool {
+    holds_from::<F, P>(packing, text, 0)
 }

@@ -1,47 +1,53 @@
 //! A row worked by hand, at the eight lanes of vectors: of eight values, and of two arrays of four.
+use crate::fields::{Rooms, Topic, assert_over};
 use crate::numbered::Numbered;
+use crate::packings::numbers::ORDER_17;
+use crate::texts::{holds_from, value_at};
 use p3_array::array::FieldArray;
 use p3_base::field::Field;
-use p3_base::packed_traits::{Packable, PackedField, PackedValue};
-use p3_bench_prime::form::{Form, Plain};
-use p3_bench_prime::fp::Fp;
+use p3_base::packed_traits::{Inhabited, Packable, PackedField, PackedValue};
+use p3_bench_prime::form::Plain;
 use p3_bench_prime::small::M17;
-use p3_ring::ring::PrimeCharacteristicRing;
 use p3_vectorized::vectorized::Vectorized;
 use poly_eval::eval_vectorized;
 use std::process::Abort;
+use std::test::Fail;
+
+/// The coefficients of the polynomial.
+const COEFFICIENTS: &str = "1,2,3";
 
 /// What 1 + 2 x + 3 x^2 is modulo 17, at x from 0 to 7.
-const VALUES: [u64; 8] = [1, 6, 0, 0, 6, 1, 2, 9];
+const VALUES: &str = "1,6,0,0,6,1,2,9";
+
+/// How many lanes a vector has.
+const LANES: usize = 8;
 
 /// The packing at an index of a vector whose lane i holds i.
-fn counted<F: Field + Numbered, P: PackedField<F>>(index: usize) -> P {
+fn counted<F: Numbered, P: PackedValue<Value = F>>(index: usize) -> P {
     let start = index.wrapping_mul(P::WIDTH);
     P::from_fn(|lane: usize| -> F { F::of(start.wrapping_add(lane) as u64) })
 }
 
 /// The vector whose lane i holds i.
-fn points<F: Field + Numbered, P: PackedField<F>, const N: usize>() -> Vectorized<F, P, N> {
+fn points<F: Numbered, P: PackedValue<Value = F> + Inhabited, const N: usize>() -> Vectorized<
+    F,
+    P,
+    N,
+> {
     Vectorized::new(std::array::from_fn(|i: usize| -> P { counted::<F, P>(i) }))
 }
 
-/// Whether the lanes of a vector hold these numbers, and there are no other lanes.
-fn holds<F: Field + Numbered, P: PackedField<F>, const N: usize>(
+/// Whether the lanes of a vector hold the values, and there are no other lanes.
+fn holds<F: Numbered, P: PackedValue<Value = F> + Inhabited, const N: usize>(
     vector: Vectorized<F, P, N>,
-    numbers: &[u64],
 ) -> bool {
     let packings = vector.0;
-    let mut expected = numbers.iter();
     for i in 0..N {
-        let packing = packings[i];
-        for lane in 0..P::WIDTH {
-            let value = packing.extract(lane);
-            if expected.next().copied() != Some(value.number()) {
-                return false;
-            }
+        if !holds_from::<F, P>(packings[i], VALUES, i.wrapping_mul(P::WIDTH)) {
+            return false;
         }
     }
-    expected.next().is_none()
+    N.wrapping_mul(P::WIDTH) == LANES
 }
 
 /// Whether the values at the lanes of a vector of N packings are those of the row. Nothing is read of
@@ -51,7 +57,7 @@ fn agrees<F: Field + Numbered, P: PackedField<F>, const N: usize>(
     _points: Option<Vectorized<F, P, N>>,
 ) -> bool {
     let values = eval_vectorized(coeffs, points::<F, P, N>());
-    holds(values, &VALUES)
+    holds(values)
 }
 
 /// Whether both vectors agree. Nothing is read of `values` and `arrays`.
@@ -66,17 +72,20 @@ fn both_agree<F: Field + Packable + Numbered>(
     )
 }
 
-/// Asserts that both vectors agree at the marker of a field.
-fn assert_row<W: Form<u32>>(rt: &impl Abort) {
-    let coeffs = [
-        Fp::<W>::from_u64(1),
-        Fp::<W>::from_u64(2),
-        Fp::<W>::from_u64(3),
-    ];
-    assert_eq!(rt; both_agree::<Fp<W>>(&coeffs, None, None), (true, true));
+/// Asserts that both vectors agree. Nothing is read of `_rooms`.
+pub(crate) fn assert_vectors<F: Field + Packable + Numbered>(
+    rt: &(impl Abort + AllocGlobal),
+    _rooms: Rooms<F>,
+) -> Result<(), Fail> {
+    let mut coeffs: Vec<F> = Vec::new(rt.alloc());
+    for index in 0..3 {
+        coeffs.push(value_at::<F>(COEFFICIENTS, index))?;
+    }
+    assert_eq!(rt; both_agree::<F>(&coeffs, None, None), (true, true));
+    Ok(())
 }
 
 #[test]
-fn at_the_lanes_of_vectors(rt: HostRuntime) {
-    assert_row::<Plain<M17>>(&rt);
+fn at_the_lanes_of_vectors(rt: HostRuntime) -> Result<(), Fail> {
+    assert_over::<Plain<M17>>(&rt, ORDER_17, Topic::Vectors)
 }

@@ -1,4 +1,5 @@
 //! The calls on arrays by their names, and the lines that name them.
+use crate::texts::part;
 
 /// An operation on two arrays, or on one and a scalar.
 #[derive(Clone, Copy)]
@@ -48,7 +49,7 @@ impl Call {
 #[derive(Clone, Copy)]
 pub(crate) struct Row<'a> {
     /// The number of entries.
-    pub(crate) entries: &'a str,
+    pub(crate) entries: usize,
     pub(crate) call: &'a str,
     pub(crate) arguments: &'a str,
     pub(crate) answer: &'a str,
@@ -57,14 +58,11 @@ pub(crate) struct Row<'a> {
 impl<'a> Row<'a> {
     /// The row of a line like `3;mul;1,2,3|4,5,6;4,10,1`.
     pub(crate) fn read(line: &'a str) -> Option<Row<'a>> {
-        let (entries, rest) = line.split_once(';')?;
-        let (call, sides) = rest.split_once(';')?;
-        let (arguments, answer) = sides.split_once(';')?;
         Some(Row {
-            entries,
-            call,
-            arguments,
-            answer,
+            entries: part(line, 0).parse::<usize>().ok()?,
+            call: part(line, 1),
+            arguments: part(line, 2),
+            answer: part(line, 3),
         })
     }
 

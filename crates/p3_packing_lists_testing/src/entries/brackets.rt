@@ -3,21 +3,10 @@ use crate::numbered::Numbered;
 use crate::texts::{number_at, packing};
 use p3_array::array::FieldArray;
 use p3_base::packed_traits::{Inhabited, Packable};
-use p3_ring::ring::PrimeCharacteristicRing;
 use std::alloc::{AllocError, Global};
 use std::fmt;
 use std::process::Abort;
 use std::test::Fail;
-
-/// No arrays, of 1, 2, 4 and 8 entries: a function that names them knows that they have room.
-pub(crate) type Arrays<F> = Option<
-    (
-        FieldArray<F, 1>,
-        FieldArray<F, 2>,
-        FieldArray<F, 4>,
-        FieldArray<F, 8>,
-    ),
->;
 
 /// The numbers of an array's entries, from the first on.
 const NUMBERS: &str = "3,5,7,9,11,13,15,16";
@@ -95,7 +84,7 @@ fn is_printed<F: Inhabited + fmt::Debug, const N: usize>(
 }
 
 /// Asserts reads, writes, comparison and the text of the array of the first N numbers, and that the default is zero.
-fn assert_array<F: Numbered + Packable + fmt::Debug, const N: usize>(
+pub(crate) fn assert_brackets<F: Numbered + Packable + fmt::Debug, const N: usize>(
     rt: &(impl Abort + AllocGlobal),
     default: FieldArray<F, N>,
     text: &str,
@@ -112,18 +101,4 @@ fn assert_array<F: Numbered + Packable + fmt::Debug, const N: usize>(
     assert!(rt; is_zero(&default), "{N}");
     assert!(rt; is_printed(rt.alloc(), &array, text)?, "{N}");
     Ok(())
-}
-
-/// `assert_array` of arrays of 1, 4 and 8 entries.
-pub(crate) fn assert_arrays<F: PrimeCharacteristicRing + Numbered + Packable + fmt::Debug>(
-    rt: &(impl Abort + AllocGlobal),
-    _arrays: Arrays<F>,
-) -> Result<(), Fail> {
-    assert_array(rt, FieldArray::<F, 1>::default(), "[3]")?;
-    assert_array(rt, FieldArray::<F, 4>::default(), "[3, 5, 7, 9]")?;
-    assert_array(
-        rt,
-        FieldArray::<F, 8>::default(),
-        "[3, 5, 7, 9, 11, 13, 15, 16]",
-    )
 }

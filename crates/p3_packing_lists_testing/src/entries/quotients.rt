@@ -2,7 +2,6 @@
 ghost use Rattle.std.specs.Prelude.{◌<◌, ℕ, get_or, IsTrue};
 ghost use Rattle.p3_theory.specs.Rings.Ring.{Invertible};
 
-use super::brackets::Arrays;
 use crate::numbered::Numbered;
 use crate::texts::{holds, packing};
 use p3_array::array::FieldArray;
@@ -70,7 +69,7 @@ fn divides<F: Field + Packable + Numbered, const N: usize>(
 }
 
 /// Asserts the quotients of the first N numbers. Nothing is read of `_array`.
-fn assert_quotients<F: Field + Packable + Numbered, const N: usize>(
+pub(crate) fn assert_quotients<F: Field + Packable + Numbered, const N: usize>(
     rt: &impl Abort,
     _array: Option<FieldArray<F, N>>,
 ) {
@@ -78,14 +77,4 @@ fn assert_quotients<F: Field + Packable + Numbered, const N: usize>(
     let y = packing::<F, FieldArray<F, N>>(DIVISORS);
     assert!(rt; halves(x, F::of(2)), "{N}");
     assert!(rt; divides(x, y), "{N}");
-}
-
-/// Asserts the quotients modulo 17 of arrays of 1, 4 and 8 entries.
-pub(crate) fn assert_all_quotients<F: Field + Packable + Numbered>(
-    rt: &impl Abort,
-    _arrays: Arrays<F>,
-) {
-    assert_quotients::<F, 1>(rt, None);
-    assert_quotients::<F, 4>(rt, None);
-    assert_quotients::<F, 8>(rt, None);
 }

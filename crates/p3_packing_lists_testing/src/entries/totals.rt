@@ -1,31 +1,20 @@
 //! Sums and products of values, in each entry of an array.
-use super::brackets::Arrays;
 use crate::numbered::Numbered;
 use p3_array::array::FieldArray;
 use p3_base::packed_traits::{Inhabited, Packable};
-use p3_packings::scalar_sums::ScalarSums;
 use p3_ring::ring::PrimeCharacteristicRing;
 use std::process::Abort;
 
 /// The numbers of the values. None of them is zero modulo 17, 31 or 2^31 - 2^27 + 1.
 const TERMS: [u64; 8] = [2013265920, 1234567890, 16, 30, 1006632960, 987654322, 5, 3];
 
-/// The sum of the values of the first so many numbers, in a packing.
-fn sum_of<F: PrimeCharacteristicRing + Numbered, P: ScalarSums<F>>(count: usize) -> P {
-    TERMS
-        .iter()
-        .take(count)
-        .map(|n: &u64| -> F { F::of(*n) })
-        .sum()
-}
-
-/// Their product, in a packing.
-fn product_of<F: PrimeCharacteristicRing + Numbered, P: ScalarSums<F>>(count: usize) -> P {
-    TERMS
-        .iter()
-        .take(count)
-        .map(|n: &u64| -> F { F::of(*n) })
-        .product()
+/// The sum of the values of the first so many numbers, or else their product, in each entry of an array.
+fn total<F: PrimeCharacteristicRing + Inhabited + Numbered, const N: usize>(
+    is_sum: bool,
+    count: usize,
+) -> FieldArray<F, N> {
+    let terms = TERMS.iter().take(count).map(|n: &u64| -> F { F::of(*n) });
+    if is_sum { terms.sum() } else { terms.product() }
 }
 
 /// The sum and the product of the first so many numbers, modulo an order below 2^32.
@@ -53,7 +42,7 @@ fn is_filled<F: Numbered + Inhabited, const N: usize>(
 }
 
 /// Asserts sums and products of no value to eight, in arrays of N entries.
-fn assert_totals<F: PrimeCharacteristicRing + Packable + Numbered, const N: usize>(
+pub(crate) fn assert_totals<F: PrimeCharacteristicRing + Packable + Numbered, const N: usize>(
     rt: &impl Abort,
     order: u64,
     _array: Option<FieldArray<F, N>>,
@@ -61,23 +50,12 @@ fn assert_totals<F: PrimeCharacteristicRing + Packable + Numbered, const N: usiz
     for count in 0..9 {
         let (sum, product) = totals(count, order);
         assert!(rt;
-            is_filled::<F, N>(sum_of::<F, FieldArray<F, N>>(count), sum),
+            is_filled::<F, N>(total::<F, N>(true, count), sum),
             "{N} {count}"
         );
         assert!(rt;
-            is_filled::<F, N>(product_of::<F, FieldArray<F, N>>(count), product),
+            is_filled::<F, N>(total::<F, N>(false, count), product),
             "{N} {count}"
         );
     }
-}
-
-/// Asserts sums and products of values of a field of this order, in arrays of 1, 4 and 8 entries.
-pub(crate) fn assert_all_totals<F: PrimeCharacteristicRing + Packable + Numbered>(
-    rt: &impl Abort,
-    order: u64,
-    _arrays: Arrays<F>,
-) {
-    assert_totals::<F, 1>(rt, order, None);
-    assert_totals::<F, 4>(rt, order, None);
-    assert_totals::<F, 8>(rt, order, None);
 }

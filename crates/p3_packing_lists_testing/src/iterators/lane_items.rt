@@ -1,11 +1,11 @@
 //! The values in the lanes of packings as an iterator.
 use super::{repeated, says_left, says_none_left};
+use crate::fields::{LaneTopic, Topic, assert_over};
 use crate::numbered::Numbered;
-use p3_array::array::FieldArray;
+use crate::packings::numbers::ORDER_17;
 use p3_base::field::Field;
 use p3_base::packed_traits::{Packable, PackedField};
-use p3_bench_prime::form::{Form, Plain};
-use p3_bench_prime::fp::Fp;
+use p3_bench_prime::form::Plain;
 use p3_bench_prime::small::M17;
 use p3_packings::ext_lane_items::{ExtLaneItems, to_ext_iter};
 use p3_packings::extension_lanes::ExtensionLanes;
@@ -97,9 +97,14 @@ fn assert_powers<F: Field + Packable + Numbered, PE: PackedFieldExtension<F, F>>
     }
 }
 
+/// The same by the field itself.
+pub(crate) fn assert_field_powers<F: Field + Packable + Numbered>(rt: &impl Abort, order: u64) {
+    assert_powers::<F, F>(rt, order);
+}
+
 /// Asserts what the items of these packings, so many in all, say is left before any is taken and after each,
 /// and that they stay over, also where their source goes on after its end.
-fn assert_items<F, EF: PrimeCharacteristicRing, PE: ExtensionLanes<F, EF> + Copy>(
+fn assert_items_of<F, EF: PrimeCharacteristicRing, PE: ExtensionLanes<F, EF> + Copy>(
     rt: &impl Abort,
     packings: &[PE],
     total: usize,
@@ -124,13 +129,11 @@ fn assert_items<F, EF: PrimeCharacteristicRing, PE: ExtensionLanes<F, EF> + Copy
     }
 }
 
-/// Asserts the powers and the items of three packings P, so many in all, the last lane of the first at this
-/// index.
-fn assert_packings<F: Field + Packable + Numbered, P: PackedField<F>>(
+/// Asserts the powers and the items of three packings P, which have so many lanes.
+pub(crate) fn assert_items<F: Field + Packable + Numbered, P: PackedField<F>>(
     rt: &(impl Abort + AllocGlobal),
     order: u64,
-    total: usize,
-    last: usize,
+    lanes: usize,
 ) -> Result<(), Fail> {
     let mut number = 1u64;
     for index in 0..20usize {
@@ -138,27 +141,13 @@ fn assert_packings<F: Field + Packable + Numbered, P: PackedField<F>>(
         number = next_power(number, order);
     }
     let packings = repeated(rt.alloc(), P::one(), 3)?;
-    assert_items::<F, F, P>(rt, &packings, total, last);
+    let total = lanes.saturating_mul(3);
+    assert_items_of::<F, F, P>(rt, &packings, total, lanes.saturating_sub(1));
     Ok(())
-}
-
-/// The assertions by the field itself, and by arrays of four: that an array is named tells that it has room.
-fn assert_over<F: Field + Packable + Numbered>(
-    rt: &(impl Abort + AllocGlobal),
-    order: u64,
-    _array: Option<FieldArray<F, 4>>,
-) -> Result<(), Fail> {
-    assert_powers::<F, F>(rt, order);
-    assert_packings::<F, F>(rt, order, 3, 0)?;
-    assert_packings::<F, FieldArray<F, 4>>(rt, order, 12, 3)
-}
-
-/// `assert_over` at the marker of a field.
-fn assert_marker<W: Form<u32>>(rt: &(impl Abort + AllocGlobal), order: u64) -> Result<(), Fail> {
-    assert_over::<Fp<W>>(rt, order, None)
 }
 
 #[test]
 fn items_of_packings(rt: HostRuntime) -> Result<(), Fail> {
-    assert_marker::<Plain<M17>>(&rt, 17)
+    let items = Topic::Lanes(LaneTopic::Items);
+    assert_over::<Plain<M17>>(&rt, ORDER_17, items)
 }

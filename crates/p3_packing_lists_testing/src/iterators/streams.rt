@@ -1,5 +1,5 @@
 //! Streams of bytes and words over sources whose hint is exact.
-use super::{repeated, says_left, says_none_left};
+use super::{repeated, says};
 use p3_bench_prime::baby_bear::BabyBear;
 use p3_columns::parallel_streams::{
     into_parallel_byte_streams, into_parallel_u32_streams, into_parallel_u64_streams,
@@ -31,57 +31,46 @@ impl RawDataSerializable for Byte {
     }
 }
 
-/// Whether the stream of a name over these values says what is left after so many items were taken, of so
-/// many bytes in all.
+/// A stream over values.
+#[derive(Clone, Copy)]
+enum Stream {
+    Bytes,
+    ShortWords,
+    LongWords,
+}
+
+/// The streams by their names.
+const STREAMS: [(&str, Stream); 3] = [
+    ("bytes", Stream::Bytes),
+    ("u32", Stream::ShortWords),
+    ("u64", Stream::LongWords),
+];
+
+/// Whether a stream over these values says what is left after so many items were taken, of so many bytes in all.
 fn stream_says<T: RawDataSerializable + Copy>(
-    stream: &str,
+    stream: Stream,
     values: &[T],
     bytes: usize,
     taken: usize,
 ) -> bool {
     let source = values.iter().copied();
-    let shorts = bytes.div_ceil(4);
-    let longs = bytes.div_ceil(8);
     match stream {
-        "bytes" => says_left(
-            T::into_byte_stream(source),
-            taken,
-            bytes.saturating_sub(taken),
-        ),
-        "u32" if taken <= shorts => says_left(T::into_u32_stream(source), taken, shorts - taken),
-        "u32" => says_none_left(T::into_u32_stream(source), shorts),
-        "u64" if taken <= longs => says_left(T::into_u64_stream(source), taken, longs - taken),
-        "u64" => says_none_left(T::into_u64_stream(source), longs),
-        _ => false,
+        Stream::Bytes => says(T::into_byte_stream(source), taken, bytes),
+        Stream::ShortWords => says(T::into_u32_stream(source), taken, bytes.div_ceil(4)),
+        Stream::LongWords => says(T::into_u64_stream(source), taken, bytes.div_ceil(8)),
     }
 }
 
-/// Whether the parallel streams of a name over these rows say what is left after so many items were taken.
-fn parallel_says(stream: &str, rows: &[[Byte; 2]], taken: usize) -> bool {
+/// Whether the parallel streams over these rows say what is left after so many items were taken.
+fn parallel_says(stream: Stream, rows: &[[Byte; 2]], taken: usize) -> bool {
     let source = rows.iter().copied();
     let bytes = rows.len();
-    let shorts = bytes.div_ceil(4);
-    let longs = bytes.div_ceil(8);
     match stream {
-        "bytes" => says_left(
-            into_parallel_byte_streams(source),
-            taken,
-            bytes.saturating_sub(taken),
-        ),
-        "u32" if taken <= shorts => {
-            says_left(into_parallel_u32_streams(source), taken, shorts - taken)
-        }
-        "u32" => says_none_left(into_parallel_u32_streams(source), shorts),
-        "u64" if taken <= longs => {
-            says_left(into_parallel_u64_streams(source), taken, longs - taken)
-        }
-        "u64" => says_none_left(into_parallel_u64_streams(source), longs),
-        _ => false,
+        Stream::Bytes => says(into_parallel_byte_streams(source), taken, bytes),
+        Stream::ShortWords => says(into_parallel_u32_streams(source), taken, bytes.div_ceil(4)),
+        Stream::LongWords => says(into_parallel_u64_streams(source), taken, bytes.div_ceil(8)),
     }
 }
-
-/// The streams.
-const STREAMS: [&str; 3] = ["bytes", "u32", "u64"];
 
 /// Asserts what the streams of no value to nine of them say, before any item is taken, and after each up to
 /// the last byte. A value has so many bytes.
@@ -93,11 +82,11 @@ fn assert_streams<T: RawDataSerializable + Copy>(
     for n in 0..=9usize {
         let values = repeated(rt.alloc(), value, n)?;
         let bytes = n.saturating_mul(bytes_each);
-        for stream in STREAMS {
+        for (name, stream) in STREAMS {
             for taken in 0..=bytes {
                 assert!(rt;
                     stream_says(stream, &values, bytes, taken),
-                    "{stream} {n} {taken}"
+                    "{name} {n} {taken}"
                 );
             }
         }
@@ -115,9 +104,9 @@ fn streams_say_what_is_left(rt: HostRuntime) -> Result<(), Fail> {
 fn parallel_streams_say_what_is_left(rt: HostRuntime) -> Result<(), Fail> {
     for n in 0..=9usize {
         let rows = repeated(rt.alloc(), [Byte(7), Byte(8)], n)?;
-        for stream in STREAMS {
+        for (name, stream) in STREAMS {
             for taken in 0..=n {
-                assert!(rt; parallel_says(stream, &rows, taken), "{stream} {n} {taken}");
+                assert!(rt; parallel_says(stream, &rows, taken), "{name} {n} {taken}");
             }
         }
     }

@@ -27,6 +27,9 @@ impl<T, const N: usize> AsRow<T, N> for Scales<T, N> {
     }
 }
 
+/// A step of scales that spreads the residues of large orders.
+const SPREAD: u64 = 0x9E37_79B9_7F4A_7C15;
+
 /// The step of the accumulators.
 const ACCUMULATORS: u64 = 5;
 
@@ -38,20 +41,24 @@ struct Item {
     scales: u64,
 }
 
-/// A row of this length, and one that is longer where this one is short.
-fn items_of(length: usize) -> [Item; 2] {
-    [
+/// How many items there are.
+const ITEMS: usize = 2;
+
+/// The item at an index: a row of this length, and one that is longer where this one is short.
+fn item_at(length: usize, index: usize) -> Item {
+    if index == 0 {
         Item {
             length,
             row: 3,
-            scales: 0x9E37_79B9_7F4A_7C15,
-        },
+            scales: SPREAD,
+        }
+    } else {
         Item {
             length: GREATEST_LENGTH.wrapping_sub(length),
             row: 0,
             scales: 7,
-        },
-    ]
+        }
+    }
 }
 
 /// The values of an item; `Ok(None)` where it has not N scales.
@@ -68,13 +75,14 @@ fn with_values<F: Numbered, P: PackedValue<Value = F>, const N: usize>(
     Ok(Some((row, Scales { scales })))
 }
 
-/// Products that are added: how many accumulators, scales and lanes there are, the items, and the order.
+/// Products that are added: how many accumulators, scales and lanes there are, the length of the first row, and the
+/// order.
 #[derive(Clone, Copy)]
 struct Products {
     accumulators: usize,
     scales: usize,
     lanes: usize,
-    items: [Item; 2],
+    length: usize,
     order: u64,
 }
 
@@ -86,7 +94,8 @@ impl Products {
         let column = i.checked_div(self.scales).unwrap_or(0);
         let scale = i.checked_rem(self.scales).unwrap_or(0);
         let mut total = number(place(i, lane, self.lanes), ACCUMULATORS, self.order);
-        for item in self.items {
+        for index in 0..ITEMS {
+            let item = item_at(self.length, index);
             if column < groups && column < item.length {
                 let entry = number(place(column, lane, self.lanes), item.row, self.order);
                 let scale = number(scale, item.scales, self.order);
@@ -127,13 +136,13 @@ fn agrees<F: PrimeCharacteristicRing + Numbered, P: PackedRing<F>, const N: usiz
         accumulators: count,
         scales: N,
         lanes: P::WIDTH,
-        items: items_of(length),
+        length,
         order,
     };
     let mut accumulators: Vec<P> = packings::<F, P>(alloc, count, ACCUMULATORS, order)?;
     let mut rows = Vec::new(alloc);
-    for item in products.items {
-        let Some(row) = with_values::<F, P, N>(alloc, item, order)? else {
+    for index in 0..ITEMS {
+        let Some(row) = with_values::<F, P, N>(alloc, item_at(length, index), order)? else {
             return Ok(false);
         };
         rows.push(row)?;

@@ -1,20 +1,17 @@
-//! Arrays interleaved by blocks, beside the same by a plain loop over numbers.
-use super::brackets::Arrays;
+//! Packings interleaved by blocks, beside the same by a plain loop over numbers.
 use crate::numbered::Numbered;
-use crate::texts::{holds, number_at, packing};
-use p3_array::array::FieldArray;
-use p3_array::lanes::LanesPow2;
+use crate::texts::{holds, number_at, packing, part};
 use p3_base::field::Field;
-use p3_base::packed_traits::{Packable, PackedFieldPow2};
+use p3_base::packed_traits::PackedFieldPow2;
 use std::process::Abort;
 
-/// The numbers of the left array's entries.
+/// The numbers of the left packing's entries.
 const LEFT: &str = "3,1,4,15,9,2,6,5";
 
-/// The numbers of the right array's entries, none of which stands in the left one.
+/// The numbers of the right packing's entries, none of which stands in the left one.
 const RIGHT: &str = "8,7,16,10,0,11,14,12";
 
-/// The number of entries of a block, and both answers for arrays of eight entries. Worked by hand.
+/// The number of entries of a block, and both answers for packings of eight lanes. Worked by hand.
 const WORKED: &str = "1;3,8,4,16,9,0,6,14;1,7,15,10,2,11,5,12
 2;3,1,8,7,9,2,0,11;4,15,16,10,6,5,14,12
 4;3,1,4,15,8,7,16,10;9,2,6,5,0,11,14,12
@@ -31,7 +28,7 @@ fn interleaved<F: Field, P: PackedFieldPow2<F>>(x: P, y: P, block: usize) -> Opt
     }
 }
 
-/// The numbers at an index of both answers, for arrays of n entries: blocks of the left array at even indices
+/// The numbers at an index of both answers, for packings of n lanes: blocks of the left packing at even indices
 /// of blocks and of the right one at odd indices, which the second answer takes one block later.
 fn numbers_at(n: usize, block: usize, i: usize) -> (Option<u64>, Option<u64>) {
     let is_even = i.checked_div(block).unwrap_or(0) % 2 == 0;
@@ -73,11 +70,13 @@ fn assert_blocks<F: Field + Numbered, P: PackedFieldPow2<F>>(rt: &impl Abort, la
 
 /// Whether the interleaves of packings of eight lanes are those of a line; none where it can't be read.
 fn is_worked<F: Field + Numbered, P: PackedFieldPow2<F>>(line: &str) -> Option<bool> {
-    let (block, answers) = line.split_once(';')?;
-    let (wanted_first, wanted_second) = answers.split_once(';')?;
-    let (left, right) = (packing::<F, P>(LEFT), packing::<F, P>(RIGHT));
-    let (first, second) = interleaved::<F, P>(left, right, block.parse::<usize>().ok()?)?;
-    Some(holds::<F, P>(first, wanted_first) && holds::<F, P>(second, wanted_second))
+    let block = part(line, 0).parse::<usize>().ok()?;
+    let (first, second) = interleaved::<F, P>(
+        packing::<F, P>(LEFT),
+        packing::<F, P>(RIGHT),
+        block,
+    )?;
+    Some(holds::<F, P>(first, part(line, 1)) && holds::<F, P>(second, part(line, 2)))
 }
 
 /// Asserts the worked interleaves of packings of eight lanes.
@@ -87,24 +86,13 @@ fn assert_worked<F: Field + Numbered, P: PackedFieldPow2<F>>(rt: &impl Abort) {
     }
 }
 
-/// Asserts the interleaves of arrays of N entries. Nothing is read of `_array`.
-fn assert_array<F: LanesPow2<N> + Numbered, const N: usize>(
+/// Asserts the interleaves of packings, which have so many lanes.
+pub(crate) fn assert_interleaves<F: Field + Numbered, P: PackedFieldPow2<F>>(
     rt: &impl Abort,
-    _array: Option<FieldArray<F, N>>,
+    lanes: usize,
 ) {
-    assert_blocks::<F, FieldArray<F, N>>(rt, N);
-    if N == 8 {
-        assert_worked::<F, FieldArray<F, N>>(rt);
+    assert_blocks::<F, P>(rt, lanes);
+    if lanes == 8 {
+        assert_worked::<F, P>(rt);
     }
-}
-
-/// Asserts the interleaves of arrays of 1, 2, 4 and 8 entries.
-pub(crate) fn assert_interleaves<F: Field + Packable + Numbered>(
-    rt: &impl Abort,
-    _arrays: Arrays<F>,
-) {
-    assert_array::<F, 1>(rt, None);
-    assert_array::<F, 2>(rt, None);
-    assert_array::<F, 4>(rt, None);
-    assert_array::<F, 8>(rt, None);
 }
