@@ -4,9 +4,9 @@ use crate::extensions::{
     at_degree_2, at_degree_3, at_degree_4, at_degree_5, at_degree_6, at_degree_8, over_cubic,
     over_quintic, over_septic,
 };
-use crate::plain::{List, MOST, ZERO};
 use crate::run_tables as tables;
 use crate::runs::Run;
+use crate::texts::lists_of;
 use p3_bench_prime::baby_bear::BabyBearModulus;
 use p3_bench_prime::form::Plain;
 use p3_bench_prime::montgomery::Montgomery;
@@ -16,7 +16,7 @@ use std::alloc::{AllocError, Global};
 use std::process::Abort;
 use std::test::Fail;
 
-/// The extensions, by their names.
+/// The extensions.
 #[derive(Clone, Copy)]
 enum BenchExtension {
     F17x2,
@@ -34,25 +34,33 @@ enum BenchExtension {
     F2t7,
 }
 
+/// Their names.
+static NAMES: [(&str, BenchExtension); 13] = [
+    ("f17x2", BenchExtension::F17x2),
+    ("f17bx2", BenchExtension::F17bx2),
+    ("z15x2", BenchExtension::Z15x2),
+    ("f31x3", BenchExtension::F31x3),
+    ("f17x4", BenchExtension::F17x4),
+    ("bbx4", BenchExtension::BbX4),
+    ("f31x5", BenchExtension::F31x5),
+    ("f31x6", BenchExtension::F31x6),
+    ("f17x8", BenchExtension::F17x8),
+    ("f31t3", BenchExtension::F31t3),
+    ("f17t5", BenchExtension::F17t5),
+    ("f2t5", BenchExtension::F2t5),
+    ("f2t7", BenchExtension::F2t7),
+];
+
 impl BenchExtension {
     /// The extension of a name.
     fn of_name(name: &str) -> Option<Self> {
-        match name {
-            "f17x2" => Some(Self::F17x2),
-            "f17bx2" => Some(Self::F17bx2),
-            "z15x2" => Some(Self::Z15x2),
-            "f31x3" => Some(Self::F31x3),
-            "f17x4" => Some(Self::F17x4),
-            "bbx4" => Some(Self::BbX4),
-            "f31x5" => Some(Self::F31x5),
-            "f31x6" => Some(Self::F31x6),
-            "f17x8" => Some(Self::F17x8),
-            "f31t3" => Some(Self::F31t3),
-            "f17t5" => Some(Self::F17t5),
-            "f2t5" => Some(Self::F2t5),
-            "f2t7" => Some(Self::F2t7),
-            _ => None,
+        for row in NAMES {
+            let (known, extension) = row;
+            if known == name {
+                return Some(extension);
+            }
         }
+        None
     }
 
     /// Whether a call gives what it has to, over packings of so many values; false where there are no such
@@ -76,25 +84,61 @@ impl BenchExtension {
     }
 }
 
-/// The step of a name with one register read.
-fn unary_step(name: &str, d: usize, a: usize) -> Option<Step> {
-    match name {
-        "Neg" => Some(Step::Neg { d, a }),
-        "Square" => Some(Step::Square { d, a }),
-        "Double" => Some(Step::Double { d, a }),
+/// What a step does.
+#[derive(Clone, Copy)]
+enum StepKind {
+    Neg,
+    Square,
+    Double,
+    Exp,
+    Mul2Exp,
+    Add,
+    Sub,
+    Mul,
+}
+
+/// The kinds of steps by their names.
+static KINDS: [(&str, StepKind); 8] = [
+    ("Neg", StepKind::Neg),
+    ("Square", StepKind::Square),
+    ("Double", StepKind::Double),
+    ("Exp", StepKind::Exp),
+    ("Mul2Exp", StepKind::Mul2Exp),
+    ("Add", StepKind::Add),
+    ("Sub", StepKind::Sub),
+    ("Mul", StepKind::Mul),
+];
+
+/// The kind of a name.
+fn kind_of(name: &str) -> Option<StepKind> {
+    for row in KINDS {
+        let (known, kind) = row;
+        if known == name {
+            return Some(kind);
+        }
+    }
+    None
+}
+
+/// The step with one register read.
+fn unary_step(kind: StepKind, d: usize, a: usize) -> Option<Step> {
+    match kind {
+        StepKind::Neg => Some(Step::Neg { d, a }),
+        StepKind::Square => Some(Step::Square { d, a }),
+        StepKind::Double => Some(Step::Double { d, a }),
         _ => None,
     }
 }
 
-/// The step of a name with a number or a second register read.
-fn binary_step(name: &str, d: usize, a: usize, last: u64) -> Option<Step> {
+/// The step with a number or a second register read.
+fn binary_step(kind: StepKind, d: usize, a: usize, last: u64) -> Option<Step> {
     let b = last as usize;
-    match name {
-        "Exp" => Some(Step::Exp { d, a, e: last }),
-        "Mul2Exp" => Some(Step::Mul2Exp { d, a, e: last }),
-        "Add" => Some(Step::Add { d, a, b }),
-        "Sub" => Some(Step::Sub { d, a, b }),
-        "Mul" => Some(Step::Mul { d, a, b }),
+    match kind {
+        StepKind::Exp => Some(Step::Exp { d, a, e: last }),
+        StepKind::Mul2Exp => Some(Step::Mul2Exp { d, a, e: last }),
+        StepKind::Add => Some(Step::Add { d, a, b }),
+        StepKind::Sub => Some(Step::Sub { d, a, b }),
+        StepKind::Mul => Some(Step::Mul { d, a, b }),
         _ => None,
     }
 }
@@ -102,12 +146,12 @@ fn binary_step(name: &str, d: usize, a: usize, last: u64) -> Option<Step> {
 /// The step of a word, as `Add:0:1:2`.
 fn step(word: &str) -> Option<Step> {
     let mut parts = word.split(':');
-    let name = parts.next()?;
+    let kind = kind_of(parts.next()?)?;
     let d = parts.next()?.parse::<usize>().ok()?;
     let a = parts.next()?.parse::<usize>().ok()?;
     match parts.next() {
-        Some(last) => binary_step(name, d, a, last.parse::<u64>().ok()?),
-        None => unary_step(name, d, a),
+        Some(last) => binary_step(kind, d, a, last.parse::<u64>().ok()?),
+        None => unary_step(kind, d, a),
     }
 }
 
@@ -121,26 +165,6 @@ fn steps_of(alloc: Global, text: &str) -> Result<Option<Vec<Step>>, AllocError> 
         steps.push(step)?;
     }
     Ok(Some(steps))
-}
-
-/// The coefficient list of a word.
-fn list_of(word: &str) -> List {
-    let mut list = ZERO;
-    for (i, number) in word.split(',').enumerate() {
-        if i < MOST {
-            list[i] = number.parse::<u64>().unwrap_or(0);
-        }
-    }
-    list
-}
-
-/// The coefficient lists of a text.
-fn lists_of(alloc: Global, text: &str) -> Result<Vec<List>, AllocError> {
-    let mut lists = Vec::new(alloc);
-    for word in text.split_ascii_whitespace() {
-        lists.push(list_of(word))?;
-    }
-    Ok(lists)
 }
 
 /// A row of a table.

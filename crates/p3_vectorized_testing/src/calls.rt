@@ -16,13 +16,19 @@ use std::alloc::{AllocError, Global};
 #[derive(Clone, Copy)]
 pub(crate) enum Call<'a> {
     /// The inverse of a value is this one, or there is none.
-    Inverse { value: List, inverse: Option<List> },
+    Inverse {
+        value: List,
+        inverse: Option<List>,
+    },
     /// The inverse of a value, if any: a product tells whether it is right.
     Find(&'a Split, List),
     /// The same by every call, and a quotient by the value.
     Divide(&'a Split, List),
     /// A run over registers that hold the first values, which is refused and leaves the others.
-    Refused { before: [List; 3], after: [List; 3] },
+    Refused {
+        before: &'a [List],
+        after: &'a [List],
+    },
     /// A run over vectors of packings.
     Run(Run<'a>),
     /// The inverse of every lane, whose values a seed tells.
@@ -43,7 +49,7 @@ where
         Call::Inverse { value, inverse } => Ok(is_inverse::<EF>(&value, inverse)),
         Call::Find(split, value) => Ok(is_found::<EF>(split, &value)),
         Call::Divide(split, value) => Ok(divides::<EF>(split, &value)),
-        Call::Refused { before, after } => is_refused::<EF>(alloc, &before, &after),
+        Call::Refused { before, after } => is_refused::<EF>(alloc, before, after),
         Call::Invert(split, seed) => Ok(inverses_agree::<F, EF, PE>(split, seed)),
         Call::Run(_) => Ok(false),
     }

@@ -41,13 +41,29 @@ where
     run_agrees::<G, E, Extension<E>, PackedExtField<E, 2, Binomial<E>, P>, 2>(alloc, vector, table)
 }
 
-/// The run over complex values, in arrays of N values of the field.
-fn complex_run_agrees<F: ComplexExtendable + Lanes<N>, const N: usize>(
-    alloc: Global,
-    vector: Option<PackedVector<F, FieldArray<F, N>>>,
-    table: &str,
-) -> Result<Option<bool>, AllocError> {
-    packed_run_agrees::<F, F, FieldArray<F, N>>(alloc, vector, table)
+/// The run over complex values of this field, in arrays of N of its values; implemented once for all fields.
+trait ComplexRuns<const N: usize>: Copy {
+    /// A register. Of an associated type it is known that its values have room.
+    type Vector: Copy;
+
+    /// Whether the run makes the registers of a table. Nothing is read of `vector`.
+    fn run_agrees(
+        alloc: Global,
+        vector: Option<Self::Vector>,
+        table: &str,
+    ) -> Result<Option<bool>, AllocError>;
+}
+
+impl<F: ComplexExtendable + Lanes<N>, const N: usize> ComplexRuns<N> for F {
+    type Vector = PackedVector<F, FieldArray<F, N>>;
+
+    fn run_agrees(
+        alloc: Global,
+        vector: Option<PackedVector<F, FieldArray<F, N>>>,
+        table: &str,
+    ) -> Result<Option<bool>, AllocError> {
+        packed_run_agrees::<F, F, FieldArray<F, N>>(alloc, vector, table)
+    }
 }
 
 /// The run over the extension of degree 2 of complex values, each coefficient a packing in P.
@@ -72,23 +88,53 @@ fn tower_run_agrees<F: HasComplexBinomialExtension<2> + Packable>(
     tower_over::<F, Complex<F>>(alloc, vector, table)
 }
 
+/// What a run goes over.
+#[derive(Clone, Copy)]
+enum Values {
+    /// Complex values, in arrays of so many.
+    Complex(usize),
+    /// Values of the extension of degree 2 of these.
+    Extension,
+}
+
+/// Registers over arrays of one, four and eight complex values.
+type ArrayVectors<F> = (
+    PackedVector<F, FieldArray<F, 1>>,
+    PackedVector<F, FieldArray<F, 4>>,
+    PackedVector<F, FieldArray<F, 8>>,
+);
+
+/// Whether a run makes the registers of a table; none where there are no such arrays here. That vectors are
+/// named tells that they have room; nothing is read of them.
+fn run_over<F: HasComplexBinomialExtension<2> + Packable>(
+    alloc: Global,
+    _vectors: Option<ArrayVectors<F>>,
+    vector: Option<PackedVector<Complex<F>, Complex<F>>>,
+    values: Values,
+    table: &str,
+) -> Result<Option<bool>, AllocError> {
+    match values {
+        Values::Complex(1) => <F as ComplexRuns<1>>::run_agrees(alloc, None, table),
+        Values::Complex(4) => <F as ComplexRuns<4>>::run_agrees(alloc, None, table),
+        Values::Complex(8) => <F as ComplexRuns<8>>::run_agrees(alloc, None, table),
+        Values::Complex(_) => Ok(None),
+        Values::Extension => tower_run_agrees::<F>(alloc, vector, table),
+    }
+}
+
+/// The same modulo 31.
+fn agrees(alloc: Global, values: Values, table: &str) -> Result<Option<bool>, AllocError> {
+    run_over::<F31>(alloc, None, None, values, table)
+}
+
 #[test]
 fn runs_over_complex_values(rt: HostRuntime) -> Result<(), Fail> {
     let alloc = rt.alloc();
+    assert_eq!(rt; agrees(alloc, Values::Complex(1), F31C)?, Some(true));
+    assert_eq!(rt; agrees(alloc, Values::Complex(4), F31C)?, Some(true));
+    assert_eq!(rt; agrees(alloc, Values::Complex(8), F31C)?, Some(true));
     assert_eq!(rt;
-        complex_run_agrees::<F31, 1>(alloc, None, F31C)?,
-        Some(true)
-    );
-    assert_eq!(rt;
-        complex_run_agrees::<F31, 4>(alloc, None, F31C)?,
-        Some(true)
-    );
-    assert_eq!(rt;
-        complex_run_agrees::<F31, 8>(alloc, None, F31C)?,
-        Some(true)
-    );
-    assert_eq!(rt;
-        complex_run_agrees::<F31, 1>(alloc, None, WRONG_AT_F31C)?,
+        agrees(alloc, Values::Complex(1), WRONG_AT_F31C)?,
         Some(false)
     );
     Ok(())
@@ -97,9 +143,9 @@ fn runs_over_complex_values(rt: HostRuntime) -> Result<(), Fail> {
 #[test]
 fn runs_over_their_extension(rt: HostRuntime) -> Result<(), Fail> {
     let alloc = rt.alloc();
-    assert_eq!(rt; tower_run_agrees::<F31>(alloc, None, F31CX2)?, Some(true));
+    assert_eq!(rt; agrees(alloc, Values::Extension, F31CX2)?, Some(true));
     assert_eq!(rt;
-        tower_run_agrees::<F31>(alloc, None, WRONG_AT_F31CX2)?,
+        agrees(alloc, Values::Extension, WRONG_AT_F31CX2)?,
         Some(false)
     );
     Ok(())

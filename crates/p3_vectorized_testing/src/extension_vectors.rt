@@ -1,57 +1,145 @@
-//! Vectors of two values of the extension of the residues modulo 17 by `X^2 = 3`. Expected values by hand.
-use p3_base::field::PrimeField64;
-use p3_bench_prime::extensions::F17x2;
-use p3_bench_prime::small::F17;
+//! Vectors of two values of the extension of the residues modulo 17 by `X^2 = 3`, and of two residues. Expected
+//! values by hand.
+use crate::values::{Canonical, Listed};
+use p3_base::packed_traits::{Inhabited, Packable};
+use p3_bench_prime::binomial_constants::BinomialConstants;
+use p3_bench_prime::form::{Form, OverModulus, Plain};
+use p3_bench_prime::fp::Fp;
+use p3_bench_prime::small::M17;
+use p3_ext::extension::{Binomial, ExtField, ExtensionShape, FrobeniusExtendable};
+use p3_ring::ring::PrimeCharacteristicRing;
 use p3_vectorized::vectorized::Vectorized;
 use p3_vectorized::vectorized_ext::VectorizedExt;
 
-type Two = VectorizedExt<F17, F17x2, F17x2, 2>;
+/// An operation on a vector and a vector of residues, or one residue.
+#[derive(Clone, Copy)]
+enum Operation {
+    Add,
+    Sub,
+    Mul,
+}
 
-type FieldTwo = Vectorized<F17, F17, 2>;
+/// What is asked of vectors.
+#[derive(Clone, Copy)]
+enum Call {
+    /// The values `1 + 3 X` and `2 + 4 X`.
+    Start,
+    /// These and a vector of the residues 5 and 6.
+    ByParts(Operation),
+    /// The residues 1 and 2 and the residue 5.
+    OfResidues(Operation),
+}
+
+/// A vector of two values of an extension of degree 2.
+type Two<F, S> = VectorizedExt<F, ExtField<F, 2, S, F>, ExtField<F, 2, S, F>, 2>;
+
+/// The numbers of the coefficients of two values.
+type Numbers = ((u64, u64), (u64, u64));
+
+/// A vector of two residues.
+fn residues<F: PrimeCharacteristicRing + Inhabited>(
+    first: u64,
+    second: u64,
+) -> Vectorized<F, F, 2> {
+    Vectorized::new([F::from_u64(first), F::from_u64(second)])
+}
 
 /// The values `1 + 3 X` and `2 + 4 X`, from their coefficients.
-fn start() -> Two {
-    let low = FieldTwo::new([F17::new(1), F17::new(2)]);
-    let high = FieldTwo::new([F17::new(3), F17::new(4)]);
-    Two::from_vectorized_basis_coefficients(&[low, high])
+fn start<F: FrobeniusExtendable<2, S> + Packable, S: ExtensionShape>() -> Two<F, S> {
+    let low = residues::<F>(1, 2);
+    let high = residues::<F>(3, 4);
+    Two::<F, S>::from_vectorized_basis_coefficients(&[low, high])
 }
 
 /// The canonical numbers of the coefficients of both values.
-fn numbers(v: Two) -> ((u64, u64), (u64, u64)) {
-    let [first, second] = v.0;
-    (of_value(first), of_value(second))
+fn numbers<F: FrobeniusExtendable<2, S> + Packable + Canonical, S: ExtensionShape>(
+    vector: Two<F, S>,
+) -> Numbers {
+    let [first, second] = vector.0;
+    let (a, b) = (first.list(), second.list());
+    ((a[0], a[1]), (b[0], b[1]))
 }
 
-/// The canonical numbers of the coefficients.
-fn of_value(x: F17x2) -> (u64, u64) {
-    (x.value[0].as_canonical_u64(), x.value[1].as_canonical_u64())
+/// The values of `start`, and a vector of the residues 5 and 6 where there is an operation.
+fn of_values<F: FrobeniusExtendable<2, S> + Packable + Canonical, S: ExtensionShape>(
+    _vector: Option<Two<F, S>>,
+    operation: Option<Operation>,
+) -> Numbers {
+    let v = start::<F, S>();
+    let w = residues::<F>(5, 6);
+    match operation {
+        Some(Operation::Add) => numbers::<F, S>(v + w),
+        Some(Operation::Sub) => numbers::<F, S>(v - w),
+        Some(Operation::Mul) => numbers::<F, S>(v * w),
+        None => numbers::<F, S>(v),
+    }
 }
 
-/// The canonical numbers of two residues.
-fn residues(v: VectorizedExt<F17, F17, F17, 2>) -> (u64, u64) {
-    let [first, second] = v.0;
-    (first.as_canonical_u64(), second.as_canonical_u64())
+/// The vector of the residues 1 and 2 and the residue 5. A field is an extension of itself.
+fn of_residues<W: Form<u32>>(operation: Operation) -> (u64, u64) {
+    let v = VectorizedExt::<Fp<W>, Fp<W>, Fp<W>, 2>::new([
+        Fp::<W, u32>::new(1),
+        Fp::<W, u32>::new(2),
+    ]);
+    let x = Fp::<W, u32>::new(5);
+    let [first, second] = match operation {
+        Operation::Add => (v + x).0,
+        Operation::Sub => (v - x).0,
+        Operation::Mul => (v * x).0,
+    };
+    (first.canonical(), second.canonical())
+}
+
+/// What a call answers over the extension by `X^2 = W`.
+fn answer<W: OverModulus<u32>>(call: Call) -> Numbers
+where
+    W::Modulus: BinomialConstants<2>,
+{
+    match call {
+        Call::Start => of_values::<Fp<W>, Binomial<Fp<W>>>(None, None),
+        Call::ByParts(operation) => of_values::<Fp<W>, Binomial<Fp<W>>>(None, Some(operation)),
+        Call::OfResidues(operation) => {
+            let (first, second) = of_residues::<W>(operation);
+            ((first, 0), (second, 0))
+        }
+    }
+}
+
+/// The same modulo 17 and `X^2 = 3`.
+fn modulo_17(call: Call) -> Numbers {
+    answer::<Plain<M17>>(call)
 }
 
 #[test]
 fn coefficients_are_put_together(rt: HostRuntime) {
-    assert_eq!(rt; numbers(start()), ((1, 3), (2, 4)));
+    assert_eq!(rt; modulo_17(Call::Start), ((1, 3), (2, 4)));
 }
 
-/// A field is an extension of itself.
 #[test]
 fn one_value_with_each_part(rt: HostRuntime) {
-    let v = VectorizedExt::<F17, F17, F17, 2>::new([F17::new(1), F17::new(2)]);
-    let x = F17::new(5);
-    assert_eq!(rt; residues(v + x), (6, 7));
-    assert_eq!(rt; residues(v - x), (13, 14));
-    assert_eq!(rt; residues(v * x), (5, 10));
+    assert_eq!(rt;
+        modulo_17(Call::OfResidues(Operation::Add)),
+        ((6, 0), (7, 0))
+    );
+    assert_eq!(rt;
+        modulo_17(Call::OfResidues(Operation::Sub)),
+        ((13, 0), (14, 0))
+    );
+    assert_eq!(rt;
+        modulo_17(Call::OfResidues(Operation::Mul)),
+        ((5, 0), (10, 0))
+    );
 }
 
 #[test]
 fn a_vector_of_residues_part_by_part(rt: HostRuntime) {
-    let w = FieldTwo::new([F17::new(5), F17::new(6)]);
-    assert_eq!(rt; numbers(start() + w), ((6, 3), (8, 4)));
-    assert_eq!(rt; numbers(start() - w), ((13, 3), (13, 4)));
-    assert_eq!(rt; numbers(start() * w), ((5, 15), (12, 7)));
+    assert_eq!(rt; modulo_17(Call::ByParts(Operation::Add)), ((6, 3), (8, 4)));
+    assert_eq!(rt;
+        modulo_17(Call::ByParts(Operation::Sub)),
+        ((13, 3), (13, 4))
+    );
+    assert_eq!(rt;
+        modulo_17(Call::ByParts(Operation::Mul)),
+        ((5, 15), (12, 7))
+    );
 }

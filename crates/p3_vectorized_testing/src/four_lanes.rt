@@ -8,7 +8,7 @@ ghost use Rattle.p3_runs.specs.Runs.{Fit, run};
 ghost use Rattle.p3_bench_prime.specs.Elements.{ops};
 
 use crate::runs::run_by_coefficients;
-use p3_base::field::PrimeField64;
+use crate::values::Canonical;
 use p3_base::packed_traits::{Inhabited, Packable, PackedField};
 use p3_bench_packed::packed::Packed;
 use p3_bench_prime::binomial_constants::BinomialConstants;
@@ -146,11 +146,8 @@ fn counted() -> Register {
 fn numbers(packing: FourPairs<Plain<M17>>, lane: usize) -> (u64, u64)
     requires { lane < 4 }
 {
-    let value = packing.extract(lane);
-    (
-        value.value[0].as_canonical_u64(),
-        value.value[1].as_canonical_u64(),
-    )
+    let [low, high] = packing.value.value;
+    (low.value[lane].canonical(), high.value[lane].canonical())
 }
 
 /// Whether the lanes of a packing, the first of which is so many lanes on in the register, hold what the

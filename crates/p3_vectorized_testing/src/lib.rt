@@ -39,6 +39,8 @@ mod split_tables;
 #[cfg(test)]
 mod splits;
 #[cfg(test)]
+mod texts;
+#[cfg(test)]
 mod value_calls;
 #[cfg(test)]
 mod values;

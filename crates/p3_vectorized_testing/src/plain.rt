@@ -61,6 +61,18 @@ fn written(step: &Step) -> usize {
 }
 
 impl Split {
+    /// The same but for one more at the constant coefficient of the power of X.
+    pub(crate) fn other(&self) -> Split {
+        let mut folded = self.folded;
+        folded[0] = self.reduced(at(&folded, 0).wrapping_add(1));
+        Split {
+            order: self.order,
+            degree: self.degree,
+            folded,
+            roots: self.roots,
+        }
+    }
+
     /// The remainder modulo the order.
     pub(crate) fn reduced(&self, number: u64) -> u64 {
         number.checked_rem(self.order).unwrap_or(0)

@@ -147,10 +147,12 @@ where
 }
 
 /// The value of a register at a lane, where there is one.
-fn at_lane<F: Copy, EF: PrimeCharacteristicRing, PE: PackedExtensionRing<F, EF>, const N: usize>(
-    register: &VectorizedExt<F, EF, PE, N>,
-    lane: usize,
-) -> Option<EF> {
+pub(crate) fn at_lane<
+    F: Copy,
+    EF: PrimeCharacteristicRing,
+    PE: PackedExtensionRing<F, EF>,
+    const N: usize,
+>(register: &VectorizedExt<F, EF, PE, N>, lane: usize) -> Option<EF> {
     if lane < PE::LANES.checked_mul(N)? {
         Some(register.extract(lane))
     } else {
@@ -191,9 +193,11 @@ fn every(
     step: usize,
 ) -> Result<Vec<List>, AllocError> {
     let mut found = Vec::new(alloc);
-    for (i, list) in lists.iter().enumerate() {
-        if step != 0 && i % step == first {
-            found.push(*list)?;
+    if step != 0 {
+        for part in lists.chunks(step) {
+            if let Some(list) = part.get(first) {
+                found.push(*list)?;
+            }
         }
     }
     Ok(found)

@@ -4,7 +4,8 @@ use crate::calls::Call;
 use crate::plain::Split;
 use crate::runs::Run;
 use crate::samples::steps;
-use crate::splits::{SPLITS, SplitExtension};
+use crate::split_tables::{SPLITS, Table};
+use crate::splits::SplitExtension;
 use std::alloc::{AllocError, Global};
 use std::process::Abort;
 use std::test::Fail;
@@ -35,17 +36,40 @@ fn run_agrees(
     extension.agrees(alloc, lanes, &call)
 }
 
+/// Asserts runs over vectors of two packings.
+fn assert_runs(rt: &(impl Abort + AllocGlobal), table: &Table<'_>) -> Result<(), Fail> {
+    let name = table.name;
+    for seed in 0..2 {
+        for lanes in LANES {
+            assert!(rt;
+                run_agrees(rt.alloc(), table.extension, &table.split, lanes, seed)?,
+                "{name} {lanes}"
+            );
+        }
+    }
+    Ok(())
+}
+
 #[test]
 fn runs_over_vectors(rt: HostRuntime) -> Result<(), Fail> {
-    for extension in SPLITS {
-        let split = &extension.table().split;
-        for seed in 0..2 {
-            for lanes in LANES {
-                assert!(rt;
-                    run_agrees(rt.alloc(), extension, split, lanes, seed)?,
-                    "{extension:?} {lanes}"
-                );
-            }
+    for line in SPLITS.lines() {
+        if let Some(table) = Table::read(line) {
+            assert_runs(&rt, &table)?;
+        }
+    }
+    Ok(())
+}
+
+/// Asserts inverses of packings, lane by lane.
+fn assert_inverses(rt: &(impl Abort + AllocGlobal), table: &Table<'_>) -> Result<(), Fail> {
+    let name = table.name;
+    for seed in 0..4 {
+        for lanes in LANES {
+            let call = Call::Invert(&table.split, seed);
+            assert!(rt;
+                table.extension.agrees(rt.alloc(), lanes, &call)?,
+                "{name} {lanes}"
+            );
         }
     }
     Ok(())
@@ -53,15 +77,9 @@ fn runs_over_vectors(rt: HostRuntime) -> Result<(), Fail> {
 
 #[test]
 fn inverses_of_all_lanes(rt: HostRuntime) -> Result<(), Fail> {
-    for extension in SPLITS {
-        let split = &extension.table().split;
-        for seed in 0..4 {
-            for lanes in LANES {
-                assert!(rt;
-                    extension.agrees(rt.alloc(), lanes, &Call::Invert(split, seed))?,
-                    "{extension:?} {lanes}"
-                );
-            }
+    for line in SPLITS.lines() {
+        if let Some(table) = Table::read(line) {
+            assert_inverses(&rt, &table)?;
         }
     }
     Ok(())
@@ -70,29 +88,39 @@ fn inverses_of_all_lanes(rt: HostRuntime) -> Result<(), Fail> {
 /// In every lane of the runs, registers 0 and 1 hold nonzero values whose product is zero.
 #[test]
 fn zero_products_of_nonzero_values(rt: HostRuntime) {
-    for extension in SPLITS {
-        let split = extension.table().split;
-        for lane in 0..16 {
-            assert!(rt; split.has_zero_product(0, lane), "{extension:?} {lane}");
+    for line in SPLITS.lines() {
+        if let Some(table) = Table::read(line) {
+            for lane in 0..16 {
+                assert!(rt; table.split.has_zero_product(0, lane), "{line} {lane}");
+            }
         }
     }
+}
+
+/// Asserts that the lanes disagree beside another polynomial.
+fn assert_other(rt: &(impl Abort + AllocGlobal), table: &Table<'_>) -> Result<(), Fail> {
+    let name = table.name;
+    let split = table.split.other();
+    for lanes in LANES {
+        assert!(rt;
+            !run_agrees(rt.alloc(), table.extension, &split, lanes, 0)?,
+            "{name} {lanes}"
+        );
+        let call = Call::Invert(&split, 0);
+        assert!(rt;
+            !table.extension.agrees(rt.alloc(), lanes, &call)?,
+            "{name} {lanes}"
+        );
+    }
+    Ok(())
 }
 
 /// Beside another polynomial the lanes disagree, so that the comparisons see what is wrong.
 #[test]
 fn another_polynomial_is_seen(rt: HostRuntime) -> Result<(), Fail> {
-    for extension in SPLITS {
-        let mut split = extension.table().split;
-        split.folded[0] = split.reduced(split.folded[0].wrapping_add(1));
-        for lanes in LANES {
-            assert!(rt;
-                !run_agrees(rt.alloc(), extension, &split, lanes, 0)?,
-                "{extension:?} {lanes}"
-            );
-            assert!(rt;
-                !extension.agrees(rt.alloc(), lanes, &Call::Invert(&split, 0))?,
-                "{extension:?} {lanes}"
-            );
+    for line in SPLITS.lines() {
+        if let Some(table) = Table::read(line) {
+            assert_other(&rt, &table)?;
         }
     }
     Ok(())

@@ -4,12 +4,11 @@ use crate::extensions::{
     at_degree_2, at_degree_3, at_degree_4, at_degree_5, at_degree_6, at_degree_8, over_cubic,
 };
 use crate::residues::{NilpotentM17, SplitM17, SplitM31, SplitM59};
-use crate::split_tables::{self as tables, Table};
 use p3_bench_prime::form::Plain;
 use std::alloc::{AllocError, Global};
 
-/// The extensions that are no fields, by their names.
-#[derive(Clone, Copy, Debug)]
+/// The extensions that are no fields.
+#[derive(Clone, Copy)]
 pub(crate) enum SplitExtension {
     F17sx2,
     F17sx4,
@@ -21,31 +20,28 @@ pub(crate) enum SplitExtension {
     F59t3,
 }
 
-/// All of them.
-pub(crate) const SPLITS: [SplitExtension; 8] = [
-    SplitExtension::F17sx2,
-    SplitExtension::F17sx4,
-    SplitExtension::F17sx8,
-    SplitExtension::F17nx2,
-    SplitExtension::F31sx3,
-    SplitExtension::F31sx5,
-    SplitExtension::F31sx6,
-    SplitExtension::F59t3,
+/// Their names.
+static NAMES: [(&str, SplitExtension); 8] = [
+    ("f17sx2", SplitExtension::F17sx2),
+    ("f17sx4", SplitExtension::F17sx4),
+    ("f17sx8", SplitExtension::F17sx8),
+    ("f17nx2", SplitExtension::F17nx2),
+    ("f31sx3", SplitExtension::F31sx3),
+    ("f31sx5", SplitExtension::F31sx5),
+    ("f31sx6", SplitExtension::F31sx6),
+    ("f59t3", SplitExtension::F59t3),
 ];
 
 impl SplitExtension {
-    /// The polynomial, its roots, and what is asserted.
-    pub(crate) fn table(self) -> &'static Table {
-        match self {
-            Self::F17sx2 => &tables::F17SX2,
-            Self::F17sx4 => &tables::F17SX4,
-            Self::F17sx8 => &tables::F17SX8,
-            Self::F17nx2 => &tables::F17NX2,
-            Self::F31sx3 => &tables::F31SX3,
-            Self::F31sx5 => &tables::F31SX5,
-            Self::F31sx6 => &tables::F31SX6,
-            Self::F59t3 => &tables::F59T3,
+    /// The extension of a name.
+    pub(crate) fn of_name(name: &str) -> Option<Self> {
+        for row in NAMES {
+            let (known, extension) = row;
+            if known == name {
+                return Some(extension);
+            }
         }
+        None
     }
 
     /// Whether a call gives what the plain numbers say, the lanes of packings being so many values; false where

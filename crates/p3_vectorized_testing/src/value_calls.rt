@@ -98,8 +98,8 @@ fn field_run<T: Field>(registers: &mut [T], steps: &[FieldStep]) -> Option<Resul
 /// hold then.
 pub(crate) fn is_refused<T: Field + Listed>(
     alloc: Global,
-    before: &[List; 3],
-    after: &[List; 3],
+    before: &[List],
+    after: &[List],
 ) -> Result<bool, AllocError> {
     let mut registers: Vec<T> = Vec::new(alloc);
     for list in before {
@@ -109,7 +109,7 @@ pub(crate) fn is_refused<T: Field + Listed>(
         index: 2,
         kind: StepFault::NoInverse,
     };
-    if field_run(&mut registers, &STEPS) != Some(Err(refused)) || registers.len() != 3 {
+    if field_run(&mut registers, &STEPS) != Some(Err(refused)) {
         return Ok(false);
     }
     for (register, list) in registers.iter().zip(after) {
@@ -117,5 +117,5 @@ pub(crate) fn is_refused<T: Field + Listed>(
             return Ok(false);
         }
     }
-    Ok(true)
+    Ok(registers.len() == 3 && after.len() == 3)
 }

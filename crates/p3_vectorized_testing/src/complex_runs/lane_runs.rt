@@ -1,5 +1,6 @@
 //! One run of steps over vectors of packed extension values, told by a table. The line at index i of it is
 //! of lane i: each register after the run, from register 0 on, which stays as it was before.
+use crate::runs::at_lane;
 use p3_packings::extension_lanes::PackedExtensionRing;
 use p3_ring::ring::PrimeCharacteristicRing;
 use p3_runs::steps::{Step, steps_fit};
@@ -26,14 +27,19 @@ fn steps() -> [Step; 8] {
     ]
 }
 
+/// The line of a table at a lane, behind the empty one.
+fn line_at(table: &str, lane: usize) -> &str {
+    for (index, line) in table.lines().enumerate() {
+        if index == lane.wrapping_add(1) {
+            return line;
+        }
+    }
+    ""
+}
+
 /// The word of a table at a lane and a register.
 fn word(table: &str, lane: usize, register: usize) -> Option<&str> {
-    table
-        .trim()
-        .lines()
-        .nth(lane)?
-        .split_ascii_whitespace()
-        .nth(register)
+    line_at(table, lane).split_ascii_whitespace().nth(register)
 }
 
 /// The number at an index of a text, zero past its end.
@@ -85,18 +91,6 @@ where
     std::array::from_fn(|k: usize| -> PE {
         packing::<G, F, EF, PE>(table, k.wrapping_mul(PE::LANES))
     })
-}
-
-/// The value of a register at a lane, where there is one.
-fn at_lane<F: Copy, EF: PrimeCharacteristicRing, PE: PackedExtensionRing<F, EF>, const K: usize>(
-    register: &VectorizedExt<F, EF, PE, K>,
-    lane: usize,
-) -> Option<EF> {
-    if lane < PE::LANES.checked_mul(K)? {
-        Some(register.extract(lane))
-    } else {
-        None
-    }
 }
 
 /// Whether the registers have the values of a table at every lane; `None` where a value is missing.
