@@ -1,5 +1,5 @@
 //! The fields whose values are stored as words, and how their words stand for values.
-ghost use Rattle.std.specs.Prelude.{◌≡◌, ◌<◌, ◌≤◌, ◌/◌, ◌^◌, ◌↔◌, ℕ, All, IsTrue, length, map};
+ghost use Rattle.std.specs.Prelude.{◌≡◌, ◌<◌, ◌≤◌, ◌^◌, ◌↔◌, ℕ, All, IsTrue, length, map};
 ghost use Rattle.p3_bench_prime.specs.Elements.{canon, ops};
 ghost use Rattle.p3_theory.specs.Lists.PairedLists.{zip_with};
 ghost use Rattle.p3_theory.specs.Rings.DotProduct.{dot};
@@ -234,30 +234,9 @@ fn is_goldilocks(word: u64) -> bool
     word < Goldilocks::ORDER_U64
 }
 
-/// The high 32 bits of a word.
-#[inline(always)]
-fn high_word(word: u64) -> u32
-    ensures { result ≡ word / 2 ^ 32 }
-{
-    (word / 0x1_0000_0000) as u32
-}
-
-/// Whether the high 32 bits of each word are less than all ones: so are the greatest of them.
+/// Whether each word is below 2^64 - 2^32 + 1.
 #[inline]
-fn high_words_are_less(items: &[u64]) -> bool
-    ensures { IsTrue result ↔ All (λ w. w / 2 ^ 32 < 4294967295) items.now }
-{
-    let mut greatest = 0;
-    for i in 0..items.len() {
-        let high = high_word(items[i]);
-        greatest = greater(high, greatest);
-    }
-    greatest < 0xffff_ffff
-}
-
-/// Whether each word is below 2^64 - 2^32 + 1, word by word.
-#[inline]
-fn each_is_goldilocks(items: &[u64]) -> bool
+fn all_goldilocks(items: &[u64]) -> bool
     ensures { IsTrue result ↔ AllStand (stored_words {form = ⟦<GoldilocksForm as Form<u64>>⟧} {bounds = ⟦<u64 as Word>⟧}) items.now }
 {
     let mut all = true;
@@ -266,18 +245,6 @@ fn each_is_goldilocks(items: &[u64]) -> bool
         all = both(stands, all);
     }
     all
-}
-
-/// Whether each word is below 2^64 - 2^32 + 1. Where the high halves tell, which is sooner, the words aren't compared.
-#[inline]
-fn all_goldilocks(items: &[u64]) -> bool
-    ensures { IsTrue result ↔ AllStand (stored_words {form = ⟦<GoldilocksForm as Form<u64>>⟧} {bounds = ⟦<u64 as Word>⟧}) items.now }
-{
-    if high_words_are_less(items) {
-        true
-    } else {
-        each_is_goldilocks(items)
-    }
 }
 
 /// The sum of the values modulo 2^64 - 2^32 + 1, whose words are added before they are reduced.

@@ -4,7 +4,7 @@ use Rattle.p3_bench_prime.specs.contracts.goldilocks.GoldilocksFormFormU64.TheIm
 use Rattle.p3_bench_prime.specs.contracts.form.U64Word.TheImpl as word_impl
 use Rattle.p3_words.specs.Fields.{stored_words}
 use Rattle.p3_words.specs.Words.{AllStand}
-use Rattle.p3_words.proofs.stored.each_is_goldilocks.Given as goal
+use Rattle.p3_words.proofs.stored.all_goldilocks.Given as goal
 
 abbrev pub invariant-loop-i : goal.invariant-loop-i
 invariant-loop-i l = IsTrue l.all ↔ AllStand (stored_words {form = impl.ghosts} {bounds = word_impl.ghosts}) (take l.i l.items)

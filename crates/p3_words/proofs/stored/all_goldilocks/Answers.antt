@@ -5,7 +5,7 @@ use Rattle.p3_bench_prime.specs.contracts.goldilocks.GoldilocksFormFormU64.TheIm
 use Rattle.p3_words.specs.Fields.{stored_words}
 use Rattle.p3_words.specs.Words.{Stands}
 use Rattle.p3_words.proofs.WrittenWords.{holds-more}
-use Rattle.p3_words.proofs.stored.each_is_goldilocks.Goals as goal
+use Rattle.p3_words.proofs.stored.all_goldilocks.Goals as goal
 
 pub loop-i-preserved : goal.loop-i-preserved
 loop-i-preserved c =
