@@ -1,5 +1,4 @@
 //! The calls that rows name.
-use crate::rows::word;
 
 /// A sum, a difference or a product.
 #[derive(Clone, Copy)]
@@ -88,107 +87,106 @@ pub(crate) enum Call {
     Blocks(BlockCall),
 }
 
-/// The sum, the difference or the product of a name.
-fn arithmetic_of(name: &str) -> Option<Arithmetic> {
+/// The operations by their names.
+static OPERATIONS: [(&str, Operation); 18] = [
+    ("add", Operation::Binary(Arithmetic::Add)),
+    ("sub", Operation::Binary(Arithmetic::Sub)),
+    ("mul", Operation::Binary(Arithmetic::Mul)),
+    ("add scalar", Operation::WithScalar(Arithmetic::Add)),
+    ("sub scalar", Operation::WithScalar(Arithmetic::Sub)),
+    ("mul scalar", Operation::WithScalar(Arithmetic::Mul)),
+    ("scalar add", Operation::OfScalar(Arithmetic::Add)),
+    ("scalar sub", Operation::OfScalar(Arithmetic::Sub)),
+    ("scalar mul", Operation::OfScalar(Arithmetic::Mul)),
+    ("neg", Operation::Unary(Unary::Neg)),
+    ("double", Operation::Unary(Unary::Double)),
+    ("square", Operation::Unary(Unary::Square)),
+    ("cube", Operation::Unary(Unary::Cube)),
+    ("exp_u64", Operation::Unary(Unary::Exp)),
+    ("mul_2exp_u64", Operation::Unary(Unary::Mul2Exp)),
+    ("halve", Operation::Halve),
+    ("dot_product", Operation::DotProduct),
+    ("mixed_dot_product", Operation::MixedDotProduct),
+];
+
+/// The calls that take no number of columns, scales or packings, by their names.
+static CALLS: [(&str, Call); 16] = [
+    ("broadcast", Call::Lanes(LaneCall::Broadcast)),
+    ("div", Call::Lanes(LaneCall::Divide)),
+    ("div scalar", Call::Lanes(LaneCall::DivideByScalar)),
+    ("set_lane", Call::Lanes(LaneCall::SetLane)),
+    ("load_block", Call::Lanes(LaneCall::LoadBlock)),
+    ("store_block", Call::Lanes(LaneCall::StoreBlock)),
+    ("packed_powers", Call::Lanes(LaneCall::Powers)),
+    ("packed_shifted_powers", Call::Lanes(LaneCall::Powers)),
+    (
+        "coeffwise_dot_product",
+        Call::Lanes(LaneCall::CoefficientSums),
+    ),
+    ("collect", Call::Lists(ListCall::Collect)),
+    ("growths of collect", Call::Lists(ListCall::Growths)),
+    (
+        "scale_slice_in_place_single_core",
+        Call::Lists(ListCall::Scale),
+    ),
+    (
+        "add_scaled_slice_in_place",
+        Call::Lists(ListCall::AddScaled),
+    ),
+    ("add_slices", Call::Lists(ListCall::AddSlices)),
+    ("slices of every length", Call::Lists(ListCall::EveryLength)),
+    ("interleave", Call::Blocks(BlockCall::Interleave)),
+];
+
+/// The operation of a name.
+fn operation_of(name: &str) -> Option<Operation> {
+    for row in OPERATIONS {
+        let (known, operation) = row;
+        if known == name {
+            return Some(operation);
+        }
+    }
+    None
+}
+
+/// The call of a name that stands alone.
+fn plain_call(name: &str) -> Option<Call> {
+    for row in CALLS {
+        let (known, call) = row;
+        if known == name {
+            return Some(call);
+        }
+    }
+    None
+}
+
+/// The call of a name, a number and what stands behind them.
+fn counted_call(name: &str, count: usize, operation: &str) -> Option<Call> {
     match name {
-        "add" => Some(Arithmetic::Add),
-        "sub" => Some(Arithmetic::Sub),
-        "mul" => Some(Arithmetic::Mul),
-        _ => None,
-    }
-}
-
-/// The operation on one value of a name.
-fn unary_of(name: &str) -> Option<Unary> {
-    match name {
-        "neg" => Some(Unary::Neg),
-        "double" => Some(Unary::Double),
-        "square" => Some(Unary::Square),
-        "cube" => Some(Unary::Cube),
-        "exp_u64" => Some(Unary::Exp),
-        "mul_2exp_u64" => Some(Unary::Mul2Exp),
-        _ => None,
-    }
-}
-
-/// The operation of a name that stands alone.
-fn plain_operation(name: &str) -> Option<Operation> {
-    match name {
-        "halve" => Some(Operation::Halve),
-        "dot_product" => Some(Operation::DotProduct),
-        "mixed_dot_product" => Some(Operation::MixedDotProduct),
-        _ => match unary_of(name) {
-            Some(operation) => Some(Operation::Unary(operation)),
-            None => Some(Operation::Binary(arithmetic_of(name)?)),
-        },
-    }
-}
-
-/// The operation of two words, of which the second may be missing.
-fn operation_of(first: &str, second: &str) -> Option<Operation> {
-    match (first, second) {
-        (_, "") => plain_operation(first),
-        (_, "scalar") => Some(Operation::WithScalar(arithmetic_of(first)?)),
-        ("scalar", _) => Some(Operation::OfScalar(arithmetic_of(second)?)),
-        _ => None,
-    }
-}
-
-/// The call on packings of two words.
-fn lane_call(first: &str, second: &str) -> Option<LaneCall> {
-    match first {
-        "broadcast" => Some(LaneCall::Broadcast),
-        "set_lane" => Some(LaneCall::SetLane),
-        "load_block" => Some(LaneCall::LoadBlock),
-        "store_block" => Some(LaneCall::StoreBlock),
-        "packed_powers" | "packed_shifted_powers" => Some(LaneCall::Powers),
-        "coeffwise_dot_product" => Some(LaneCall::CoefficientSums),
-        "div" if second == "scalar" => Some(LaneCall::DivideByScalar),
-        "div" => Some(LaneCall::Divide),
-        _ => Some(LaneCall::Operation(operation_of(first, second)?)),
-    }
-}
-
-/// The call on lists or slices of a name.
-fn list_call(name: &str) -> Option<ListCall> {
-    match name {
-        "collect" => Some(ListCall::Collect),
-        "growths of collect" => Some(ListCall::Growths),
-        "scale_slice_in_place_single_core" => Some(ListCall::Scale),
-        "add_scaled_slice_in_place" => Some(ListCall::AddScaled),
-        "add_slices" => Some(ListCall::AddSlices),
-        "slices of every length" => Some(ListCall::EveryLength),
-        _ => None,
-    }
-}
-
-/// The call with a number as its second word.
-fn counted_call(call: &str) -> Option<Call> {
-    let count = word(call, 1).parse::<usize>().ok()?;
-    match word(call, 0) {
         "pack_columns" => Some(Call::Columns(ColumnCall::Pack(count))),
         "unpack_into" => Some(Call::Columns(ColumnCall::Unpack(count))),
         "generic_batched_columnwise_dot_product" => Some(Call::Blocks(BlockCall::Columnwise(
             count,
         ))),
-        "vectorized" => {
-            let operation = operation_of(word(call, 2), word(call, 3))?;
-            Some(Call::Blocks(BlockCall::Vectors(count, operation)))
-        }
+        "vectorized" => Some(Call::Blocks(BlockCall::Vectors(count, operation_of(operation)?))),
         _ => None,
     }
 }
 
+/// The same of a text.
+fn counted_call_of(text: &str) -> Option<Call> {
+    let (name, rest) = text.split_once(' ')?;
+    let (count, operation) = rest.split_once(' ').unwrap_or((rest, ""));
+    counted_call(name, count.parse::<usize>().ok()?, operation)
+}
+
 /// The call that a row names.
-pub(crate) fn call_of(call: &str) -> Option<Call> {
-    if call == "interleave" {
-        return Some(Call::Blocks(BlockCall::Interleave));
+pub(crate) fn call_of(text: &str) -> Option<Call> {
+    if let Some(operation) = operation_of(text) {
+        return Some(Call::Lanes(LaneCall::Operation(operation)));
     }
-    if let Some(lists) = list_call(call) {
-        return Some(Call::Lists(lists));
-    }
-    match counted_call(call) {
-        Some(counted) => Some(counted),
-        None => Some(Call::Lanes(lane_call(word(call, 0), word(call, 1))?)),
+    match plain_call(text) {
+        Some(call) => Some(call),
+        None => counted_call_of(text),
     }
 }

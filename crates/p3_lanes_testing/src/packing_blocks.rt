@@ -1,7 +1,9 @@
 //! Packings interleaved by blocks of lanes, columnwise products of them, and vectors of them.
 ghost use Rattle.std.specs.Prelude.{◌≡◌, ◌%◌};
 
-use crate::calls::BlockCall;
+use crate::calls::{BlockCall, Call};
+use crate::packing_calls::packings_agree;
+use crate::packing_columns::Rooms;
 use crate::packing_sums::counted_columnwise_agree;
 use crate::rows::{Row, holds, packing};
 use crate::vector_calls::{Vectors, counted_vectors_agree};
@@ -32,7 +34,7 @@ fn interleaved_agree<F: Field, P: PackedFieldPow2<F>>(row: Row<'_>) -> Option<bo
 }
 
 /// Whether a call has the row's answer. Nothing is read of `vectors`.
-pub(crate) fn blocks_agree<F: Field, P: PackedFieldPow2<F>>(
+fn blocks_agree<F: Field, P: PackedFieldPow2<F>>(
     alloc: Global,
     vectors: Option<Vectors<F, P>>,
     call: BlockCall,
@@ -44,5 +46,22 @@ pub(crate) fn blocks_agree<F: Field, P: PackedFieldPow2<F>>(
         BlockCall::Vectors(packings, operation) => {
             counted_vectors_agree::<F, P>(alloc, vectors, packings, operation, row)
         }
+    }
+}
+
+/// The types that calls on packings P of values of F make values of: where a signature names them, it is
+/// known that they have room.
+pub(crate) type BlockRooms<F, P> = (Rooms<F, P>, Vectors<F, P>);
+
+/// Whether a call has the row's answer. Nothing is read of `_rooms`.
+pub(crate) fn all_agree<F: Field, P: PackedFieldPow2<F>>(
+    alloc: Global,
+    _rooms: Option<BlockRooms<F, P>>,
+    call: Call,
+    row: Row<'_>,
+) -> Result<Option<bool>, AllocError> {
+    match call {
+        Call::Blocks(call) => blocks_agree::<F, P>(alloc, None, call, row),
+        _ => packings_agree::<F, P>(alloc, None, call, row),
     }
 }

@@ -1,6 +1,7 @@
 //! Calls on packings of a prime field's values, told by the rows of tables.
-use crate::calls::{LaneCall, ListCall, Operation};
+use crate::calls::{Call, LaneCall, ListCall, Operation};
 use crate::operations::operated;
+use crate::packing_columns::{Rooms, counted_columns_agree};
 use crate::packing_list_calls::{added, are_powers, scaled};
 use crate::packing_quotients::{quotient, scalar_quotient};
 use crate::packing_slices::{lengths_agree, loaded, slices_agree, stored};
@@ -64,7 +65,7 @@ fn answered<F: Field, P: PackedField<F>>(
 }
 
 /// Whether a call on packings has the row's answer. Nothing is read of `_room`.
-pub(crate) fn lanes_agree<F: Field, P: PackedField<F>>(
+fn lanes_agree<F: Field, P: PackedField<F>>(
     alloc: Global,
     _room: Option<[P; 8]>,
     call: LaneCall,
@@ -82,7 +83,7 @@ pub(crate) fn lanes_agree<F: Field, P: PackedField<F>>(
 }
 
 /// Whether a call on lists or slices has the row's answer.
-pub(crate) fn lists_agree<F: Field, P: PackedField<F>>(
+fn lists_agree<F: Field, P: PackedField<F>>(
     alloc: Global,
     call: ListCall,
     row: Row<'_>,
@@ -94,5 +95,21 @@ pub(crate) fn lists_agree<F: Field, P: PackedField<F>>(
         ListCall::AddScaled => added::<F, P>(alloc, row),
         ListCall::AddSlices => slices_agree::<F, P>(alloc, row),
         ListCall::EveryLength => lengths_agree::<F, P>(alloc, row),
+    }
+}
+
+/// Whether a call has the row's answer, of those that go over any packings; `Ok(None)` for the others.
+/// Nothing is read of `rooms`.
+pub(crate) fn packings_agree<F: Field, P: PackedField<F>>(
+    alloc: Global,
+    rooms: Option<Rooms<F, P>>,
+    call: Call,
+    row: Row<'_>,
+) -> Result<Option<bool>, AllocError> {
+    match call {
+        Call::Lanes(call) => lanes_agree::<F, P>(alloc, None, call, row),
+        Call::Lists(call) => lists_agree::<F, P>(alloc, call, row),
+        Call::Columns(call) => counted_columns_agree::<F, P>(alloc, rooms, call, row),
+        Call::Blocks(_) => Ok(None),
     }
 }

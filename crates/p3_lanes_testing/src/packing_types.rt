@@ -1,14 +1,13 @@
 //! The packings that rows name, and vectors of them: each row's call at its field and its number of lanes.
-use crate::calls::{BlockCall, Call, ColumnCall, LaneCall, ListCall, call_of};
-use crate::packing_blocks::blocks_agree;
-use crate::packing_calls::{lanes_agree, lists_agree};
-use crate::packing_columns::{Rooms, counted_columns_agree};
+use crate::calls::{Call, call_of};
+use crate::packing_blocks::{BlockRooms, all_agree};
+use crate::packing_calls::packings_agree;
+use crate::packing_columns::Rooms;
 use crate::packing_list_tables::{LISTS, POWER_GROWTHS, POWERS, POWERS_OF_31, WORKED_POWERS};
 use crate::packing_sum_tables::{COLUMNS, SUMS, WORKED_COLUMNS, WORKED_SUMS};
 use crate::packing_tables::{BLOCKS, OPERATIONS, THREE_LANES, WORKED_BLOCKS};
 use crate::power_lists::ExtensionPowers;
 use crate::rows::Row;
-use crate::vector_calls::Vectors;
 use crate::vector_tables::VECTORS;
 use p3_bench_packed::lanes::{LaneCount, LaneCountPow2};
 use p3_bench_packed::packed::Packed;
@@ -26,94 +25,55 @@ use std::test::Fail;
 /// The calls of rows on packings of this type, implemented once for all fields and all numbers of lanes: a
 /// call at a packing's own name passes the form of its words, and not what the packing has by that.
 trait LaneCalls: Copy {
-    /// Eight packings. Of an associated type it is known that its values have room.
-    type Eight: Copy;
-
-    /// The types that calls on columns make values of.
+    /// The types that calls make values of. Of an associated type it is known that its values have room.
     type Rooms: Drop;
 
-    /// `lanes_agree` over packings of this type. Nothing is read of `room`.
-    fn lanes(
-        alloc: Global,
-        room: Option<Self::Eight>,
-        call: LaneCall,
-        row: Row<'_>,
-    ) -> Result<Option<bool>, AllocError>;
-
-    /// `lists_agree` over packings of this type. Nothing is read of `room`.
-    fn lists(
-        alloc: Global,
-        room: Option<Self::Eight>,
-        call: ListCall,
-        row: Row<'_>,
-    ) -> Result<Option<bool>, AllocError>;
-
-    /// `counted_columns_agree` over packings of this type. Nothing is read of `rooms`.
-    fn columns(
+    /// `packings_agree` over packings of this type. Nothing is read of `rooms`.
+    fn agree(
         alloc: Global,
         rooms: Option<Self::Rooms>,
-        call: ColumnCall,
+        call: Call,
         row: Row<'_>,
     ) -> Result<Option<bool>, AllocError>;
 }
 
 impl<W: Form<T> + LaneCount<N>, T: Word, const N: usize> LaneCalls for Packed<Fp<W, T>, N> {
-    type Eight = [Packed<Fp<W, T>, N>; 8];
-
     type Rooms = Rooms<Fp<W, T>, Packed<Fp<W, T>, N>>;
 
-    fn lanes(
-        alloc: Global,
-        room: Option<[Packed<Fp<W, T>, N>; 8]>,
-        call: LaneCall,
-        row: Row<'_>,
-    ) -> Result<Option<bool>, AllocError> {
-        lanes_agree::<Fp<W, T>, Packed<Fp<W, T>, N>>(alloc, room, call, row)
-    }
-
-    fn lists(
-        alloc: Global,
-        _room: Option<[Packed<Fp<W, T>, N>; 8]>,
-        call: ListCall,
-        row: Row<'_>,
-    ) -> Result<Option<bool>, AllocError> {
-        lists_agree::<Fp<W, T>, Packed<Fp<W, T>, N>>(alloc, call, row)
-    }
-
-    fn columns(
+    fn agree(
         alloc: Global,
         rooms: Option<Rooms<Fp<W, T>, Packed<Fp<W, T>, N>>>,
-        call: ColumnCall,
+        call: Call,
         row: Row<'_>,
     ) -> Result<Option<bool>, AllocError> {
-        counted_columns_agree::<Fp<W, T>, Packed<Fp<W, T>, N>>(alloc, rooms, call, row)
+        packings_agree::<Fp<W, T>, Packed<Fp<W, T>, N>>(alloc, rooms, call, row)
     }
 }
 
 /// The calls of rows on packings of this type whose number of lanes is a power of two.
 trait BlockCalls: Copy {
-    /// Vectors of one, three and four packings.
-    type Vectors: Copy;
+    /// The types that calls make values of.
+    type Rooms: Drop;
 
-    /// `blocks_agree` over packings of this type. Nothing is read of `vectors`.
-    fn blocks(
+    /// `all_agree` over packings of this type. Nothing is read of `rooms`.
+    fn agree_by_blocks(
         alloc: Global,
-        vectors: Option<Self::Vectors>,
-        call: BlockCall,
+        rooms: Option<Self::Rooms>,
+        call: Call,
         row: Row<'_>,
     ) -> Result<Option<bool>, AllocError>;
 }
 
 impl<W: Form<T> + LaneCountPow2<N>, T: Word, const N: usize> BlockCalls for Packed<Fp<W, T>, N> {
-    type Vectors = Vectors<Fp<W, T>, Packed<Fp<W, T>, N>>;
+    type Rooms = BlockRooms<Fp<W, T>, Packed<Fp<W, T>, N>>;
 
-    fn blocks(
+    fn agree_by_blocks(
         alloc: Global,
-        vectors: Option<Vectors<Fp<W, T>, Packed<Fp<W, T>, N>>>,
-        call: BlockCall,
+        rooms: Option<BlockRooms<Fp<W, T>, Packed<Fp<W, T>, N>>>,
+        call: Call,
         row: Row<'_>,
     ) -> Result<Option<bool>, AllocError> {
-        blocks_agree::<Fp<W, T>, Packed<Fp<W, T>, N>>(alloc, vectors, call, row)
+        all_agree::<Fp<W, T>, Packed<Fp<W, T>, N>>(alloc, rooms, call, row)
     }
 }
 
@@ -129,215 +89,78 @@ enum FieldName {
     Goldilocks,
 }
 
+/// Their names.
+static FIELDS: [(&str, FieldName); 7] = [
+    ("f2", FieldName::F2),
+    ("f17", FieldName::F17),
+    ("f31", FieldName::F31),
+    ("z15", FieldName::Z15),
+    ("bb", FieldName::BabyBear),
+    ("kb", FieldName::KoalaBear),
+    ("gl", FieldName::Goldilocks),
+];
+
 /// The field of a name.
 fn field_of(name: &str) -> Option<FieldName> {
-    match name {
-        "f2" => Some(FieldName::F2),
-        "f17" => Some(FieldName::F17),
-        "f31" => Some(FieldName::F31),
-        "z15" => Some(FieldName::Z15),
-        "bb" => Some(FieldName::BabyBear),
-        "kb" => Some(FieldName::KoalaBear),
-        "gl" => Some(FieldName::Goldilocks),
-        _ => None,
+    for row in FIELDS {
+        let (known, field) = row;
+        if known == name {
+            return Some(field);
+        }
     }
+    None
 }
 
-/// Whether a call on packings has the row's answer over a prime field.
-fn lanes_over<W: Form<u32>>(
+/// Whether a row's call has its answer over a prime field whose residues are words of 32 bits.
+fn row_over<W: Form<u32>>(
     alloc: Global,
     lanes: usize,
-    call: LaneCall,
+    call: Call,
     row: Row<'_>,
 ) -> Result<Option<bool>, AllocError> {
     match lanes {
-        1 => <Packed<Fp<W>, 1> as LaneCalls>::lanes(alloc, None, call, row),
-        4 => <Packed<Fp<W>, 4> as LaneCalls>::lanes(alloc, None, call, row),
-        8 => <Packed<Fp<W>, 8> as LaneCalls>::lanes(alloc, None, call, row),
+        1 => <Packed<Fp<W>, 1> as BlockCalls>::agree_by_blocks(alloc, None, call, row),
+        4 => <Packed<Fp<W>, 4> as BlockCalls>::agree_by_blocks(alloc, None, call, row),
+        8 => <Packed<Fp<W>, 8> as BlockCalls>::agree_by_blocks(alloc, None, call, row),
         _ => Ok(None),
     }
 }
 
 /// The same over Goldilocks.
-fn lanes_over_goldilocks(
+fn row_over_goldilocks(
     alloc: Global,
     lanes: usize,
-    call: LaneCall,
+    call: Call,
     row: Row<'_>,
 ) -> Result<Option<bool>, AllocError> {
     match lanes {
-        1 => <Packed<Goldilocks, 1> as LaneCalls>::lanes(alloc, None, call, row),
-        4 => <Packed<Goldilocks, 4> as LaneCalls>::lanes(alloc, None, call, row),
-        8 => <Packed<Goldilocks, 8> as LaneCalls>::lanes(alloc, None, call, row),
+        1 => <Packed<Goldilocks, 1> as BlockCalls>::agree_by_blocks(alloc, None, call, row),
+        4 => <Packed<Goldilocks, 4> as BlockCalls>::agree_by_blocks(alloc, None, call, row),
+        8 => <Packed<Goldilocks, 8> as BlockCalls>::agree_by_blocks(alloc, None, call, row),
         _ => Ok(None),
     }
 }
 
 /// The same over the field that a row names. Modulo 17 there are packings of 3 and 16 lanes too.
-fn lanes_at(
+fn row_at(
     alloc: Global,
     field: FieldName,
     lanes: usize,
-    call: LaneCall,
+    call: Call,
     row: Row<'_>,
 ) -> Result<Option<bool>, AllocError> {
     match (field, lanes) {
-        (FieldName::F17, 3) => <Packed<F17, 3> as LaneCalls>::lanes(alloc, None, call, row),
-        (FieldName::F17, 16) => <Packed<F17, 16> as LaneCalls>::lanes(alloc, None, call, row),
-        (FieldName::F17, _) => lanes_over::<Plain<M17>>(alloc, lanes, call, row),
-        (FieldName::F2, _) => lanes_over::<Plain<M2>>(alloc, lanes, call, row),
-        (FieldName::F31, _) => lanes_over::<Plain<M31>>(alloc, lanes, call, row),
-        (FieldName::Z15, _) => lanes_over::<Plain<M15>>(alloc, lanes, call, row),
-        (FieldName::BabyBear, _) => lanes_over::<Montgomery<BabyBearModulus>>(
+        (FieldName::F17, 3) => <Packed<F17, 3> as LaneCalls>::agree(alloc, None, call, row),
+        (FieldName::F17, 16) => <Packed<F17, 16> as LaneCalls>::agree(alloc, None, call, row),
+        (FieldName::F17, _) => row_over::<Plain<M17>>(alloc, lanes, call, row),
+        (FieldName::F2, _) => row_over::<Plain<M2>>(alloc, lanes, call, row),
+        (FieldName::F31, _) => row_over::<Plain<M31>>(alloc, lanes, call, row),
+        (FieldName::Z15, _) => row_over::<Plain<M15>>(alloc, lanes, call, row),
+        (FieldName::BabyBear, _) => row_over::<Montgomery<BabyBearModulus>>(
             alloc, lanes, call, row,
         ),
-        (FieldName::KoalaBear, _) => lanes_over::<Plain<KoalaBearModulus>>(alloc, lanes, call, row),
-        (FieldName::Goldilocks, _) => lanes_over_goldilocks(alloc, lanes, call, row),
-    }
-}
-
-/// Whether a call on lists or slices has the row's answer over a prime field.
-fn lists_over<W: Form<u32>>(
-    alloc: Global,
-    lanes: usize,
-    call: ListCall,
-    row: Row<'_>,
-) -> Result<Option<bool>, AllocError> {
-    match lanes {
-        1 => <Packed<Fp<W>, 1> as LaneCalls>::lists(alloc, None, call, row),
-        4 => <Packed<Fp<W>, 4> as LaneCalls>::lists(alloc, None, call, row),
-        8 => <Packed<Fp<W>, 8> as LaneCalls>::lists(alloc, None, call, row),
-        _ => Ok(None),
-    }
-}
-
-/// The same over Goldilocks.
-fn lists_over_goldilocks(
-    alloc: Global,
-    lanes: usize,
-    call: ListCall,
-    row: Row<'_>,
-) -> Result<Option<bool>, AllocError> {
-    match lanes {
-        4 => <Packed<Goldilocks, 4> as LaneCalls>::lists(alloc, None, call, row),
-        8 => <Packed<Goldilocks, 8> as LaneCalls>::lists(alloc, None, call, row),
-        _ => Ok(None),
-    }
-}
-
-/// The same over the field that a row names: modulo 17, over BabyBear and over Goldilocks.
-fn lists_at(
-    alloc: Global,
-    field: FieldName,
-    lanes: usize,
-    call: ListCall,
-    row: Row<'_>,
-) -> Result<Option<bool>, AllocError> {
-    match (field, lanes) {
-        (FieldName::F17, 3) => <Packed<F17, 3> as LaneCalls>::lists(alloc, None, call, row),
-        (FieldName::F17, 16) => <Packed<F17, 16> as LaneCalls>::lists(alloc, None, call, row),
-        (FieldName::F17, _) => lists_over::<Plain<M17>>(alloc, lanes, call, row),
-        (FieldName::BabyBear, _) => lists_over::<Montgomery<BabyBearModulus>>(
-            alloc, lanes, call, row,
-        ),
-        (FieldName::Goldilocks, _) => lists_over_goldilocks(alloc, lanes, call, row),
-        _ => Ok(None),
-    }
-}
-
-/// Whether a call on columns has the row's answer over a prime field.
-fn columns_over<W: Form<u32>>(
-    alloc: Global,
-    lanes: usize,
-    call: ColumnCall,
-    row: Row<'_>,
-) -> Result<Option<bool>, AllocError> {
-    match lanes {
-        1 => <Packed<Fp<W>, 1> as LaneCalls>::columns(alloc, None, call, row),
-        4 => <Packed<Fp<W>, 4> as LaneCalls>::columns(alloc, None, call, row),
-        8 => <Packed<Fp<W>, 8> as LaneCalls>::columns(alloc, None, call, row),
-        _ => Ok(None),
-    }
-}
-
-/// The same over Goldilocks.
-fn columns_over_goldilocks(
-    alloc: Global,
-    lanes: usize,
-    call: ColumnCall,
-    row: Row<'_>,
-) -> Result<Option<bool>, AllocError> {
-    match lanes {
-        4 => <Packed<Goldilocks, 4> as LaneCalls>::columns(alloc, None, call, row),
-        _ => Ok(None),
-    }
-}
-
-/// The same over the field that a row names.
-fn columns_at(
-    alloc: Global,
-    field: FieldName,
-    lanes: usize,
-    call: ColumnCall,
-    row: Row<'_>,
-) -> Result<Option<bool>, AllocError> {
-    match field {
-        FieldName::F2 => columns_over::<Plain<M2>>(alloc, lanes, call, row),
-        FieldName::F17 => columns_over::<Plain<M17>>(alloc, lanes, call, row),
-        FieldName::F31 => columns_over::<Plain<M31>>(alloc, lanes, call, row),
-        FieldName::Z15 => columns_over::<Plain<M15>>(alloc, lanes, call, row),
-        FieldName::BabyBear => columns_over::<Montgomery<BabyBearModulus>>(alloc, lanes, call, row),
-        FieldName::KoalaBear => columns_over::<Plain<KoalaBearModulus>>(alloc, lanes, call, row),
-        FieldName::Goldilocks => columns_over_goldilocks(alloc, lanes, call, row),
-    }
-}
-
-/// Whether a call on blocks of lanes or on vectors has the row's answer over a prime field.
-fn blocks_over<W: Form<u32>>(
-    alloc: Global,
-    lanes: usize,
-    call: BlockCall,
-    row: Row<'_>,
-) -> Result<Option<bool>, AllocError> {
-    match lanes {
-        4 => <Packed<Fp<W>, 4> as BlockCalls>::blocks(alloc, None, call, row),
-        8 => <Packed<Fp<W>, 8> as BlockCalls>::blocks(alloc, None, call, row),
-        _ => Ok(None),
-    }
-}
-
-/// The same over Goldilocks.
-fn blocks_over_goldilocks(
-    alloc: Global,
-    lanes: usize,
-    call: BlockCall,
-    row: Row<'_>,
-) -> Result<Option<bool>, AllocError> {
-    match lanes {
-        4 => <Packed<Goldilocks, 4> as BlockCalls>::blocks(alloc, None, call, row),
-        8 => <Packed<Goldilocks, 8> as BlockCalls>::blocks(alloc, None, call, row),
-        _ => Ok(None),
-    }
-}
-
-/// The same over the field that a row names. Modulo 17 there are packings of one lane too.
-fn blocks_at(
-    alloc: Global,
-    field: FieldName,
-    lanes: usize,
-    call: BlockCall,
-    row: Row<'_>,
-) -> Result<Option<bool>, AllocError> {
-    match (field, lanes) {
-        (FieldName::F17, 1) => <Packed<F17, 1> as BlockCalls>::blocks(alloc, None, call, row),
-        (FieldName::F17, _) => blocks_over::<Plain<M17>>(alloc, lanes, call, row),
-        (FieldName::F31, _) => blocks_over::<Plain<M31>>(alloc, lanes, call, row),
-        (FieldName::Z15, _) => blocks_over::<Plain<M15>>(alloc, lanes, call, row),
-        (FieldName::BabyBear, _) => blocks_over::<Montgomery<BabyBearModulus>>(
-            alloc, lanes, call, row,
-        ),
-        (FieldName::Goldilocks, _) => blocks_over_goldilocks(alloc, lanes, call, row),
-        _ => Ok(None),
+        (FieldName::KoalaBear, _) => row_over::<Plain<KoalaBearModulus>>(alloc, lanes, call, row),
+        (FieldName::Goldilocks, _) => row_over_goldilocks(alloc, lanes, call, row),
     }
 }
 
@@ -360,10 +183,7 @@ fn row_agrees(
     row: Row<'_>,
 ) -> Result<Option<bool>, AllocError> {
     match call_of(row.call) {
-        Some(Call::Lanes(call)) => lanes_at(alloc, field, lanes, call, row),
-        Some(Call::Lists(call)) => lists_at(alloc, field, lanes, call, row),
-        Some(Call::Columns(call)) => columns_at(alloc, field, lanes, call, row),
-        Some(Call::Blocks(call)) => blocks_at(alloc, field, lanes, call, row),
+        Some(call) => row_at(alloc, field, lanes, call, row),
         None => Ok(None),
     }
 }
