@@ -127,7 +127,7 @@ int32_t p3_bb_powers(uint32_t base, uint32_t start, uint32_t *powers, size_t pow
 /* The inverse of the value. Refused by P3_WORD, P3_NO_INVERSE. */
 int32_t p3_bb_inverse(uint32_t value, uint32_t *inverse);
 
-/* Writes over each value its inverse. Refused by P3_WORD, P3_NO_INVERSE, P3_MEMORY. */
+/* Writes over each value its inverse. Refused by P3_WORD, P3_NO_INVERSE. */
 int32_t p3_bb_batch_inverse(uint32_t *values, size_t values_len);
 
 /* A square root of the value, as the search by Tonelli and Shanks finds it. Refused by P3_WORD,
@@ -213,7 +213,7 @@ int32_t p3_kb_powers(uint32_t base, uint32_t start, uint32_t *powers, size_t pow
 /* The inverse of the value. Refused by P3_WORD, P3_NO_INVERSE. */
 int32_t p3_kb_inverse(uint32_t value, uint32_t *inverse);
 
-/* Writes over each value its inverse. Refused by P3_WORD, P3_NO_INVERSE, P3_MEMORY. */
+/* Writes over each value its inverse. Refused by P3_WORD, P3_NO_INVERSE. */
 int32_t p3_kb_batch_inverse(uint32_t *values, size_t values_len);
 
 /* A square root of the value, as the search by Tonelli and Shanks finds it. Refused by P3_WORD,
@@ -299,7 +299,7 @@ int32_t p3_gl_powers(uint64_t base, uint64_t start, uint64_t *powers, size_t pow
 /* The inverse of the value. Refused by P3_WORD, P3_NO_INVERSE. */
 int32_t p3_gl_inverse(uint64_t value, uint64_t *inverse);
 
-/* Writes over each value its inverse. Refused by P3_WORD, P3_NO_INVERSE, P3_MEMORY. */
+/* Writes over each value its inverse. Refused by P3_WORD, P3_NO_INVERSE. */
 int32_t p3_gl_batch_inverse(uint64_t *values, size_t values_len);
 
 /* A square root of the value, as the search by Tonelli and Shanks finds it. Refused by P3_WORD,

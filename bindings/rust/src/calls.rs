@@ -110,7 +110,7 @@ pub mod bb {
         /// The inverse of the value. Refused by P3_WORD, P3_NO_INVERSE.
         #[link_name = "p3_bb_inverse"]
         pub fn inverse(value: u32, inverse: *mut u32) -> i32;
-        /// Writes over each value its inverse. Refused by P3_WORD, P3_NO_INVERSE, P3_MEMORY.
+        /// Writes over each value its inverse. Refused by P3_WORD, P3_NO_INVERSE.
         #[link_name = "p3_bb_batch_inverse"]
         pub fn batch_inverse(values: *mut u32, values_len: usize) -> i32;
         /// A square root of the value, as the search by Tonelli and Shanks finds it. Refused by
@@ -226,7 +226,7 @@ pub mod kb {
         /// The inverse of the value. Refused by P3_WORD, P3_NO_INVERSE.
         #[link_name = "p3_kb_inverse"]
         pub fn inverse(value: u32, inverse: *mut u32) -> i32;
-        /// Writes over each value its inverse. Refused by P3_WORD, P3_NO_INVERSE, P3_MEMORY.
+        /// Writes over each value its inverse. Refused by P3_WORD, P3_NO_INVERSE.
         #[link_name = "p3_kb_batch_inverse"]
         pub fn batch_inverse(values: *mut u32, values_len: usize) -> i32;
         /// A square root of the value, as the search by Tonelli and Shanks finds it. Refused by
@@ -342,7 +342,7 @@ pub mod gl {
         /// The inverse of the value. Refused by P3_WORD, P3_NO_INVERSE.
         #[link_name = "p3_gl_inverse"]
         pub fn inverse(value: u64, inverse: *mut u64) -> i32;
-        /// Writes over each value its inverse. Refused by P3_WORD, P3_NO_INVERSE, P3_MEMORY.
+        /// Writes over each value its inverse. Refused by P3_WORD, P3_NO_INVERSE.
         #[link_name = "p3_gl_batch_inverse"]
         pub fn batch_inverse(values: *mut u64, values_len: usize) -> i32;
         /// A square root of the value, as the search by Tonelli and Shanks finds it. Refused by

@@ -30,6 +30,9 @@ const BLOCK: usize = 256;
 /// How many products go side by side.
 const LANES: usize = 32;
 
+/// How many values are inverted at once.
+const INVERSES: usize = 512;
+
 /// Writes over each canonical number the word of its value.
 #[unsafe(no_mangle)]
 pub extern "C" fn p3_bb_from_canonical(values: &mut [u32]) -> i32
@@ -146,11 +149,16 @@ pub extern "C" fn p3_bb_inverse(value: u32, inverse: &mut u32) -> i32
 
 /// Writes over each value its inverse.
 #[unsafe(no_mangle)]
-pub extern "C" fn p3_bb_batch_inverse(alloc: Global, values: &mut [u32]) -> i32
+pub extern "C" fn p3_bb_batch_inverse(values: &mut [u32]) -> i32
     ensures { Tells (WritesInverses ⟦<BabyBear as PrimeCharacteristicRing>⟧.ops ⟦<BabyBear as Stored<u32>>⟧.words values.old values.new) result }
 {
-    let mut lanes = [BabyBear::zero(); LANES];
-    status(inverses::batch_inverse::<BabyBear, u32>(alloc, values, &mut lanes))
+    let mut room = [BabyBear::zero(); INVERSES];
+    let mut inverses = [BabyBear::zero(); INVERSES];
+    status(inverses::batch_inverse::<BabyBear, u32>(
+        values,
+        &mut room,
+        &mut inverses,
+    ))
 }
 
 /// A square root of the value, as the search by Tonelli and Shanks finds it.

@@ -26,6 +26,9 @@ const BLOCK: usize = 256;
 /// How many products go side by side.
 const LANES: usize = 32;
 
+/// How many values are inverted at once.
+const INVERSES: usize = 512;
+
 /// Writes over each canonical number the word of its value.
 #[unsafe(no_mangle)]
 pub extern "C" fn p3_gl_from_canonical(values: &mut [u64]) -> i32
@@ -142,11 +145,16 @@ pub extern "C" fn p3_gl_inverse(value: u64, inverse: &mut u64) -> i32
 
 /// Writes over each value its inverse.
 #[unsafe(no_mangle)]
-pub extern "C" fn p3_gl_batch_inverse(alloc: Global, values: &mut [u64]) -> i32
+pub extern "C" fn p3_gl_batch_inverse(values: &mut [u64]) -> i32
     ensures { Tells (WritesInverses ⟦<Goldilocks as PrimeCharacteristicRing>⟧.ops ⟦<Goldilocks as Stored<u64>>⟧.words values.old values.new) result }
 {
-    let mut lanes = [Goldilocks::zero(); LANES];
-    status(inverses::batch_inverse::<Goldilocks, u64>(alloc, values, &mut lanes))
+    let mut room = [Goldilocks::zero(); INVERSES];
+    let mut inverses = [Goldilocks::zero(); INVERSES];
+    status(inverses::batch_inverse::<Goldilocks, u64>(
+        values,
+        &mut room,
+        &mut inverses,
+    ))
 }
 
 /// A square root of the value, as the search by Tonelli and Shanks finds it.

@@ -15,9 +15,6 @@ use p3_words::status::status;
 use p3_words::stored::Stored;
 use std::alloc::Global;
 
-/// How many products go side by side.
-const LANES: usize = 8;
-
 /// Multiplies each value of the left list by that of the right one at its index.
 #[unsafe(no_mangle)]
 pub extern "C" fn p3_bbx4_mul(left: &mut [u32], right: &[u32]) -> i32
@@ -63,8 +60,7 @@ pub extern "C" fn p3_bbx4_inverse(value: &[u32], inverse: &mut [u32]) -> i32
 pub extern "C" fn p3_bbx4_batch_inverse(alloc: Global, values: &mut [u32]) -> i32
     ensures { Tells (WritesEachInverse 4 (quotient_ops ⟦<BabyBear as PrimeCharacteristicRing>⟧.ops 4 ⟦<BabyBear as ExtensionAlgebra<BabyBear, 4, Binomial<BabyBear>>>⟧.modulus) ⟦<BabyBear as Stored<u32>>⟧.words values.old values.new) result }
 {
-    let mut lanes = [BabyBearx4::new([BabyBear::zero(); 4]); LANES];
     status(extensions::batch_inverse::<BabyBear, u32, 4, Binomial<BabyBear>>(
-        alloc, values, &mut lanes,
+        None, alloc, values,
     ))
 }

@@ -1,9 +1,7 @@
 -- Lists of words as the groups of values, and what a loop over the groups does.
-use Rattle.std.proofs.Common.{◌≡◌, ◌+◌, ◌-◌, ◌<◌, ◌≤◌, ◌%◌, ℕ, zero, suc, List, [], ◌∷◌, ◌++◌, length, map, take, drop, refl, sym, ap, ap₂, ◌∙◌, arith, append-nil, length-append}
-use Rattle.std.specs.Prelude.{All}
+use Rattle.std.proofs.Common.{◌≡◌, ◌+◌, ◌-◌, ◌<◌, ◌≤◌, ◌%◌, ℕ, zero, suc, List, [], ◌∷◌, ◌++◌, length, take, drop, refl, sym, ap, ap₂, ◌∙◌, arith, append-nil, length-append}
 use Rattle.std.proofs.lemmas.Grind.{flat_map-append}
-use Rattle.std.proofs.lemmas.List.{drop-drop, length-take, length-drop}
-use Rattle.std.proofs.lemmas.List.Elements.{All-head, All-tail}
+use Rattle.std.proofs.lemmas.List.{drop-drop}
 use Rattle.std.proofs.lemmas.Slice.{take-put_mid, drop-put_mid}
 use borrow.Rule.Slice.PartMut.{put_mid}
 use Rattle.p3_theory.specs.Bases.Coordinates.{flattened}
@@ -11,12 +9,6 @@ use Rattle.p3_theory.specs.Bases.CoordinateLemmas.{flattened-push, divided_front
 use Rattle.p3_theory.specs.Lists.PairedLists.{zip_with}
 use Rattle.p3_theory.specs.Rings.Ring.{Ops, RingLaws}
 use Rattle.p3_theory.specs.Rings.DotProduct.{dot}
-use Rattle.p3_words.specs.Words.{Words, Stands}
-
--- words that are read as values and written again
-pub words-again : {T A : Type 0} (R : Words T A) (ws : List T) → All (Stands R) ws → map R.word (map R.value ws) ≡ ws
-words-again R [] h = refl
-words-again R (w ∷ ws) h = ap₂ (λ v vs. v ∷ vs) (R.word_value w (All-head (Stands R) w ws h)) (words-again R ws (All-tail (Stands R) w ws h))
 
 -- a group more lies whole in a list of whole groups
 pub group-fits : (n len i : ℕ) → 0 < n → (len - i) % n ≡ 0 → i < len → i + n ≤ len
@@ -30,11 +22,6 @@ rest-whole n len i some whole inside =
     let front = divided_front (len - i) n some whole (omega (arith, inside)) in
     let rest : len - (i + n) ≡ len - i - n = omega arith in
     ap (λ m. m % n) rest ∙ front.1
-
--- a list keeps its length where a part comes back
-pub length-put : {T : Type 0} (now part : List T) (i n k : ℕ) → k ≡ n → i + n ≤ length now → length part ≡ n → length (put_mid i k now part) ≡ length now
-length-put now part i n k e fits long =
-    omega (arith, length-append (take i now) (part ++ drop k (drop i now)), length-append part (drop k (drop i now)), length-take i now, length-drop k (drop i now), length-drop i now, e, fits, long)
 
 module _ {E T : Type 0} (group : E → List T) (n : ℕ) where
   -- one more value is read, and its words come back as others

@@ -1,3 +1,4 @@
+pub mod InvertedWords
 mod LaneProducts
 pub mod ListProducts
 pub mod PairedWords

@@ -4,7 +4,8 @@ use Rattle.std.proofs.lemmas.List.Elements.{All-same, All-drop}
 use Rattle.std.proofs.lemmas.Slice.{drop-put_mid}
 use borrow.Rule.Slice.PartMut.{put_mid}
 use Rattle.p3_theory.specs.Bases.Coordinates.{flattened}
-use Rattle.p3_word_extensions.proofs.WordGroups.{group-fits, rest-whole, length-put, at-most, below, read-more, written-group}
+use Rattle.p3_word_extensions.proofs.WordGroups.{group-fits, rest-whole, at-most, below, read-more, written-group}
+use Rattle.p3_words.proofs.InvertedWords.{length-put}
 use Rattle.p3_word_extensions.proofs.groups.each.Goals as goal
 
 pub loop-start-init : goal.loop-start-init

@@ -5,7 +5,8 @@ use Rattle.std.proofs.lemmas.Slice.{drop-put_mid}
 use borrow.Rule.Slice.PartMut.{put_mid}
 use Rattle.p3_theory.specs.Bases.Coordinates.{flattened}
 use Rattle.p3_theory.specs.Lists.PairedLists.{zip_with}
-use Rattle.p3_word_extensions.proofs.WordGroups.{group-fits, rest-whole, length-put, at-most, below, read-more, read-on, written-group, zip-more}
+use Rattle.p3_word_extensions.proofs.WordGroups.{group-fits, rest-whole, at-most, below, read-more, read-on, written-group, zip-more}
+use Rattle.p3_words.proofs.InvertedWords.{length-put}
 use Rattle.p3_word_extensions.proofs.groups.pairs.Goals as goal
 
 pub loop-start-init : goal.loop-start-init

@@ -2,7 +2,8 @@ use Rattle.std.proofs.Common.{◌≡◌, ◌+◌, ◌-◌, ◌≤◌, [], ◌∷
 use Rattle.std.proofs.lemmas.List.{drop_all, take_all, take_more}
 use borrow.Rule.Slice.PartMut.{put_mid}
 use Rattle.p3_theory.specs.Bases.Coordinates.{flattened}
-use Rattle.p3_word_extensions.proofs.WordGroups.{length-put, at-most, written-group, words-left}
+use Rattle.p3_word_extensions.proofs.WordGroups.{at-most, written-group, words-left}
+use Rattle.p3_words.proofs.InvertedWords.{length-put}
 use Rattle.p3_word_extensions.proofs.groups.write_values.Goals as goal
 
 pub loop-i-init : goal.loop-i-init

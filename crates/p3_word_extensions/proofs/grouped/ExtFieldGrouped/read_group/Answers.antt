@@ -1,5 +1,5 @@
 use Rattle.std.proofs.Common.{map, ap, ◌∙◌}
-use Rattle.p3_word_extensions.proofs.WordGroups.{words-again}
+use Rattle.p3_words.proofs.InvertedWords.{words-again}
 use Rattle.p3_word_extensions.proofs.grouped.ExtFieldGrouped.read_group.Goals as goal
 
 pub returns : goal.returns
