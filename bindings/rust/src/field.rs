@@ -273,7 +273,7 @@ pub trait PrimeField: Sealed + Copy + Eq + Hash + Debug + Display + Send + Sync 
 
     /// Writes over each value its inverse.
     ///
-    /// Refused by [`Error::Word`], [`Error::NoInverse`], [`Error::Memory`].
+    /// Refused by [`Error::Word`], [`Error::NoInverse`].
     ///
     /// ```
     /// use p3_field_proved::{BabyBear, Error, PrimeField};

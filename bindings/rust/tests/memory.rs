@@ -79,12 +79,12 @@ fn refusals<F: Clone + Debug + PartialEq>(
     unreachable!()
 }
 
-/// Each call that asks for memory; the last one needs some.
+/// Each call that asks for memory, and the batch inversion, which asks for none; the last calls need some.
 fn at<F: PrimeField>() {
     for length in [1, 16, 2000] {
         let list: Vec<F> =
             values(&mixed::<F>(length, 1).into_iter().map(|x| x.max(1)).collect::<Vec<_>>());
-        refusals(&list, |list| F::batch_inverse(list));
+        assert_eq!(refusals(&list, |list| F::batch_inverse(list)), 0);
         for log_size in [0, 5] {
             let room = vec![no_value::<F>(); 1 << log_size];
             refusals(&room, |over| F::eval_coset(&list, list[0], log_size, over));

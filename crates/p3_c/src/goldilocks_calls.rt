@@ -150,11 +150,7 @@ pub extern "C" fn p3_gl_batch_inverse(values: &mut [u64]) -> i32
 {
     let mut room = [Goldilocks::zero(); INVERSES];
     let mut inverses = [Goldilocks::zero(); INVERSES];
-    status(inverses::batch_inverse::<Goldilocks, u64>(
-        values,
-        &mut room,
-        &mut inverses,
-    ))
+    status(inverses::batch_inverse::<Goldilocks, u64>(values, &mut room, &mut inverses))
 }
 
 /// A square root of the value, as the search by Tonelli and Shanks finds it.

@@ -154,11 +154,7 @@ pub extern "C" fn p3_kb_batch_inverse(values: &mut [u32]) -> i32
 {
     let mut room = [KoalaBear::zero(); INVERSES];
     let mut inverses = [KoalaBear::zero(); INVERSES];
-    status(inverses::batch_inverse::<KoalaBear, u32>(
-        values,
-        &mut room,
-        &mut inverses,
-    ))
+    status(inverses::batch_inverse::<KoalaBear, u32>(values, &mut room, &mut inverses))
 }
 
 /// A square root of the value, as the search by Tonelli and Shanks finds it.

@@ -60,7 +60,5 @@ pub extern "C" fn p3_bbx4_inverse(value: &[u32], inverse: &mut [u32]) -> i32
 pub extern "C" fn p3_bbx4_batch_inverse(alloc: Global, values: &mut [u32]) -> i32
     ensures { Tells (WritesEachInverse 4 (quotient_ops ⟦<BabyBear as PrimeCharacteristicRing>⟧.ops 4 ⟦<BabyBear as ExtensionAlgebra<BabyBear, 4, Binomial<BabyBear>>>⟧.modulus) ⟦<BabyBear as Stored<u32>>⟧.words values.old values.new) result }
 {
-    status(extensions::batch_inverse::<BabyBear, u32, 4, Binomial<BabyBear>>(
-        None, alloc, values,
-    ))
+    status(extensions::batch_inverse::<BabyBear, u32, 4, Binomial<BabyBear>>(None, alloc, values))
 }
