@@ -26,6 +26,7 @@ pub use p3_base::sqrt::tonelli_shanks_two_adic_counted;
 pub use p3_batch_inverse::batch_inverse::batch_multiplicative_inverse;
 pub use p3_batch_inverse::batch_inverse::batch_multiplicative_inverse_general;
 pub use p3_batch_inverse::batch_inverse::batch_multiplicative_inverse_in;
+pub use p3_batch_inverse::batch_inverse::try_batch_multiplicative_inverse;
 pub use p3_batch_inverse::packed_inverse::divide_by_lanes;
 pub use p3_batch_inverse::packed_inverse::invert_packed_extension;
 pub use p3_bench_residues::inverse::inverse_modulo;
