@@ -3,7 +3,9 @@ ghost use Rattle.p3_bench_residues.specs.Forms.{IsForm};
 ghost use Rattle.p3_bench_prime.specs.MontgomeryForms.{IsMontgomery};
 
 use crate::fp::Fp;
-use crate::short_sums::{ShortWord, sum_products, sum_small_products};
+use crate::short_sums::{
+    STRIP, ShortWord, sum_products, sum_small_products, sum_strip, sum_strips,
+};
 use crate::word_products::short_product;
 use p3_bench_residues::remainder::remainder_of_sum;
 use p3_bench_residues::short_words::{add_words, halve_word, negate_word, subtract_words};
@@ -345,8 +347,14 @@ impl<M: Modulus> Form<u32> for Plain<M> {
     fn dot_product(u: &[Fp<Self, u32>], v: &[Fp<Self, u32>]) -> u32 {
         if M::ORDER < 0x8000 && u.len() <= 4 {
             sum_small_products(u, v) % M::ORDER
+        } else if M::ORDER <= 0x100 && u.len() <= STRIP {
+            sum_strip(u, v) % M::ORDER
         } else {
-            let sum = sum_products(u, v);
+            let sum = if M::ORDER <= 0x100 {
+                sum_strips(u, v)
+            } else {
+                sum_products(u, v)
+            };
             remainder_of_sum(sum, M::ORDER)
         }
     }
@@ -365,7 +373,6 @@ impl<M: Modulus> ShortForm for Plain<M> {
 }
 
 impl<M: Modulus> ShortWord for Fp<Plain<M>> {
-    ghost use Rattle.std.proofs.Common.{arith};
     ghost use Rattle.p3_bench_prime.specs.Elements.{word_number};
 
     ghost word = { word_number };
@@ -374,6 +381,4 @@ impl<M: Modulus> ShortWord for Fp<Plain<M>> {
     fn stored_word(&self) -> u32 {
         self.word
     }
-
-    ghost short = { λ x. omega (arith, x.below, M.fits) };
 }

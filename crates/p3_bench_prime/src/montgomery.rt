@@ -255,7 +255,6 @@ impl<M: MontgomeryModulus> ShortForm for Montgomery<M> {
 }
 
 impl<M: MontgomeryModulus> ShortWord for Fp<Montgomery<M>> {
-    ghost use Rattle.std.proofs.Common.{arith};
     ghost use Rattle.p3_bench_prime.specs.Elements.{word_number};
 
     ghost word = { word_number };
@@ -264,6 +263,4 @@ impl<M: MontgomeryModulus> ShortWord for Fp<Montgomery<M>> {
     fn stored_word(&self) -> u32 {
         self.word
     }
-
-    ghost short = { λ x. omega (arith, x.below, M.fits) };
 }

@@ -8,5 +8,6 @@ pub mod Reductions
 pub mod Rows
 pub mod SmallDotProducts
 pub mod SmallProducts
+pub mod SmallSums
 pub mod StoredBlocks
 pub mod WordLanes

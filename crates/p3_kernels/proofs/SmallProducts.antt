@@ -82,3 +82,15 @@ module _ (n p : ℕ) (left right xs ys : List ℕ) (fits : p ≤ 2 ^ 8) (a : Are
   pub joined_products : (zs ws : List ℕ) → AreResidues (2 * n) p (product_at xs ys) zs → ((k : ℕ) → k < n → get_or ws k 0 ≡ get_or zs (2 * k) 0 + 2 ^ 16 * get_or zs (2 * k + 1) 0)
       → AreResidues n p (product_at left right) ws
   joined_products = joined_residues n p (product_at left right) (product_at xs ys) even_product odd_product
+
+  -- without a remainder
+  pub joined_exact : (zs ws : List ℕ) → ((k : ℕ) → k < 2 * n → get_or zs k 0 ≡ product_at xs ys k) → ((k : ℕ) → k < n → get_or ws k 0 ≡ get_or zs (2 * k) 0 + 2 ^ 16 * get_or zs (2 * k + 1) 0)
+      → (k : ℕ) → k < n → get_or ws k 0 ≡ product_at left right k
+  joined_exact zs ws e w k l =
+      joined_is (get_or ws k 0) (get_or zs (2 * k) 0) (get_or zs (2 * k + 1) 0) (w k l) (e (2 * k + 1) (omega (arith, l)) ∙ odd_product k l)
+      ∙ e (2 * k) (omega (arith, l)) ∙ even_product k l
+
+-- products of words below 2^8 on halves
+module _ (n : ℕ) (xs ys : List ℕ) (a : length xs ≡ n) (b : length ys ≡ n) (short : (k : ℕ) → k < n → product_at xs ys k < 2 ^ 16) where
+  pub exact_lane : (k : ℕ) → k < n → get_or (zip2 times xs ys) k 0 ≡ product_at xs ys k
+  exact_lane k l = lane2 times n xs ys a b k l ∙ mod-eq_of_lt (short k l)

@@ -14,5 +14,6 @@ pub mod product_sums;
 pub mod residue_arrays;
 pub mod small_dot_products;
 pub mod small_products;
+pub mod small_sums;
 pub mod wide_products;
 pub mod word_pairs;
