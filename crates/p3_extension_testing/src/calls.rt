@@ -64,7 +64,7 @@ fn base_value_agrees<F: Field + Residue, EF: ExtensionField<F>>(x: EF, answer: &
 }
 
 /// Whether values are those that a text tells, with spaces between them.
-fn are_told<T: Listed>(values: &[T], text: &str) -> bool {
+pub fn are_told<T: Listed>(values: &[T], text: &str) -> bool {
     let mut count: usize = 0;
     for word in text.split_ascii_whitespace() {
         match values.get(count) {

@@ -1,10 +1,15 @@
-//! Order, hash and default of extension values, and lists of their coefficients, at one type.
+//! Order, hash and default of extension values, and lists of their coefficients, at one type. What is called at
+//! an extension is so over a marker: a test at a marker's name passes the field's constants alone.
 
+use crate::calls::are_told;
 use crate::lists::{List, ZERO};
 use crate::values::{Listed, Residue, coefficients};
 use p3_base::packed_traits::Packable;
-use p3_bench_prime::extensions::F17x4;
-use p3_bench_prime::small::F17;
+use p3_bench_prime::binomial_constants::BinomialConstants;
+use p3_bench_prime::form::{OverModulus, Plain, ShortForm};
+use p3_bench_prime::fp::Fp;
+use p3_bench_prime::small::M17;
+use p3_ext::extension::BinomialExtensionField;
 use p3_ring::ring::PrimeCharacteristicRing;
 use p3_spaces::basis::BasedVectorSpace;
 use p3_spaces::in_memory::InMemory;
@@ -41,15 +46,42 @@ fn assert_compared<T: Ord + Hash + Debug + Listed>(
     Ok(())
 }
 
+/// The values of the extension by `X^4 = W`.
+type Quartic<W> = BinomialExtensionField<Fp<W>, 4>;
+
+/// The default value, and the second of the values of two lists. Nothing is read of `_room`.
+fn default_and_second<W: ShortForm>(
+    _room: Option<Quartic<W>>,
+    first: &List,
+    second: &List,
+) -> (List, List) {
+    let pair = Quartic::<W>::new_array([coefficients(first), coefficients(second)]);
+    let last = pair[1];
+    (default_lane::<Quartic<W>>().list(), last.list())
+}
+
+/// `assert_compared` of the values of two lists. Nothing is read of `_room`.
+fn assert_values<W: ShortForm>(
+    rt: &(impl Abort + AllocGlobal),
+    _room: Option<Quartic<W>>,
+    first: &List,
+    second: &List,
+    same: &List,
+) -> Result<(), Fail> {
+    let x = Quartic::<W>::of_list(first);
+    let y = Quartic::<W>::of_list(second);
+    assert_compared::<Quartic<W>>(rt, x, y, same)
+}
+
 #[test]
 fn values_of_one_type(rt: HostRuntime) -> Result<(), Fail> {
     let x = [1, 2, 3, 4, 0, 0, 0, 0];
     let y = [5, 6, 7, 8, 0, 0, 0, 0];
     let same = [18, 19, 20, 21, 0, 0, 0, 0];
-    assert_compared(&rt, F17x4::of_list(&x), F17x4::of_list(&y), &same)?;
-    assert!(rt; default_lane::<F17x4>().list() == ZERO);
-    let pair = F17x4::new_array([coefficients(&x), coefficients(&y)]);
-    assert!(rt; pair[1].list() == y);
+    assert_values::<Plain<M17>>(&rt, None, &x, &y, &same)?;
+    let (default, second) = default_and_second::<Plain<M17>>(None, &x, &y);
+    assert!(rt; default == ZERO);
+    assert!(rt; second == y);
     Ok(())
 }
 
@@ -78,16 +110,29 @@ where
     }
 }
 
+/// Whether the coefficients of values, one value after the other, are these numbers, and the values that these
+/// make are those that a text tells. Nothing is read of `_room`.
+fn flat_lists_agree<W: OverModulus<u32> + ShortForm>(
+    alloc: Global,
+    _room: Option<Quartic<W>>,
+    lists: &[List],
+    numbers: &[u64],
+    text: &str,
+) -> Result<bool, AllocError>
+where
+    W::Modulus: BinomialConstants<4>,
+{
+    let flat = flat_numbers::<Fp<W>, Quartic<W>>(alloc, lists)?;
+    let back = reconstituted::<Fp<W>, Quartic<W>>(alloc, numbers)?;
+    Ok(flat.as_slice() == numbers && are_told::<Quartic<W>>(&back, text))
+}
+
 #[test]
 fn lists_of_values(rt: HostRuntime) -> Result<(), Fail> {
-    let x = [1, 2, 3, 4, 0, 0, 0, 0];
-    let y = [5, 6, 7, 8, 0, 0, 0, 0];
+    let lists = [[1, 2, 3, 4, 0, 0, 0, 0], [5, 6, 7, 8, 0, 0, 0, 0]];
     let numbers = [1, 2, 3, 4, 5, 6, 7, 8];
-    let flat = flat_numbers::<F17, F17x4>(rt.alloc(), &[x, y])?;
-    assert!(rt; flat.as_slice() == numbers.as_slice());
-    let back = reconstituted::<F17, F17x4>(rt.alloc(), &numbers)?;
-    assert!(rt; back.len() == 2);
-    assert!(rt; back[0].list() == x);
-    assert!(rt; back[1].list() == y);
+    let text = "1,2,3,4 5,6,7,8";
+    let agree = flat_lists_agree::<Plain<M17>>(rt.alloc(), None, &lists, &numbers, text)?;
+    assert!(rt; agree);
     Ok(())
 }

@@ -1,10 +1,14 @@
-//! The bytes of extension values.
+//! The bytes of extension values. The functions that choose the extension are generic over the marker of a field:
+//! a test then passes the field's order alone.
 
 use crate::lists::{List, list_of_text};
 use crate::stream_tables as tables;
 use crate::values::{Listed, Residue};
-use p3_bench_prime::baby_bear::BabyBear;
-use p3_bench_prime::small::{F2, F17, F17b, F31, Z15};
+use p3_bench_prime::baby_bear::BabyBearModulus;
+use p3_bench_prime::form::{Plain, ShortForm};
+use p3_bench_prime::fp::Fp;
+use p3_bench_prime::montgomery::Montgomery;
+use p3_bench_prime::small::{M2, M15, M17, M17b, M31};
 use p3_ext::extension::{
     Binomial, ByteCountFits, CubicTrinomial, ExtField, QuinticTrinomial, SepticTrinomial,
 };
@@ -56,17 +60,88 @@ fn extension_words_agree<F: ByteCountFits<D> + Residue, S: Copy, const D: usize>
     words_agree::<ExtField<F, D, S, F>>(alloc, line)
 }
 
-/// Asserts that each line has values and the words of their bytes. Nothing is read of `_rooms`.
-fn assert_words<F: ByteCountFits<D> + Residue, S: Copy, const D: usize>(
+/// The extensions by their polynomials.
+#[derive(Clone, Copy)]
+enum Shape {
+    /// `X^2 = W`.
+    Quadratic,
+    /// `X^3 = W`.
+    Cubic,
+    /// `X^4 = W`.
+    Quartic,
+    /// `X^5 = W`.
+    Quintic,
+    /// `X^6 = W`.
+    Sextic,
+    /// `X^8 = W`.
+    Octic,
+    CubicTrinomial,
+    QuinticTrinomial,
+    SepticTrinomial,
+}
+
+/// The fields.
+#[derive(Clone, Copy)]
+enum Base {
+    F2,
+    F17,
+    F17b,
+    F31,
+    Z15,
+    BabyBear,
+}
+
+/// `extension_words_agree` over the field of a marker.
+fn shape_words_agree<W: ShortForm>(
+    alloc: Global,
+    shape: Shape,
+    line: &str,
+) -> Result<bool, AllocError> {
+    match shape {
+        Shape::Quadratic => extension_words_agree::<Fp<W>, Binomial<Fp<W>>, 2>(alloc, None, line),
+        Shape::Cubic => extension_words_agree::<Fp<W>, Binomial<Fp<W>>, 3>(alloc, None, line),
+        Shape::Quartic => extension_words_agree::<Fp<W>, Binomial<Fp<W>>, 4>(alloc, None, line),
+        Shape::Quintic => extension_words_agree::<Fp<W>, Binomial<Fp<W>>, 5>(alloc, None, line),
+        Shape::Sextic => extension_words_agree::<Fp<W>, Binomial<Fp<W>>, 6>(alloc, None, line),
+        Shape::Octic => extension_words_agree::<Fp<W>, Binomial<Fp<W>>, 8>(alloc, None, line),
+        Shape::CubicTrinomial => {
+            extension_words_agree::<Fp<W>, CubicTrinomial, 3>(alloc, None, line)
+        }
+        Shape::QuinticTrinomial => {
+            extension_words_agree::<Fp<W>, QuinticTrinomial, 5>(alloc, None, line)
+        }
+        Shape::SepticTrinomial => {
+            extension_words_agree::<Fp<W>, SepticTrinomial, 7>(alloc, None, line)
+        }
+    }
+}
+
+/// The same over a field that has a name.
+fn base_words_agree(
+    alloc: Global,
+    base: Base,
+    shape: Shape,
+    line: &str,
+) -> Result<bool, AllocError> {
+    match base {
+        Base::F2 => shape_words_agree::<Plain<M2>>(alloc, shape, line),
+        Base::F17 => shape_words_agree::<Plain<M17>>(alloc, shape, line),
+        Base::F17b => shape_words_agree::<Plain<M17b>>(alloc, shape, line),
+        Base::F31 => shape_words_agree::<Plain<M31>>(alloc, shape, line),
+        Base::Z15 => shape_words_agree::<Plain<M15>>(alloc, shape, line),
+        Base::BabyBear => shape_words_agree::<Montgomery<BabyBearModulus>>(alloc, shape, line),
+    }
+}
+
+/// Asserts that each line has values and the words of their bytes.
+fn assert_words(
     rt: &(impl Abort + AllocGlobal),
-    _rooms: Option<(ExtField<F, D, S, F>, ByteStream<IntoIter<F, D>, F::Bytes>)>,
+    base: Base,
+    shape: Shape,
     table: &str,
 ) -> Result<(), Fail> {
     for line in table.lines() {
-        assert!(rt;
-            extension_words_agree::<F, S, D>(rt.alloc(), None, line)?,
-            "{line}"
-        );
+        assert!(rt; base_words_agree(rt.alloc(), base, shape, line)?, "{line}");
     }
     Ok(())
 }
@@ -91,30 +166,39 @@ fn extension_bytes_agree<F: ByteCountFits<D> + Residue, S: Copy, const D: usize>
     are_bytes::<ExtField<F, D, S, F>>(alloc, list, bytes)
 }
 
+/// The same of a value of the extension by `X^7 = X + 1` over the field of a marker.
+fn septic_bytes_agree<W: ShortForm>(
+    alloc: Global,
+    list: &List,
+    bytes: &[u8],
+) -> Result<bool, AllocError> {
+    extension_bytes_agree::<Fp<W>, SepticTrinomial, 7>(alloc, None, list, bytes)
+}
+
 #[test]
 fn words_modulo_17(rt: HostRuntime) -> Result<(), Fail> {
-    assert_words::<F17, Binomial<F17>, 2>(&rt, None, tables::F17X2)?;
-    assert_words::<F17, Binomial<F17>, 4>(&rt, None, tables::F17X4)?;
-    assert_words::<F17, Binomial<F17>, 8>(&rt, None, tables::F17X8)?;
-    assert_words::<F17b, Binomial<F17b>, 2>(&rt, None, tables::F17BX2)?;
-    assert_words::<F17, QuinticTrinomial, 5>(&rt, None, tables::F17T5)
+    assert_words(&rt, Base::F17, Shape::Quadratic, tables::F17X2)?;
+    assert_words(&rt, Base::F17, Shape::Quartic, tables::F17X4)?;
+    assert_words(&rt, Base::F17, Shape::Octic, tables::F17X8)?;
+    assert_words(&rt, Base::F17b, Shape::Quadratic, tables::F17BX2)?;
+    assert_words(&rt, Base::F17, Shape::QuinticTrinomial, tables::F17T5)
 }
 
 #[test]
 fn words_modulo_31(rt: HostRuntime) -> Result<(), Fail> {
-    assert_words::<F31, Binomial<F31>, 3>(&rt, None, tables::F31X3)?;
-    assert_words::<F31, Binomial<F31>, 5>(&rt, None, tables::F31X5)?;
-    assert_words::<F31, Binomial<F31>, 6>(&rt, None, tables::F31X6)?;
-    assert_words::<F31, Binomial<F31>, 2>(&rt, None, tables::F31C)?;
-    assert_words::<F31, CubicTrinomial, 3>(&rt, None, tables::F31T3)
+    assert_words(&rt, Base::F31, Shape::Cubic, tables::F31X3)?;
+    assert_words(&rt, Base::F31, Shape::Quintic, tables::F31X5)?;
+    assert_words(&rt, Base::F31, Shape::Sextic, tables::F31X6)?;
+    assert_words(&rt, Base::F31, Shape::Quadratic, tables::F31C)?;
+    assert_words(&rt, Base::F31, Shape::CubicTrinomial, tables::F31T3)
 }
 
 #[test]
 fn words_modulo_other_orders(rt: HostRuntime) -> Result<(), Fail> {
-    assert_words::<F2, QuinticTrinomial, 5>(&rt, None, tables::F2T5)?;
-    assert_words::<F2, SepticTrinomial, 7>(&rt, None, tables::F2T7)?;
-    assert_words::<Z15, Binomial<Z15>, 2>(&rt, None, tables::Z15X2)?;
-    assert_words::<BabyBear, Binomial<BabyBear>, 4>(&rt, None, tables::BBX4)
+    assert_words(&rt, Base::F2, Shape::QuinticTrinomial, tables::F2T5)?;
+    assert_words(&rt, Base::F2, Shape::SepticTrinomial, tables::F2T7)?;
+    assert_words(&rt, Base::Z15, Shape::Quadratic, tables::Z15X2)?;
+    assert_words(&rt, Base::BabyBear, Shape::Quartic, tables::BBX4)
 }
 
 #[test]
@@ -123,12 +207,7 @@ fn septic_bytes(rt: HostRuntime) -> Result<(), Fail> {
         1u8, 0, 0, 0, 0, 0, 0, 0, 0, 0, 0, 0, 1, 0, 0, 0, 1, 0, 0, 0, 1, 0, 0, 0, 0, 0, 0, 0,
     ];
     let list = [1, 0, 0, 1, 1, 1, 0, 0];
-    let agrees = extension_bytes_agree::<F2, SepticTrinomial, 7>(
-        rt.alloc(),
-        None,
-        &list,
-        &expected,
-    )?;
+    let agrees = septic_bytes_agree::<Plain<M2>>(rt.alloc(), &list, &expected)?;
     assert!(rt; agrees);
     Ok(())
 }
