@@ -147,24 +147,6 @@ fn short_dot<F: LaneDotProducts<N> + WideProducts, const N: usize, const K: usiz
     }
 }
 
-/// The dot product of four packings and four others, by a call of more than eight lanes: taken into a loop, such
-/// many lanes go by memory.
-#[inline(always)]
-fn dot_of_four<F: LaneDotProducts<N>, const N: usize>(
-    u: &[Packed<F, N>],
-    v: &[Packed<F, N>],
-) -> Packed<F, N>
-    requires left { length u.now ≡ 4 }
-    requires right { length v.now ≡ 4 }
-    ensures { result ≡ dot (row_ops packed_rows F.ops) u.now v.now }
-{
-    if N > 8 {
-        dot_apart::<F, N, 4>(u, v)
-    } else {
-        dot_of_few::<F, N, 4>(u, v)
-    }
-}
-
 /// The sum so far and the products of the positions from `start` on, one after the other.
 #[inline]
 fn add_products<F: LaneDotProducts<N> + LaneArithmetic<N>, const N: usize>(
@@ -197,7 +179,7 @@ fn dot_by_blocks<F: LaneDotProducts<N> + LaneArithmetic<N>, const N: usize>(
     let mut sum = Packed::new([F::zero(); N]);
     let mut start = 0;
     while u.len() - start >= 4 {
-        let block = dot_of_four(&u[start..start + 4], &v[start..start + 4]);
+        let block = dot_of_few::<F, N, 4>(&u[start..start + 4], &v[start..start + 4]);
         sum = add_lanes(sum, block);
         start += 4;
     }
