@@ -89,16 +89,16 @@ fn value_agrees<W: Form<u32> + Extended<S, D>, S: ExtensionShape, const D: usize
 /// The same at 1, 4 or 8 lanes, of the extension by `X^2 = W`.
 fn over_quadratic<W: OverModulus<u32>>(
     alloc: Global,
-    lanes: &str,
+    lanes: usize,
     case: &Case,
 ) -> Result<bool, AllocError>
 where
     W::Modulus: BinomialConstants<2>,
 {
     match lanes {
-        "1" => value_agrees::<W, Binomial<Fp<W>>, 2>(alloc, None, case),
-        "4" => lanes_agree::<W, Binomial<Fp<W>>, 2, 4>(alloc, None, None, case),
-        "8" => lanes_agree::<W, Binomial<Fp<W>>, 2, 8>(alloc, None, None, case),
+        1 => value_agrees::<W, Binomial<Fp<W>>, 2>(alloc, None, case),
+        4 => lanes_agree::<W, Binomial<Fp<W>>, 2, 4>(alloc, None, None, case),
+        8 => lanes_agree::<W, Binomial<Fp<W>>, 2, 8>(alloc, None, None, case),
         _ => Ok(false),
     }
 }
@@ -106,16 +106,16 @@ where
 /// The same of the extension by `X^4 = W`.
 fn over_quartic<W: OverModulus<u32>>(
     alloc: Global,
-    lanes: &str,
+    lanes: usize,
     case: &Case,
 ) -> Result<bool, AllocError>
 where
     W::Modulus: BinomialConstants<4>,
 {
     match lanes {
-        "1" => value_agrees::<W, Binomial<Fp<W>>, 4>(alloc, None, case),
-        "4" => lanes_agree::<W, Binomial<Fp<W>>, 4, 4>(alloc, None, None, case),
-        "8" => lanes_agree::<W, Binomial<Fp<W>>, 4, 8>(alloc, None, None, case),
+        1 => value_agrees::<W, Binomial<Fp<W>>, 4>(alloc, None, case),
+        4 => lanes_agree::<W, Binomial<Fp<W>>, 4, 4>(alloc, None, None, case),
+        8 => lanes_agree::<W, Binomial<Fp<W>>, 4, 8>(alloc, None, None, case),
         _ => Ok(false),
     }
 }
@@ -123,16 +123,16 @@ where
 /// The same by `X^3 = X + 1`.
 fn over_cubic<W: OverModulus<u32>>(
     alloc: Global,
-    lanes: &str,
+    lanes: usize,
     case: &Case,
 ) -> Result<bool, AllocError>
 where
     W::Modulus: PolynomialConstants<3, Cubic>,
 {
     match lanes {
-        "1" => value_agrees::<W, Modulo<Cubic, 3>, 3>(alloc, None, case),
-        "4" => lanes_agree::<W, Modulo<Cubic, 3>, 3, 4>(alloc, None, None, case),
-        "8" => lanes_agree::<W, Modulo<Cubic, 3>, 3, 8>(alloc, None, None, case),
+        1 => value_agrees::<W, Modulo<Cubic, 3>, 3>(alloc, None, case),
+        4 => lanes_agree::<W, Modulo<Cubic, 3>, 3, 4>(alloc, None, None, case),
+        8 => lanes_agree::<W, Modulo<Cubic, 3>, 3, 8>(alloc, None, None, case),
         _ => Ok(false),
     }
 }
@@ -140,16 +140,16 @@ where
 /// The same by `X^5 = 1 - X^2`.
 fn over_quintic<W: OverModulus<u32>>(
     alloc: Global,
-    lanes: &str,
+    lanes: usize,
     case: &Case,
 ) -> Result<bool, AllocError>
 where
     W::Modulus: PolynomialConstants<5, Quintic>,
 {
     match lanes {
-        "1" => value_agrees::<W, Modulo<Quintic, 5>, 5>(alloc, None, case),
-        "4" => lanes_agree::<W, Modulo<Quintic, 5>, 5, 4>(alloc, None, None, case),
-        "8" => lanes_agree::<W, Modulo<Quintic, 5>, 5, 8>(alloc, None, None, case),
+        1 => value_agrees::<W, Modulo<Quintic, 5>, 5>(alloc, None, case),
+        4 => lanes_agree::<W, Modulo<Quintic, 5>, 5, 4>(alloc, None, None, case),
+        8 => lanes_agree::<W, Modulo<Quintic, 5>, 5, 8>(alloc, None, None, case),
         _ => Ok(false),
     }
 }
@@ -157,16 +157,16 @@ where
 /// The same by `X^7 = X + 1`.
 fn over_septic<W: OverModulus<u32>>(
     alloc: Global,
-    lanes: &str,
+    lanes: usize,
     case: &Case,
 ) -> Result<bool, AllocError>
 where
     W::Modulus: PolynomialConstants<7, Septic>,
 {
     match lanes {
-        "1" => value_agrees::<W, Modulo<Septic, 7>, 7>(alloc, None, case),
-        "4" => lanes_agree::<W, Modulo<Septic, 7>, 7, 4>(alloc, None, None, case),
-        "8" => lanes_agree::<W, Modulo<Septic, 7>, 7, 8>(alloc, None, None, case),
+        1 => value_agrees::<W, Modulo<Septic, 7>, 7>(alloc, None, case),
+        4 => lanes_agree::<W, Modulo<Septic, 7>, 7, 4>(alloc, None, None, case),
+        8 => lanes_agree::<W, Modulo<Septic, 7>, 7, 8>(alloc, None, None, case),
         _ => Ok(false),
     }
 }
@@ -183,12 +183,64 @@ fn base_agrees<W: Form<u32> + LaneCount<N>, const N: usize>(
 }
 
 /// The same at 1, 4 or 8 lanes.
-fn over_base<W: Form<u32>>(alloc: Global, lanes: &str, case: &Case) -> Result<bool, AllocError> {
+fn over_base<W: Form<u32>>(alloc: Global, lanes: usize, case: &Case) -> Result<bool, AllocError> {
     match lanes {
-        "1" => <Fp<W> as BaseCalls<Fp<W>>>::base_agrees(alloc, None, case),
-        "4" => base_agrees::<W, 4>(alloc, None, None, case),
-        "8" => base_agrees::<W, 8>(alloc, None, None, case),
+        1 => <Fp<W> as BaseCalls<Fp<W>>>::base_agrees(alloc, None, case),
+        4 => base_agrees::<W, 4>(alloc, None, None, case),
+        8 => base_agrees::<W, 8>(alloc, None, None, case),
         _ => Ok(false),
+    }
+}
+
+/// The extensions.
+#[derive(Clone, Copy)]
+enum Extension {
+    F17,
+    F17x2,
+    F17x4,
+    F17t5,
+    F2t7,
+    F31t3,
+    BbX4,
+}
+
+/// Their names.
+static NAMES: [(&str, Extension); 7] = [
+    ("f17", Extension::F17),
+    ("f17x2", Extension::F17x2),
+    ("f17x4", Extension::F17x4),
+    ("f17t5", Extension::F17t5),
+    ("f2t7", Extension::F2t7),
+    ("f31t3", Extension::F31t3),
+    ("bbx4", Extension::BbX4),
+];
+
+/// The extension of a name.
+fn extension_of(name: &str) -> Option<Extension> {
+    for row in &NAMES {
+        let (known, extension) = *row;
+        if known == name {
+            return Some(extension);
+        }
+    }
+    None
+}
+
+/// Whether the call over packings of so many values of an extension has its answer.
+fn extension_agrees(
+    alloc: Global,
+    extension: Extension,
+    lanes: usize,
+    case: &Case,
+) -> Result<bool, AllocError> {
+    match extension {
+        Extension::F17 => over_base::<Plain<M17>>(alloc, lanes, case),
+        Extension::F17x2 => over_quadratic::<Plain<M17>>(alloc, lanes, case),
+        Extension::F17x4 => over_quartic::<Plain<M17>>(alloc, lanes, case),
+        Extension::F17t5 => over_quintic::<Plain<M17>>(alloc, lanes, case),
+        Extension::F2t7 => over_septic::<Plain<M2>>(alloc, lanes, case),
+        Extension::F31t3 => over_cubic::<Plain<M31>>(alloc, lanes, case),
+        Extension::BbX4 => over_quartic::<Montgomery<BabyBearModulus>>(alloc, lanes, case),
     }
 }
 
@@ -197,24 +249,12 @@ fn agrees(alloc: Global, line: &str) -> Result<bool, AllocError> {
     let Some(row) = Row::read(line) else {
         return Ok(false);
     };
-    let Some(case) = Case::read(alloc, row)? else {
+    let (Some(extension), Ok(lanes)) = (extension_of(row.field), row.lanes.parse::<usize>()) else {
         return Ok(false);
     };
-    named_agrees(alloc, row, &case)
-}
-
-/// Whether the call over the extension that a row names has its answer.
-fn named_agrees(alloc: Global, row: Row<'_>, case: &Case) -> Result<bool, AllocError> {
-    let lanes = row.lanes;
-    match row.field {
-        "f17" => over_base::<Plain<M17>>(alloc, lanes, case),
-        "f17x2" => over_quadratic::<Plain<M17>>(alloc, lanes, case),
-        "f17x4" => over_quartic::<Plain<M17>>(alloc, lanes, case),
-        "f17t5" => over_quintic::<Plain<M17>>(alloc, lanes, case),
-        "f2t7" => over_septic::<Plain<M2>>(alloc, lanes, case),
-        "f31t3" => over_cubic::<Plain<M31>>(alloc, lanes, case),
-        "bbx4" => over_quartic::<Montgomery<BabyBearModulus>>(alloc, lanes, case),
-        _ => Ok(false),
+    match Case::read(alloc, row)? {
+        Some(case) => extension_agrees(alloc, extension, lanes, &case),
+        None => Ok(false),
     }
 }
 

@@ -72,89 +72,166 @@ pub(crate) enum Call {
     GenericColumnwise(usize),
 }
 
-/// The call on lanes of a name.
-fn lane_call(name: &str) -> Option<LaneCall> {
-    match name {
-        "from_ext_fn" => Some(LaneCall::FromFn),
-        "from_ext_slice" => Some(LaneCall::FromSlice),
-        "set_ext_lane" => Some(LaneCall::SetLane),
-        "add_assign_lane" => Some(LaneCall::AddToLane),
-        "extract" => Some(LaneCall::Extract),
-        "to_ext_slice" => Some(LaneCall::ToSlice),
-        "unpack_transpose_into" => Some(LaneCall::Transpose),
-        _ => None,
-    }
-}
+/// The calls that are no operations by their names. Where a call has a number, it is zero here.
+static CALLS: [(&str, Call); 15] = [
+    ("from_ext_fn", Call::Lanes(LaneCall::FromFn)),
+    ("from_ext_slice", Call::Lanes(LaneCall::FromSlice)),
+    ("set_ext_lane", Call::Lanes(LaneCall::SetLane)),
+    ("add_assign_lane", Call::Lanes(LaneCall::AddToLane)),
+    ("extract", Call::Lanes(LaneCall::Extract)),
+    ("to_ext_slice", Call::Lanes(LaneCall::ToSlice)),
+    ("unpack_transpose_into", Call::Lanes(LaneCall::Transpose)),
+    ("pack_ext_columns", Call::Pack(0)),
+    ("unpack_ext_into", Call::Unpack(0)),
+    ("packed_ext_powers", Call::Powers),
+    ("packed_ext_powers_capped", Call::CappedPowers),
+    ("to_ext_iter", Call::Values),
+    ("invert_packed_extension", Call::Invert),
+    ("batched_columnwise_dot_product", Call::Columnwise(0)),
+    (
+        "generic_batched_columnwise_dot_product",
+        Call::GenericColumnwise(0),
+    ),
+];
 
-/// The operation of a name.
-fn ring_operation(name: &str) -> Option<Operation> {
-    match name {
-        "add" => Some(Operation::Add),
-        "sub" => Some(Operation::Sub),
-        "mul" => Some(Operation::Mul),
-        "neg" => Some(Operation::Neg),
-        "double" => Some(Operation::Double),
-        "square" => Some(Operation::Square),
-        "cube" => Some(Operation::Cube),
-        "exp_u64" => Some(Operation::Exp),
-        "mul_2exp_u64" => Some(Operation::Mul2Exp),
-        _ => None,
-    }
-}
+/// The operations on packings of extension values alone, by their names.
+static OPERATIONS: [(&str, Call); 14] = [
+    ("add", Call::Operation(Operation::Add)),
+    ("sub", Call::Operation(Operation::Sub)),
+    ("mul", Call::Operation(Operation::Mul)),
+    ("neg", Call::Operation(Operation::Neg)),
+    ("double", Call::Operation(Operation::Double)),
+    ("square", Call::Operation(Operation::Square)),
+    ("cube", Call::Operation(Operation::Cube)),
+    ("exp_u64", Call::Operation(Operation::Exp)),
+    ("mul_2exp_u64", Call::Operation(Operation::Mul2Exp)),
+    ("dot_product", Call::DotProduct),
+    ("halve", Call::Halve),
+    ("sum", Call::Sum),
+    ("product", Call::Product),
+    ("div", Call::Divide),
+];
 
-/// The mixed operation of a name.
-fn mixed_operation(name: &str) -> Option<MixedOperation> {
-    match name {
-        "from" => Some(MixedOperation::From),
-        "add" => Some(MixedOperation::Add),
-        "sub" => Some(MixedOperation::Sub),
-        "mul" => Some(MixedOperation::Mul),
-        "mixed_dot_product" => Some(MixedOperation::DotProduct),
-        _ => None,
-    }
-}
+/// The operations with another right side, by their names and that of what stands there.
+static MIXED_OPERATIONS: [(&str, &str, Call); 15] = [
+    (
+        "from",
+        "packing",
+        Call::Mixed(MixedOperation::From, RightSide::Packing),
+    ),
+    (
+        "from",
+        "scalar",
+        Call::Mixed(MixedOperation::From, RightSide::Scalar),
+    ),
+    (
+        "from",
+        "value",
+        Call::Mixed(MixedOperation::From, RightSide::Value),
+    ),
+    (
+        "add",
+        "packing",
+        Call::Mixed(MixedOperation::Add, RightSide::Packing),
+    ),
+    (
+        "add",
+        "scalar",
+        Call::Mixed(MixedOperation::Add, RightSide::Scalar),
+    ),
+    (
+        "add",
+        "value",
+        Call::Mixed(MixedOperation::Add, RightSide::Value),
+    ),
+    (
+        "sub",
+        "packing",
+        Call::Mixed(MixedOperation::Sub, RightSide::Packing),
+    ),
+    (
+        "sub",
+        "scalar",
+        Call::Mixed(MixedOperation::Sub, RightSide::Scalar),
+    ),
+    (
+        "sub",
+        "value",
+        Call::Mixed(MixedOperation::Sub, RightSide::Value),
+    ),
+    (
+        "mul",
+        "packing",
+        Call::Mixed(MixedOperation::Mul, RightSide::Packing),
+    ),
+    (
+        "mul",
+        "scalar",
+        Call::Mixed(MixedOperation::Mul, RightSide::Scalar),
+    ),
+    (
+        "mul",
+        "value",
+        Call::Mixed(MixedOperation::Mul, RightSide::Value),
+    ),
+    ("div", "value", Call::DivideByValue),
+    (
+        "mixed_dot_product",
+        "packing",
+        Call::Mixed(MixedOperation::DotProduct, RightSide::Packing),
+    ),
+    (
+        "mixed_dot_product",
+        "value",
+        Call::Mixed(MixedOperation::DotProduct, RightSide::Value),
+    ),
+];
 
-/// What stands on the right side, by its name.
-fn right_side(name: &str) -> Option<RightSide> {
-    match name {
-        "packing" => Some(RightSide::Packing),
-        "scalar" => Some(RightSide::Scalar),
-        "value" => Some(RightSide::Value),
-        _ => None,
+/// The call of a name in a table.
+fn call_in(table: &[(&'static str, Call)], name: &str) -> Option<Call> {
+    for row in table {
+        let (known, call) = *row;
+        if known == name {
+            return Some(call);
+        }
     }
+    None
 }
 
 /// The call of an operation's name, with what stands on the right side where that is no such packing.
 fn operation_call(name: &str, right: &str) -> Option<Call> {
-    match (name, right) {
-        ("dot_product", "") => Some(Call::DotProduct),
-        ("halve", "") => Some(Call::Halve),
-        ("sum", "") => Some(Call::Sum),
-        ("product", "") => Some(Call::Product),
-        ("div", "") => Some(Call::Divide),
-        ("div", "value") => Some(Call::DivideByValue),
-        (_, "") => Some(Call::Operation(ring_operation(name)?)),
-        _ => Some(Call::Mixed(mixed_operation(name)?, right_side(right)?)),
+    if right.is_empty() {
+        return call_in(&OPERATIONS, name);
+    }
+    for row in &MIXED_OPERATIONS {
+        let (known, side, call) = *row;
+        if known == name && side == right {
+            return Some(call);
+        }
+    }
+    None
+}
+
+/// The call with a number of columns or of scales, where it has one.
+fn counted(call: Call, count: usize) -> Call {
+    match call {
+        Call::Pack(_) => Call::Pack(count),
+        Call::Unpack(_) => Call::Unpack(count),
+        Call::Columnwise(_) => Call::Columnwise(count),
+        Call::GenericColumnwise(_) => Call::GenericColumnwise(count),
+        _ => call,
     }
 }
 
 /// The call that a row names; a number of columns or of scales is its second word.
 fn call_of(call: &str) -> Option<Call> {
+    let name = word(call, 0);
     let second = word(call, 1);
-    match word(call, 0) {
-        "packed_ext" => operation_call(second, word(call, 2)),
-        "pack_ext_columns" => Some(Call::Pack(second.parse::<usize>().ok()?)),
-        "unpack_ext_into" => Some(Call::Unpack(second.parse::<usize>().ok()?)),
-        "packed_ext_powers" => Some(Call::Powers),
-        "packed_ext_powers_capped" => Some(Call::CappedPowers),
-        "to_ext_iter" => Some(Call::Values),
-        "invert_packed_extension" => Some(Call::Invert),
-        "batched_columnwise_dot_product" => Some(Call::Columnwise(second.parse::<usize>().ok()?)),
-        "generic_batched_columnwise_dot_product" => Some(Call::GenericColumnwise(
-            second.parse::<usize>().ok()?,
-        )),
-        name => Some(Call::Lanes(lane_call(name)?)),
+    if name == "packed_ext" {
+        return operation_call(second, word(call, 2));
     }
+    let found = call_in(&CALLS, name)?;
+    Some(counted(found, second.parse::<usize>().unwrap_or(0)))
 }
 
 /// The numbers of a text, whatever stands between them.
