@@ -1,6 +1,6 @@
 //! Words that are stored for values of a field, why a call over them is refused, and the calls for one value or for
 //! the numbers of a list. Each reads the words as values, makes the library's own call, and writes words back. Every
-//! call takes every input: what cannot be done is refused by its reason, and then nothing is written.
+//! call takes every input: what cannot be done is refused by its reason, and then what was lent is as it was.
 #![tactic(auto)]
 
 pub mod blocks;
