@@ -13,11 +13,12 @@ use Rattle.p3_field_bench.specs.declared.faults.Fault.TheVariants.{ReadFault}
 use Rattle.p3_field_bench.specs.Bank.{state_of}
 use Rattle.p3_calculator_fields.specs.States.{State, no_field}
 use Rattle.p3_field_bench.specs.Lines.{lines_of}
+use Rattle.p3_field_bench.specs.RegisterValues.{Filled}
 use Rattle.p3_field_bench.specs.Text.{IsTextFrom, IsText, rest_of, IsCutShort, RunEnds, fault_line, ends}
-use Rattle.p3_field_bench.specs.Standing.{Standing, Sound, Carries, Ended, EndedAt, StopsAtFailure, Finishes, HasNoEnd, HaveNoEnd, ended}
-use Rattle.p3_field_bench.proofs.Carrying.{pending_of, so_far, lines_now, front_rest}
+use Rattle.p3_field_bench.specs.RunSoFar.{RunSoFar, TakesBytes, Ended, EndedAt, StopsAtFailure, Finishes, HasNoEnd, HaveNoEnd, ended}
+use Rattle.p3_field_bench.proofs.TakenBytes.{pending_of, so_far, lines_now, front_rest}
 
-pub begin : (m : Machine) → m.number ≡ 1 → m.line.used ≡ 0 → state_of m.bank ≡ no_field → Standing m [] []
+pub begin : (m : Machine) → m.number ≡ 1 → m.line.used ≡ 0 → state_of m.bank ≡ no_field → RunSoFar m [] []
 begin m number used state =
     let none : pending_of m ≡ [] = ap (λ u. take u m.line.bytes) used in
     record {
@@ -26,7 +27,7 @@ begin m number used state =
       bytes_are = sym none;
       pending = subst HasNoEnd (sym none) tt;
       number = number;
-      sound = subst (λ (s : State). Sound s.field) (sym state) tt;
+      filled = subst Filled (sym state) tt;
       goes_on = λ ls more status h. subst (λ (n : ℕ). IsTextFrom n no_field ls more status) number (subst (λ (s : State). IsTextFrom m.number s ls more status) state h);
     }
 
@@ -42,7 +43,7 @@ ends-lines : (lines : List (List ℕ)) → HaveNoEnd lines → ends (flat_map en
 ends-lines [] h = refl
 ends-lines (line ∷ lines) h = omega (arith, ends-append (ended line) (flat_map ended lines), ends-append line (10 ∷ []), ends-none line h.0, ends-lines lines h.1)
 
-pub ends_so_far : (m : Machine) (before text : List ℕ) (st : Standing m before text) → ends before ≡ length st.lines
+pub ends_so_far : (m : Machine) (before text : List ℕ) (st : RunSoFar m before text) → ends before ≡ length st.lines
 ends_so_far m before text st = ap ends st.bytes_are ∙ omega (arith, ends-append (flat_map ended st.lines) (pending_of m), ends-lines st.lines st.each, ends-none (pending_of m) st.pending)
 
 rest_of-none : (a : List ℕ) → HasNoEnd a → rest_of a ≡ a
@@ -62,7 +63,7 @@ rest_of-lines (line ∷ lines) rest h =
     ∙ rest_of-line line (flat_map ended lines ++ rest) ∙ rest_of-lines lines rest h
 
 -- a read failed
-pub cut_short : (m : Machine) (before text : List ℕ) → Standing m before text → IsCutShort before (text ++ fault_line m.number ReadFault)
+pub cut_short : (m : Machine) (before text : List ℕ) → RunSoFar m before text → IsCutShort before (text ++ fault_line m.number ReadFault)
 cut_short m before text st =
     let e = ends_so_far m before text st in
     let first : take (ends before) (lines_of before) ≡ st.lines = ap (λ n. take n (lines_of before)) e ∙ ap (take (length st.lines)) (lines_now m before text st) ∙ take_at st.lines (lines_of (pending_of m)) (length st.lines) refl in
@@ -77,7 +78,7 @@ ends_so r w x y end bytes text status p q h = subst (λ (v : Bool). RunEnds v w 
 abbrev pub Outlook : Bool → Bool → Type 0 → Option (List ℕ) → Option (List ℕ) → List ℕ → ℕ → Type 0
 Outlook r w end told_old told_new bytes status = (text : List ℕ) × Appends told_old told_new text × RunEnds r w end bytes text status
 
-pub after_cut : (m : Machine) (r f g : Bool) (end : Type 0) (a b c : Option (List ℕ)) (bytes text : List ℕ) (status : ℕ) → r ≡ true → f ≡ false → Standing m bytes text → Appends a b text
+pub after_cut : (m : Machine) (r f g : Bool) (end : Type 0) (a b c : Option (List ℕ)) (bytes text : List ℕ) (status : ℕ) → r ≡ true → f ≡ false → RunSoFar m bytes text → Appends a b text
     → Ended b c f g (fault_line m.number ReadFault) 1 status → Outlook r g end a c bytes status
 after_cut m r f g end a b c bytes text status er ef st told h =
     let line = fault_line m.number ReadFault in
@@ -97,7 +98,7 @@ after_cut m r f g end a b c bytes text status er ef st told h =
           )
     ]
 
-pub after_finish : (m : Machine) (r f g : Bool) (end : Type 0) (a b c : Option (List ℕ)) (bytes text : List ℕ) (status : ℕ) → r ≡ false → f ≡ false → end → Standing m bytes text → Appends a b text
+pub after_finish : (m : Machine) (r f g : Bool) (end : Type 0) (a b c : Option (List ℕ)) (bytes text : List ℕ) (status : ℕ) → r ≡ false → f ≡ false → end → RunSoFar m bytes text → Appends a b text
     → Finishes m b c f g status → Outlook r g end a c bytes status
 after_finish m r f g end a b c bytes text status er ef at st told h =
     let x = h bytes text st in
@@ -108,11 +109,11 @@ after_finish m r f g end a b c bytes text status er ef at st told h =
     ]
 
 -- after some more bytes
-after_fault : (old new : Machine) (k : Fault) (r f g h : Bool) (end : Type 0) (a b c d : Option (List ℕ)) (bytes more text : List ℕ) (status : ℕ) → r ≡ false → f ≡ false → g ≡ f → Standing old bytes text → Appends a b text
-    → Carries old new b c (Err (AtFault k)) more → Ended c d g h (fault_line new.number k) 1 status → Outlook r h end a d (bytes ++ more) status
-after_fault old new k r f g h end a b c d bytes more text status er ef eg st told carries e =
+after_fault : (old new : Machine) (k : Fault) (r f g h : Bool) (end : Type 0) (a b c d : Option (List ℕ)) (bytes more text : List ℕ) (status : ℕ) → r ≡ false → f ≡ false → g ≡ f → RunSoFar old bytes text → Appends a b text
+    → TakesBytes old new b c (Err (AtFault k)) more → Ended c d g h (fault_line new.number k) 1 status → Outlook r h end a d (bytes ++ more) status
+after_fault old new k r f g h end a b c d bytes more text status er ef eg st told takes e =
     let line = fault_line new.number k in
-    let x = carries bytes text st in
+    let x = takes bytes text st in
     let before = text ++ x.0 in
     let so_told = Appends-trans a b c text x.0 told x.1 in
     elim e [
@@ -128,20 +129,20 @@ after_fault old new k r f g h end a b c d bytes more text status er ef eg st tol
       )
     ]
 
-after_stop : (old new : Machine) (r g : Bool) (end : Type 0) (a b c : Option (List ℕ)) (bytes more text : List ℕ) → r ≡ false → g ≡ true → Standing old bytes text → Appends a b text
-    → Carries old new b c (Err AtWrite) more → Outlook r g end a c (bytes ++ more) 2
-after_stop old new r g end a b c bytes more text er eg st told carries =
-    let x = carries bytes text st in (
+after_stop : (old new : Machine) (r g : Bool) (end : Type 0) (a b c : Option (List ℕ)) (bytes more text : List ℕ) → r ≡ false → g ≡ true → RunSoFar old bytes text → Appends a b text
+    → TakesBytes old new b c (Err AtWrite) more → Outlook r g end a c (bytes ++ more) 2
+after_stop old new r g end a b c bytes more text er eg st told takes =
+    let x = takes bytes text st in (
       text ++ x.0,
       Appends-trans a b c text x.0 told x.1,
       ends_so r g false true end (bytes ++ more) (text ++ x.0) 2 er eg (refl, inr x.2),
     )
 
-pub after_err : (old new : Machine) (e : Stop) (r f g h : Bool) (end : Type 0) (a b c d : Option (List ℕ)) (bytes more text : List ℕ) (status : ℕ) → r ≡ false → f ≡ false → StopsAtFailure (Err e) f g → Standing old bytes text → Appends a b text
-    → Carries old new b c (Err e) more → EndedAt e new.number c d g h status → Outlook r h end a d (bytes ++ more) status
-after_err old new (AtFault k) r f g h end a b c d bytes more text status er ef eg st told carries e = after_fault old new k r f g h end a b c d bytes more text status er ef eg st told carries e
-after_err old new AtWrite r f g h end a b c d bytes more text status er ef eg st told carries e =
-    let out = after_stop old new r h end a b c bytes more text er (e.1 ∙ eg) st told carries in
+pub after_err : (old new : Machine) (e : Stop) (r f g h : Bool) (end : Type 0) (a b c d : Option (List ℕ)) (bytes more text : List ℕ) (status : ℕ) → r ≡ false → f ≡ false → StopsAtFailure (Err e) f g → RunSoFar old bytes text → Appends a b text
+    → TakesBytes old new b c (Err e) more → EndedAt e new.number c d g h status → Outlook r h end a d (bytes ++ more) status
+after_err old new (AtFault k) r f g h end a b c d bytes more text status er ef eg st told takes e = after_fault old new k r f g h end a b c d bytes more text status er ef eg st told takes e
+after_err old new AtWrite r f g h end a b c d bytes more text status er ef eg st told takes e =
+    let out = after_stop old new r h end a b c bytes more text er (e.1 ∙ eg) st told takes in
     subst (λ (s : ℕ). Outlook r h end a d (bytes ++ more) s) (sym e.0) (subst (λ (o : Option (List ℕ)). Outlook r h end a o (bytes ++ more) 2) (sym e.2) out)
 
 pub whole : (old new : Option (List ℕ)) (bytes text : List ℕ) (status : ℕ) → Consumes old new bytes → RunEnds false false (IsAtEnd new) bytes text status → IfSome old (λ input. IsText (lines_of input) text status)

@@ -4,27 +4,17 @@ use mathlib.Core.HLevel.{Σ_prop_path}
 use Rattle.std.proofs.Math.Nat.{mod-lt, mod-eq_of_lt}
 use Rattle.std.proofs.Math.Bridge.{le_prop}
 use Rattle.std.proofs.lemmas.Bool.{eqb-true, ltb-true}
-use Rattle.p3_theory.specs.RingSolver.SolverSound.{and_true}
+use Rattle.p3_theory.specs.RingSolver.SolverSound.{and_true, mul_zero}
 use Rattle.p3_theory.specs.Rings.Ring.{Ops, RingLaws, ring_of}
 use Rattle.p3_theory.specs.Rings.Powers.{power}
 use Rattle.p3_theory.specs.Rings.Homomorphism.{length-map, at-map}
 use Rattle.p3_theory.specs.ResidueRings.Residues.{residues, residue_ops, residue_laws, are_residues, IsResidues}
 use Rattle.p3_theory.specs.Polynomials.Polynomial.{at, IsMonic}
 use Rattle.p3_ext.specs.Values.{ext_ops, ext_laws}
-use Rattle.p3_calculator_fields.specs.Fields.{FieldSpec, ResiduesModulo, PolynomialsModulo, IsValue, AllBelow, order, ops}
+use Rattle.p3_calculator_fields.specs.Fields.{FieldSpec, ResiduesModulo, PolynomialsModulo, IsValue, AllBelow, ops}
 use Rattle.p3_calculator_fields.specs.Representation.{Represents}
 use Rattle.p3_calculator_fields.specs.Coefficients.{residues_represented, extension_represented, one_coefficient, all_coefficients}
-use Rattle.p3_field_bench.specs.Effects.{IsInverse}
-
--- what is used of a field's values
-pub record HasValues (s : FieldSpec) : Type 0 where
-  pub above_one : 1 < order s
-  pub zero_is : IsValue s (ops s).zero
-  pub one_is : IsValue s (ops s).one
-  pub sum : (x y : List ℕ) → IsValue s x → IsValue s y → IsValue s ((ops s).add x y)
-  pub negation : (x : List ℕ) → IsValue s x → IsValue s ((ops s).neg x)
-  pub product : (x y : List ℕ) → IsValue s x → IsValue s y → IsValue s ((ops s).mul x y)
-  pub one_inverse : (x y z : List ℕ) → IsValue s x → IsInverse s x y → IsInverse s x z → y ≡ z
+use Rattle.p3_field_bench.specs.RegisterValues.{HasValues}
 
 inverses_agree : {A : Type 0} {O : Ops A} → RingLaws O → (x y z : A) → O.mul x y ≡ O.one → O.mul x z ≡ O.one → y ≡ z
 inverses_agree {O = O} L x y z e f =
@@ -35,6 +25,7 @@ represented : {A : Type 0} (s : FieldSpec) (O : Ops A) (c : A → List ℕ) → 
 represented s O c R L = record {
   above_one = R.above_one;
   zero_is = subst (IsValue s) R.keeps.zero (R.valid O.zero);
+  zero_square = sym (ap₂ (ops s).mul R.keeps.zero R.keeps.zero) ∙ sym (R.keeps.mul O.zero O.zero) ∙ ap c (mul_zero O L O.zero) ∙ R.keeps.zero;
   one_is = subst (IsValue s) R.keeps.one (R.valid O.one);
   sum = λ x y v w. let a = R.every x v in let b = R.every y w in subst (IsValue s) (R.keeps.add a.0 b.0 ∙ ap₂ (ops s).add a.1 b.1) (R.valid (O.add a.0 b.0));
   negation = λ x v. let a = R.every x v in subst (IsValue s) (R.keeps.neg a.0 ∙ ap (ops s).neg a.1) (R.valid (O.neg a.0));
@@ -90,11 +81,11 @@ module _ (n : ℕ) (h : 1 < n) where
       (represented (PolynomialsModulo n D (map canon fs) g) (ext_ops {F = Unit {0}} {D = D} {S = Unit {0}} O fs) (all_coefficients canon)
       (extension_represented n O canon R D fs g) (ext_laws (ring_of (residue_laws are)) D two fs monic))
 
-abbrev pub all_below : ℕ → List ℕ → Bool
+abbrev all_below : ℕ → List ℕ → Bool
 all_below n [] = true
 all_below n (c ∷ cs) = ltb c n && all_below n cs
 
-pub AllBelow_of : (n : ℕ) (cs : List ℕ) → all_below n cs ≡ true → AllBelow n cs
+AllBelow_of : (n : ℕ) (cs : List ℕ) → all_below n cs ≡ true → AllBelow n cs
 AllBelow_of n [] h = tt
 AllBelow_of n (c ∷ cs) h = let w = and_true _ _ h in (ltb-true c n w.0, AllBelow_of n cs w.1)
 

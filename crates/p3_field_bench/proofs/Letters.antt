@@ -1,7 +1,7 @@
 -- Letters go into the buffer of a line, one after another.
 use Rattle.std.proofs.Common.{◌≡◌, ◌∙◌, ℕ, ◌+◌, ◌-◌, ◌<◌, ◌≤◌, List, [], ◌∷◌, ◌++◌, length, take, drop, set, get_or, sym, ap, subst, arith, append_assoc}
 use Rattle.std.proofs.lemmas.List.{take_more, take_more_set, length-drop, length-take-le}
-use Rattle.p3_field_bench.specs.Standing.{HasNoEnd}
+use Rattle.p3_field_bench.specs.RunSoFar.{HasNoEnd}
 use Rattle.p3_field_bench.proofs.LineLemmas.{HasNoEnd-append}
 
 -- one more letter stands behind those that were taken

@@ -1,4 +1,3 @@
-pub mod Carrying
 pub mod Digits
 pub mod Endings
 pub mod FieldValues
@@ -8,6 +7,7 @@ pub mod LineLemmas
 pub mod OneText
 pub mod RegisterValues
 pub mod RootLemmas
+pub mod TakenBytes
 pub mod Totality
 pub mod ValueLemmas
 pub mod WordLemmas

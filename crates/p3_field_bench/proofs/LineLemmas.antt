@@ -3,7 +3,7 @@ use Rattle.std.proofs.Common.{◌≡◌, ◌∙◌, ℕ, ◌≤◌, cond, List, 
 use Rattle.std.proofs.lemmas.Bool.{ne_eqb}
 use Rattle.std.specs.List.{flat_map}
 use Rattle.p3_field_bench.specs.Lines.{lines_of, onto_first}
-use Rattle.p3_field_bench.specs.Standing.{HasNoEnd, HaveNoEnd, ended}
+use Rattle.p3_field_bench.specs.RunSoFar.{HasNoEnd, HaveNoEnd, ended}
 
 -- a byte that ends no line goes onto the first
 pub lines_of-letter : (b : ℕ) (bytes : List ℕ) → (b ≡ 10 → ⊥) → lines_of (b ∷ bytes) ≡ onto_first b (lines_of bytes)

@@ -17,8 +17,8 @@ use Rattle.p3_field_bench.specs.Words.{commands, command_of, one_register, two_r
 use Rattle.p3_field_bench.specs.Effects.{Outcome, Continues, Faults, At, Inverts, Shows, Computes, ComputesAt, Chooses, Commands, Does, May, sets}
 use Rattle.p3_field_bench.specs.Text.{IsTextFrom, After, fault_line}
 use Rattle.p3_field_bench.specs.SameTexts.{TakesNoRoot, TakeNoRoots, EndsForMemory, AreOneFrom}
-use Rattle.p3_field_bench.proofs.FieldValues.{HasValues}
-use Rattle.p3_field_bench.proofs.RegisterValues.{HoldValues, IsFilled, Filled, FilledAfter, two_below, may_filled}
+use Rattle.p3_field_bench.specs.RegisterValues.{HasValues, HoldValues, IsFilled, Filled}
+use Rattle.p3_field_bench.proofs.RegisterValues.{FilledAfter, two_below, may_filled}
 
 -- the outcomes are the same, or memory was refused in one of them
 abbrev Alike : Outcome → Outcome → Type 0

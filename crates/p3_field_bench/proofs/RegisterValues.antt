@@ -24,19 +24,10 @@ use Rattle.p3_calculator_fields.specs.Tables.{lookup}
 use Rattle.p3_field_bench.specs.Lines.{words}
 use Rattle.p3_field_bench.specs.Words.{command_of, number_from, up_to, decimal_up_to, number, register, one_of, two_of, three_of, two_with_number, one_register, two_registers, three_registers, registers_and_number}
 use Rattle.p3_field_bench.specs.Effects.{Outcome, Continues, Faults, At, Inverts, TakesRoot, Shows, Computes, ComputesAt, Chooses, Commands, Does, May, sets, puts, chosen, onto, numbers_below, binary, unary}
-use Rattle.p3_field_bench.proofs.FieldValues.{HasValues, is_sound, has_values, power_is}
+use Rattle.p3_field_bench.specs.RegisterValues.{HasValues, HoldValues, IsFilled, Filled}
+use Rattle.p3_field_bench.proofs.FieldValues.{is_sound, has_values, power_is}
 
--- each of the sixteen registers holds a value
-abbrev pub HoldValues : FieldSpec → List (List ℕ) → Type 0
-HoldValues s regs = (r : ℕ) → r < 16 → IsValue s (register_at regs r)
-
-abbrev pub IsFilled : Option FieldSpec → List (List ℕ) → Type 0
-IsFilled None regs = Unit {0}
-IsFilled (Some s) regs = HasValues s × HoldValues s regs
-
-abbrev pub Filled : State → Type 0
-Filled st = IsFilled st.field st.registers
-
+-- the registers hold values after an outcome
 abbrev pub FilledAfter : Outcome → Type 0
 FilledAfter (Continues st out) = Filled st
 FilledAfter (Faults fault) = Unit {0}

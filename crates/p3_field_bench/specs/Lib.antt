@@ -4,7 +4,8 @@ pub mod Faults
 pub mod Lines
 pub mod Lists
 pub mod Outcomes
+pub mod RegisterValues
+pub mod RunSoFar
 pub mod SameTexts
-pub mod Standing
 pub mod Text
 pub mod Words

@@ -1,6 +1,6 @@
 ghost use Rattle.std.specs.Prelude.{◌≡◌, ◌+◌, ◌-◌, ◌<◌, ◌≤◌, ◌^◌, ◌++◌, ◌∷◌, [], true, false, Err, List, ℕ, length, take};
 ghost use Rattle.std.specs.Io.KnownBytes.{Appends, Consumes, IsAtEnd};
-ghost use Rattle.p3_field_bench.specs.Standing.{Carries, HasNoEnd, StopsAtFailure, Ended, EndedAt, Finishes};
+ghost use Rattle.p3_field_bench.specs.RunSoFar.{TakesBytes, HasNoEnd, StopsAtFailure, Ended, EndedAt, Finishes};
 ghost use Rattle.p3_field_bench.specs.Text.{RunEnds, fault_line};
 
 use crate::faults::Fault;
@@ -18,7 +18,7 @@ fn carry_out<A: Allocator + Copy, W: Sink>(
 ) -> Result<(), Stop>
     requires number { machine.old.number < 2 ^ 128 - 1 }
     requires writer { W.failed writer.old ≡ false }
-    ensures carries { Carries machine.old machine.new (W.contents writer.old) (W.contents writer.new) result (10 ∷ []) }
+    ensures takes { TakesBytes machine.old machine.new (W.contents writer.old) (W.contents writer.new) result (10 ∷ []) }
     ensures number { machine.new.number ≤ machine.old.number + 1 }
     ensures failure { StopsAtFailure result (W.failed writer.old) (W.failed writer.new) }
 {
@@ -48,7 +48,7 @@ fn take_byte<A: Allocator + Copy, W: Sink>(
 ) -> Result<(), Stop>
     requires number { machine.old.number < 2 ^ 128 - 1 }
     requires writer { W.failed writer.old ≡ false }
-    ensures carries { Carries machine.old machine.new (W.contents writer.old) (W.contents writer.new) result (byte ∷ []) }
+    ensures takes { TakesBytes machine.old machine.new (W.contents writer.old) (W.contents writer.new) result (byte ∷ []) }
     ensures number { machine.new.number ≤ machine.old.number + 1 }
     ensures failure { StopsAtFailure result (W.failed writer.old) (W.failed writer.new) }
 {
@@ -89,7 +89,7 @@ fn take_all<A: Allocator + Copy, W: Sink>(
 ) -> Result<(), Stop>
     requires number { machine.old.number + length bytes.now < 2 ^ 128 }
     requires writer { W.failed writer.old ≡ false }
-    ensures carries { Carries machine.old machine.new (W.contents writer.old) (W.contents writer.new) result bytes.now }
+    ensures takes { TakesBytes machine.old machine.new (W.contents writer.old) (W.contents writer.new) result bytes.now }
     ensures number { machine.new.number ≤ machine.old.number + length bytes.now }
     ensures failure { StopsAtFailure result (W.failed writer.old) (W.failed writer.new) }
 {

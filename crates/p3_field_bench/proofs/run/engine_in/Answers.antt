@@ -46,7 +46,7 @@ reads-preserved g c =
     let l = c.reads in
     let i = l.invariant.3 in
     let e = c.in-Ok.ensures in
-    let x = c.in-Ok-take_all.ensures.carries i.0 i.1 i.2 in
+    let x = c.in-Ok-take_all.ensures.takes i.0 i.1 i.2 in
     let len = length-take-le c.in-Ok.count c.read.new.buf e.count in (
       omega (arith, l.invariant.0, c.in-Ok-take_all.ensures.number, e.bound, len),
       e.failure ∙ l.invariant.1,
@@ -72,5 +72,5 @@ returns-in-Err-take_all g c =
     let x = c.in-Err-take_all.ensures in
     let out = after_err l.machine c.take_all.new.machine c.in-Err-take_all.stop (g.R.Source.failed c.read.new.self) (failed l.writer) (failed c.take_all.new.writer) (failed c.end_at.new.writer) end
     (told c.args.writer.now) (told l.writer) (told c.take_all.new.writer) (told c.end_at.new.writer) i.0 (take c.in-Ok.count c.read.new.buf) i.1 c.end_at.result
-    (e.failure ∙ l.invariant.1) l.invariant.2 x.failure i.2 i.4 x.carries c.end_at.ensures in
+    (e.failure ∙ l.invariant.1) l.invariant.2 x.failure i.2 i.4 x.takes c.end_at.ensures in
     (i.0 ++ take c.in-Ok.count c.read.new.buf, out.0, Consumes-trans (has c.args.reader.now) (has l.reader) (has c.read.new.self) i.0 _ i.3 e.bytes.0, out.1, out.2)

@@ -1,15 +1,15 @@
 use Rattle.std.proofs.Common.{◌∙◌, ◌+◌, refl, arith}
-use Rattle.p3_field_bench.proofs.Carrying.{turn, stop, done, carries_none, over_letters}
+use Rattle.p3_field_bench.proofs.TakenBytes.{turn, stop, done, carries_none, over_letters}
 use Rattle.p3_field_bench.proofs.Letters.{still_within}
 use Rattle.p3_field_bench.proofs.run.take_all.Goals as goal
 
-pub returns-in-Err-clause-carries : goal.returns-in-Err-clause-carries
-returns-in-Err-clause-carries g c =
+pub returns-in-Err-clause-takes : goal.returns-in-Err-clause-takes
+returns-in-Err-clause-takes g c =
     let told = g.W.Sink.contents in
     let l = c.loop-at in
     let t = c.take_letters-at in
     let letters = over_letters c.args.machine.now l.machine _ (told c.args.writer.now) (told l.writer) c.args.bytes.now l.at t.result l.invariant.3 t.ensures.letters refl refl t.ensures.bytes in
-    stop c.args.machine.now _ c.take_byte.new.machine (told c.args.writer.now) (told l.writer) (told c.take_byte.new.writer) c.in-Err.stop c.args.bytes.now (l.at + t.result) c.if-at-bytes.true letters c.in-Err.ensures.carries
+    stop c.args.machine.now _ c.take_byte.new.machine (told c.args.writer.now) (told l.writer) (told c.take_byte.new.writer) c.in-Err.stop c.args.bytes.now (l.at + t.result) c.if-at-bytes.true letters c.in-Err.ensures.takes
 
 pub loop-at-preserved-in-Ok : goal.loop-at-preserved-in-Ok
 loop-at-preserved-in-Ok g c =
@@ -20,7 +20,7 @@ loop-at-preserved-in-Ok g c =
       omega (arith, c.if-at-bytes.true),
       omega (arith, l.invariant.1, c.take_byte.ensures.number),
       c.in-Ok.ensures.failure ∙ l.invariant.2,
-      turn c.args.machine.now _ c.take_byte.new.machine (told c.args.writer.now) (told l.writer) (told c.take_byte.new.writer) c.args.bytes.now (l.at + t.result) c.if-at-bytes.true letters c.in-Ok.ensures.carries,
+      turn c.args.machine.now _ c.take_byte.new.machine (told c.args.writer.now) (told l.writer) (told c.take_byte.new.writer) c.args.bytes.now (l.at + t.result) c.if-at-bytes.true letters c.in-Ok.ensures.takes,
     )
 
 pub loop-at-preserved : goal.loop-at-preserved
@@ -37,8 +37,8 @@ loop-at-preserved g c =
 pub loop-at-init : goal.loop-at-init
 loop-at-init g c = (omega arith, omega arith, refl, carries_none c.args.machine.now (g.W.Sink.contents c.args.writer.now))
 
-pub returns-clause-carries : goal.returns-clause-carries
-returns-clause-carries g c =
+pub returns-clause-takes : goal.returns-clause-takes
+returns-clause-takes g c =
     let told = g.W.Sink.contents in
     let l = c.loop-at in
     done c.args.machine.now l.machine (told c.args.writer.now) (told l.writer) c.args.bytes.now l.at c.loop-at-test.false l.invariant.3

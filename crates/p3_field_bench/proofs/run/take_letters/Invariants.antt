@@ -1,5 +1,5 @@
 use Rattle.std.proofs.Common.{◌-◌, ◌≡◌, ◌≤◌, ◌++◌, take, ◌+◌}
-use Rattle.p3_field_bench.specs.Standing.{HasNoEnd}
+use Rattle.p3_field_bench.specs.RunSoFar.{HasNoEnd}
 use Rattle.p3_field_bench.proofs.run.take_letters.Given as goal
 
 abbrev pub invariant-loop-count : goal.invariant-loop-count

@@ -1,14 +1,13 @@
 -- Between two bytes of the input.
-use Rattle.std.specs.Prelude.{◌≡◌, ℕ, ◌+◌, ◌⊎◌, Bool, true, List, [], ◌∷◌, ◌++◌, length, take, Option, Some, None, Result, Ok, Err}
+use Rattle.std.specs.Prelude.{◌≡◌, ℕ, ◌+◌, ◌⊎◌, Bool, true, List, [], ◌∷◌, ◌++◌, length, take, Option, Result, Ok, Err}
 use Rattle.std.specs.List.{flat_map}
 use Rattle.std.specs.Io.KnownBytes.{Appends}
 use Rattle.p3_field_bench.specs.declared.machine.Machine.{Machine}
 use Rattle.p3_field_bench.specs.declared.machine.Stop.{Stop}
 use Rattle.p3_field_bench.specs.declared.machine.Stop.TheVariants.{AtFault, AtWrite}
 use Rattle.p3_field_bench.specs.Bank.{state_of}
-use Rattle.p3_calculator_fields.specs.Fields.{FieldSpec, ops}
-use Rattle.p3_field_bench.specs.Effects.{IsRoot}
 use Rattle.p3_field_bench.specs.Lines.{lines_of}
+use Rattle.p3_field_bench.specs.RegisterValues.{Filled}
 use Rattle.p3_calculator_streams.specs.Streams.{AppendsFront}
 use Rattle.p3_field_bench.specs.Text.{IsTextFrom, IsText, BeginsText, fault_line}
 
@@ -26,36 +25,27 @@ HaveNoEnd (line ∷ lines) = HasNoEnd line × HaveNoEnd lines
 abbrev pub ended : List ℕ → List ℕ
 ended line = line ++ 10 ∷ []
 
--- zero is a value, and its own square
-abbrev pub ZeroIsSquare : FieldSpec → Type 0
-ZeroIsSquare s = IsRoot s (ops s).zero (ops s).zero
-
--- the same of a chosen field
-abbrev pub Sound : Option FieldSpec → Type 0
-Sound None = Unit {0}
-Sound (Some s) = ZeroIsSquare s
-
 -- These bytes were taken and this text written: the whole lines were carried out, and the rest stands in the buffer.
-pub record Standing (machine : Machine) (bytes text : List ℕ) : Type 0 where
+pub record RunSoFar (machine : Machine) (bytes text : List ℕ) : Type 0 where
   pub lines : List (List ℕ)
   pub each : HaveNoEnd lines
   pub bytes_are : bytes ≡ flat_map ended lines ++ take machine.line.used machine.line.bytes
   pub pending : HasNoEnd (take machine.line.used machine.line.bytes)
   pub number : machine.number ≡ length lines + 1
-  pub sound : Sound (state_of machine.bank).field
+  pub filled : Filled (state_of machine.bank)
   -- whatever the lines from here on make, is made behind this text
   pub goes_on : (ls : List (List ℕ)) (more : List ℕ) (status : ℕ) → IsTextFrom machine.number (state_of machine.bank) ls more status → IsText (lines ++ ls) (text ++ more) status
 
 -- after some more bytes and some more text: the machine stands, a fault stands whatever follows, or a text is begun whatever follows
-abbrev pub Carried : Machine → Result (Unit {0}) Stop → List ℕ → List ℕ → Type 0
-Carried machine (Ok u) bytes text = Standing machine bytes text
-Carried machine (Err (AtFault fault)) bytes text = (more : List ℕ) → IsText (lines_of (bytes ++ more)) (text ++ fault_line machine.number fault) 1
-Carried machine (Err AtWrite) bytes text = (more : List ℕ) → BeginsText (lines_of (bytes ++ more)) text
+abbrev pub RunAfter : Machine → Result (Unit {0}) Stop → List ℕ → List ℕ → Type 0
+RunAfter machine (Ok u) bytes text = RunSoFar machine bytes text
+RunAfter machine (Err (AtFault fault)) bytes text = (more : List ℕ) → IsText (lines_of (bytes ++ more)) (text ++ fault_line machine.number fault) 1
+RunAfter machine (Err AtWrite) bytes text = (more : List ℕ) → BeginsText (lines_of (bytes ++ more)) text
 
 -- the bytes were taken, and what was written for them follows what was written before
-abbrev pub Carries : Machine → Machine → Option (List ℕ) → Option (List ℕ) → Result (Unit {0}) Stop → List ℕ → Type 0
-Carries old new told_old told_new result bytes = (before text : List ℕ) → Standing old before text
-    → (out : List ℕ) × Appends told_old told_new out × Carried new result (before ++ bytes) (text ++ out)
+abbrev pub TakesBytes : Machine → Machine → Option (List ℕ) → Option (List ℕ) → Result (Unit {0}) Stop → List ℕ → Type 0
+TakesBytes old new told_old told_new result bytes = (before text : List ℕ) → RunSoFar old before text
+    → (out : List ℕ) × Appends told_old told_new out × RunAfter new result (before ++ bytes) (text ++ out)
 
 -- a run stops for the writer only where a write failed
 abbrev pub StopsAtFailure : Result (Unit {0}) Stop → Bool → Bool → Type 0
@@ -76,7 +66,7 @@ EndedAt AtWrite number told_old told_new failed_old failed_new status = (status 
 
 -- the pending bytes were the last line
 abbrev pub Finishes : Machine → Option (List ℕ) → Option (List ℕ) → Bool → Bool → ℕ → Type 0
-Finishes old told_old told_new failed_old failed_new status = (bytes text : List ℕ) → Standing old bytes text
+Finishes old told_old told_new failed_old failed_new status = (bytes text : List ℕ) → RunSoFar old bytes text
     → (out : List ℕ) × Appends told_old told_new out
     × (((failed_new ≡ failed_old) × IsText (lines_of bytes) (text ++ out) status)
     ⊎ ((status ≡ 2) × (failed_new ≡ true) × BeginsText (lines_of bytes) (text ++ out)))
