@@ -3,11 +3,13 @@
 #![tactic(auto)]
 
 #[cfg(test)]
-mod calls;
+mod cases;
 #[cfg(test)]
 mod kernel_tables;
 #[cfg(test)]
 mod kernels;
+#[cfg(test)]
+mod numbered;
 #[cfg(test)]
 mod numbers;
 #[cfg(test)]
@@ -19,7 +21,7 @@ mod packing_calls;
 #[cfg(test)]
 mod packing_columns;
 #[cfg(test)]
-mod packing_list_calls;
+mod packing_lanes;
 #[cfg(test)]
 mod packing_list_tables;
 #[cfg(test)]
@@ -35,14 +37,10 @@ mod packing_tables;
 #[cfg(test)]
 mod packing_types;
 #[cfg(test)]
-mod power_growths;
-#[cfg(test)]
 mod power_lists;
 #[cfg(test)]
 mod rows;
 #[cfg(test)]
 mod vector_blocks;
-#[cfg(test)]
-mod vector_calls;
 #[cfg(test)]
 mod vector_tables;

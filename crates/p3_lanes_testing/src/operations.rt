@@ -1,10 +1,12 @@
 //! The operations of an algebra over a field.
-ghost use Rattle.std.specs.Prelude.{◌≡◌, IsTrue, length};
+ghost use Rattle.std.specs.Prelude.{IsTrue};
 ghost use Rattle.p3_theory.specs.Rings.Ring.{Invertible};
 
-use crate::calls::{Arithmetic, Operation, Unary};
+use crate::cases::{Arithmetic, Case, Operation, Unary};
+use crate::numbered::{Numbered, holds, value, values};
 use p3_base::field::Field;
 use p3_ring::ring::{Algebra, PrimeCharacteristicRing};
+use std::alloc::{AllocError, Global};
 
 /// A sum, a difference or a product of two values.
 fn of_two<A: PrimeCharacteristicRing>(operation: Arithmetic, x: A, y: A) -> A {
@@ -41,80 +43,67 @@ fn of_one<A: PrimeCharacteristicRing>(operation: Unary, x: A, number: u64) -> A 
 }
 
 /// Whether a value has an inverse.
-fn has_inverse<F: Field>(value: F) -> bool
-    ensures { IsTrue result → Invertible F.ops value }
+pub(crate) fn has_inverse<T: Field>(y: T) -> bool
+    ensures { IsTrue result → Invertible T.ops y }
 {
-    match value.try_inverse() {
-        Some(_) => true,
-        None => false,
-    }
+    y.try_inverse().is_some()
 }
 
-/// The half of a value; none where two has no inverse.
-fn half<F: Field, A: Algebra<F>>(x: A) -> Option<A> {
-    let two = F::two();
-    if !has_inverse(two) {
-        return None;
-    }
-    let half = x.halve();
-    Some(half)
+/// Whether the half of a value is the answer.
+fn half_agrees<A: Algebra<T> + Numbered, T: Field>(case: &Case) -> bool {
+    let two = T::two();
+    let x = value::<A>(case.argument(0));
+    has_inverse(two) && holds(&x.halve(), &case.answer)
 }
 
-/// The sum of the products of two lists, as far as the shorter one reaches.
-fn product<A: PrimeCharacteristicRing>(xs: &[A], ys: &[A]) -> A {
-    let count = xs.len().min(ys.len());
-    A::dot_product(&xs[..count], &ys[..count])
+/// Whether the sum of the products of two lists is the answer.
+fn dot_product_agrees<R: PrimeCharacteristicRing + Numbered>(
+    alloc: Global,
+    case: &Case,
+) -> Result<bool, AllocError> {
+    let xs = values::<R>(alloc, case.argument(0))?;
+    let ys = values::<R>(alloc, case.argument(1))?;
+    Ok(xs.len() == ys.len() && holds(&R::dot_product(&xs, &ys), &case.answer))
 }
 
-/// The sum of the products of values and scalars, as far as the shorter list reaches.
-fn mixed_product<F: PrimeCharacteristicRing, A: Algebra<F>>(xs: &[A], scalars: &[F]) -> A {
-    let count = xs.len().min(scalars.len());
-    A::mixed_dot_product(&xs[..count], &scalars[..count])
+/// Whether the sum of the products of values and scalars is the answer.
+fn mixed_dot_product_agrees<A: Algebra<T> + Numbered, T: PrimeCharacteristicRing + Numbered>(
+    alloc: Global,
+    case: &Case,
+) -> Result<bool, AllocError> {
+    let xs = values::<A>(alloc, case.argument(0))?;
+    let ys = values::<T>(alloc, case.argument(1))?;
+    Ok(xs.len() == ys.len() && holds(&A::mixed_dot_product(&xs, &ys), &case.answer))
 }
 
-/// The first of some values, zero where there is none.
-fn first_or_zero<A: PrimeCharacteristicRing>(values: &[A]) -> A {
-    match values.first() {
-        Some(value) => *value,
-        None => A::zero(),
-    }
-}
-
-/// What an operation gives on the first of each list: the values and the scalars before it and after it.
-fn of_first<F: PrimeCharacteristicRing, A: Algebra<F>>(
+/// What an operation gives on values that aren't in lists.
+fn answer_of<A: Algebra<T> + Numbered, T: PrimeCharacteristicRing + Numbered>(
     operation: Operation,
-    xs: &[A],
-    ys: &[A],
-    before: &[F],
-    after: &[F],
-    number: u64,
-) -> Option<A> {
-    let x = first_or_zero(xs);
+    case: &Case,
+) -> A {
+    let x = value::<A>(case.argument(0));
     match operation {
-        Operation::Binary(name) => Some(of_two(name, x, first_or_zero(ys))),
-        Operation::WithScalar(name) => Some(with_scalar(name, x, first_or_zero(after))),
+        Operation::WithScalar(name) => with_scalar(name, x, value::<T>(case.argument(1))),
         Operation::OfScalar(name) => {
-            let scalar = A::from(first_or_zero(before));
-            Some(of_two(name, scalar, first_or_zero(ys)))
+            let scalar = A::from(value::<T>(case.argument(0)));
+            of_two(name, scalar, value::<A>(case.argument(1)))
         }
-        Operation::Unary(name) => Some(of_one(name, x, number)),
-        _ => None,
+        Operation::Unary(name) => of_one(name, x, case.number(1)),
+        Operation::Binary(name) => of_two(name, x, value::<A>(case.argument(1))),
+        _ => x,
     }
 }
 
-/// What an operation gives on lists of values and of scalars, and on a number where it takes one.
-pub(crate) fn operated<F: Field, A: Algebra<F>>(
+/// Whether an operation has its answer.
+pub(crate) fn operation_agrees<A: Algebra<T> + Numbered, T: Field + Numbered>(
+    alloc: Global,
     operation: Operation,
-    xs: &[A],
-    ys: &[A],
-    before: &[F],
-    after: &[F],
-    number: u64,
-) -> Option<A> {
+    case: &Case,
+) -> Result<bool, AllocError> {
     match operation {
-        Operation::DotProduct => Some(product(xs, ys)),
-        Operation::MixedDotProduct => Some(mixed_product(xs, after)),
-        Operation::Halve => half::<F, A>(first_or_zero(xs)),
-        _ => of_first::<F, A>(operation, xs, ys, before, after, number),
+        Operation::DotProduct => dot_product_agrees::<A>(alloc, case),
+        Operation::MixedDotProduct => mixed_dot_product_agrees::<A, T>(alloc, case),
+        Operation::Halve => Ok(half_agrees::<A, T>(case)),
+        _ => Ok(holds(&answer_of::<A, T>(operation, case), &case.answer)),
     }
 }

@@ -2,7 +2,9 @@
 ghost use Rattle.std.specs.Prelude.{◌≡◌, ◌<◌, IsTrue};
 ghost use Rattle.p3_theory.specs.Rings.Ring.{Invertible};
 
-use crate::rows::value_at;
+use crate::cases::Case;
+use crate::numbered::{Numbered, holds, value};
+use crate::operations::has_inverse;
 use p3_base::field::Field;
 use p3_base::packed_traits::{PackedField, PackedValue};
 use p3_ring::packed_ring::PackedRing;
@@ -42,17 +44,26 @@ fn lanes_have_inverses<F: Field, P: PackedRing<F>>(packing: P) -> bool
     lanes_are_one::<F, P>(product)
 }
 
-/// The quotient of two packings; none where a lane of the divisor has no inverse.
-pub(crate) fn quotient<F: Field, P: PackedField<F>>(left: P, right: P) -> Option<P> {
-    if !lanes_have_inverses::<F, P>(right) {
-        return None;
+/// Whether the quotient of two packings is the answer; false where a lane of the divisor has no inverse.
+pub(crate) fn quotient_agrees<F: Field, P: PackedField<F> + Numbered>(case: &Case) -> bool {
+    let x = value::<P>(case.argument(0));
+    let y = value::<P>(case.argument(1));
+    if !lanes_have_inverses::<F, P>(y) {
+        return false;
     }
-    Some(left / right)
+    let quotient = x / y;
+    holds(&quotient, &case.answer)
 }
 
-/// The quotient of a packing by the value of a text; none where that has no inverse.
-pub(crate) fn scalar_quotient<F: Field, P: PackedField<F>>(left: P, right: &str) -> Option<P> {
-    let scalar = value_at::<F>(right, 0)?;
-    scalar.try_inverse()?;
-    Some(left / scalar)
+/// Whether the quotient of a packing by a value is the answer; false where that has no inverse.
+pub(crate) fn scalar_quotient_agrees<F: Field + Numbered, P: PackedField<F> + Numbered>(
+    case: &Case,
+) -> bool {
+    let x = value::<P>(case.argument(0));
+    let scalar = value::<F>(case.argument(1));
+    if !has_inverse(scalar) {
+        return false;
+    }
+    let quotient = x / scalar;
+    holds(&quotient, &case.answer)
 }

@@ -1,182 +1,149 @@
-//! Slices of every length from 0 to 17 that are scaled, added and written by packings, against plain loops.
-ghost use Rattle.std.specs.Prelude.{◌≤◌, ◌+◌, ◌*◌, IfSome};
+//! Slices that are scaled, added and written by packings: told by rows, and of every length from 0 to 17 against
+//! plain loops.
+ghost use Rattle.std.specs.Prelude.{◌≡◌, length};
 
-use crate::rows::{Row, packing, value_at, values};
+use crate::cases::{Case, SliceCall};
+use crate::numbered::{Numbered, all_hold, multiples, value, values};
+use crate::packing_lanes::group_within;
 use p3_base::field::Field;
 use p3_base::packed_traits::{PackedField, PackedValue};
-use p3_ring::packed_ring::PackedRing;
 use p3_ring::ring::PrimeCharacteristicRing;
 use p3_tools::helpers::{add_scaled_slice_in_place, add_slices, scale_slice_in_place_single_core};
 use std::alloc::{AllocError, Global};
 
-/// The value of the number `(i + 1) * step`.
-fn multiple<R: PrimeCharacteristicRing>(i: usize, step: u64) -> R {
-    R::from_u64((i as u64).wrapping_add(1).wrapping_mul(step))
+/// The calls that change a slice.
+static CALLS: [SliceCall; 4] = [
+    SliceCall::Scale,
+    SliceCall::AddScaled,
+    SliceCall::AddSlices,
+    SliceCall::AddEntries,
+];
+
+/// Changes a slice by a call.
+fn change<F: Field, P: PackedField<F>>(call: SliceCall, slice: &mut [F], other: &[F], s: F)
+    requires { length slice.old ≡ length other.now }
+{
+    match call {
+        SliceCall::Scale => scale_slice_in_place_single_core::<F, P>(slice, s),
+        SliceCall::AddScaled => add_scaled_slice_in_place::<F, P>(slice, other, s),
+        SliceCall::AddSlices => add_slices::<F, P>(slice, other),
+        SliceCall::AddEntries => F::add_slices(slice, other),
+    }
 }
 
-/// So many values, the multiples of a number.
-fn multiples<R: PrimeCharacteristicRing>(
+/// Whether a slice is the answer once it is changed. A slice that is scaled stands as the other one too.
+pub(crate) fn slices_agree<F: Field + Numbered, P: PackedField<F>>(
     alloc: Global,
-    length: usize,
-    step: u64,
-) -> Result<Vec<R>, AllocError> {
-    let mut multiples = Vec::new(alloc);
-    for i in 0..length {
-        multiples.push(multiple::<R>(i, step))?;
+    call: SliceCall,
+    case: &Case,
+) -> Result<bool, AllocError> {
+    let mut slice = values::<F>(alloc, case.argument(0))?;
+    let other = values::<F>(alloc, case.argument(1))?;
+    if slice.len() != other.len() {
+        return Ok(false);
     }
-    Ok(multiples)
+    change::<F, P>(call, &mut slice, &other, value::<F>(case.argument(2)));
+    Ok(all_hold::<F>(&slice, &case.answer))
 }
 
-/// Whether each entry is that of the first list and that of the second one times the factor.
-fn are_sums<F: Field>(sums: &[F], left: &[F], right: &[F], s: F) -> bool {
-    if sums.len() != left.len() || sums.len() != right.len() {
-        return false;
+/// What a call makes of an entry, beside one of the other slice.
+fn changed<F: PrimeCharacteristicRing>(call: SliceCall, x: F, y: F, s: F) -> F {
+    match call {
+        SliceCall::Scale => x * s,
+        SliceCall::AddScaled => x + y * s,
+        _ => x + y,
     }
-    for i in 0..sums.len() {
-        if sums[i] != left[i] + right[i] * s {
+}
+
+/// The number at an index of the multiples of a step from one time on.
+fn multiple(index: usize, step: u64) -> u64 {
+    (index as u64).wrapping_add(1).wrapping_mul(step)
+}
+
+/// Whether a slice of multiples of 5 is what a call makes of it beside multiples of 11, by a plain loop.
+fn are_changed<F: PrimeCharacteristicRing + Numbered>(call: SliceCall, slice: &[F], s: F) -> bool {
+    for i in 0..slice.len() {
+        let x = value::<F>(&[multiple(i, 5)]);
+        let y = value::<F>(&[multiple(i, 11)]);
+        let expected = changed(call, x, y, s);
+        if slice[i].number(0) != expected.number(0) {
             return false;
         }
     }
     true
 }
 
-/// Whether slices of a length are scaled and added as by the plain loop.
-fn sums_of_length<F: Field, P: PackedField<F>>(
+/// Whether a call changes a slice of so many entries as the plain loop does.
+fn length_agrees<F: Field + Numbered, P: PackedField<F>>(
     alloc: Global,
+    call: SliceCall,
     length: usize,
     s: F,
 ) -> Result<bool, AllocError> {
-    let zeros: Vec<F> = multiples(alloc, length, 0)?;
-    let left: Vec<F> = multiples(alloc, length, 5)?;
-    let right: Vec<F> = multiples(alloc, length, 11)?;
-    let mut scaled: Vec<F> = multiples(alloc, length, 11)?;
-    let mut added: Vec<F> = multiples(alloc, length, 5)?;
-    let mut sums: Vec<F> = multiples(alloc, length, 5)?;
-    let mut packed_sums: Vec<F> = multiples(alloc, length, 5)?;
-    scale_slice_in_place_single_core::<F, P>(&mut scaled, s);
-    if added.len() != right.len() || sums.len() != right.len() || packed_sums.len() != right.len() {
+    let mut slice = multiples::<F>(alloc, length, 5)?;
+    let other = multiples::<F>(alloc, length, 11)?;
+    if slice.len() != length || other.len() != slice.len() {
         return Ok(false);
     }
-    add_scaled_slice_in_place::<F, P>(&mut added, &right, s);
-    F::add_slices(&mut sums, &right);
-    add_slices::<F, P>(&mut packed_sums, &right);
-    Ok(
-        are_sums(&scaled, &zeros, &right, s)
-            && are_sums(&added, &left, &right, s)
-            && are_sums(&sums, &left, &right, F::one())
-            && packed_sums.as_slice() == sums.as_slice(),
-    )
+    change::<F, P>(call, &mut slice, &other, s);
+    Ok(are_changed(call, &slice, s))
 }
 
-/// The number of a group that lies whole in so many values.
-fn group_within<P: PackedValue>(length: usize, group: usize) -> Option<usize>
-    ensures { IfSome result (λ i. i * P.WIDTH + P.WIDTH ≤ length) }
-{
-    let start = group.checked_mul(P::WIDTH)?;
-    if start.checked_add(P::WIDTH)? <= length {
-        Some(group)
-    } else {
-        None
-    }
-}
-
-/// Whether each entry of a group is the packing's lane, and each other one the multiple that it was.
-fn holds_block<F: PrimeCharacteristicRing + PartialEq, P: PackedRing<F>>(
+/// Whether each entry of a group is the packing's lane, and each other one the multiple of 7 that it was.
+fn holds_block<F: Numbered, P: PackedValue<Value = F> + Numbered>(
     slice: &[F],
     block: &P,
     group: usize,
-    step: u64,
 ) -> bool {
+    let start = group.wrapping_mul(P::WIDTH);
     for i in 0..slice.len() {
-        let expected = if i / P::WIDTH == group {
-            block.extract(i % P::WIDTH)
+        let lane = i.wrapping_sub(start);
+        let expected = if lane < P::WIDTH {
+            value::<F>(&[block.number(lane)])
         } else {
-            F::from_u64((i as u64).wrapping_add(1).wrapping_mul(step))
+            value::<F>(&[multiple(i, 7)])
         };
-        let agrees = slice[i] == expected;
-        if !agrees {
+        if slice[i].number(0) != expected.number(0) {
             return false;
         }
     }
     true
 }
 
-/// Whether a packing written to each whole group of a slice stands there alone, and is read there again.
-fn blocks_of_length<F: PrimeCharacteristicRing + PartialEq, P: PackedRing<F>>(
+/// Whether a packing written to each whole group of a slice of so many entries stands there alone.
+fn blocks_of_length<F: Numbered, P: PackedValue<Value = F> + Numbered>(
     alloc: Global,
     length: usize,
 ) -> Result<bool, AllocError> {
-    let block = P::from_fn(|lane: usize| -> F { F::from_usize(lane) });
+    let block = value::<P>(&[3, 1, 4, 1, 5, 9, 2, 6]);
     for group in 0..length {
-        let mut slice: Vec<F> = multiples(alloc, length, 7)?;
+        let mut slice = multiples::<F>(alloc, length, 7)?;
         let Some(i) = group_within::<P>(slice.len(), group) else {
             return Ok(true);
         };
         block.store_block(&mut slice, i);
-        if !holds_block::<F, P>(&slice, &block, i, 7) {
+        if slice.len() != length || !holds_block::<F, P>(&slice, &block, i) {
             return Ok(false);
         }
     }
     Ok(true)
 }
 
-/// Whether slices of all lengths up to 17 are scaled, added and written as by plain loops.
-pub(crate) fn lengths_agree<F: Field, P: PackedField<F>>(
+/// Whether slices of every length from 0 to 17 are changed, by the factor of a row, and written as by plain loops.
+pub(crate) fn lengths_agree<F: Field + Numbered, P: PackedField<F> + Numbered>(
     alloc: Global,
-    row: Row<'_>,
-) -> Result<Option<bool>, AllocError> {
-    let Some(s) = value_at::<F>(row.arguments, 0) else {
-        return Ok(None);
-    };
+    case: &Case,
+) -> Result<bool, AllocError> {
+    let s = value::<F>(case.argument(0));
     for length in 0..18usize {
-        if !sums_of_length::<F, P>(alloc, length, s)? || !blocks_of_length::<F, P>(alloc, length)? {
-            return Ok(Some(false));
+        for call in CALLS {
+            if !length_agrees::<F, P>(alloc, call, length, s)? {
+                return Ok(false);
+            }
+        }
+        if !blocks_of_length::<F, P>(alloc, length)? {
+            return Ok(false);
         }
     }
-    Ok(Some(true))
-}
-
-/// Whether a slice is what the row says once another one is added to it, entry by entry and by packings.
-pub(crate) fn slices_agree<F: Field, P: PackedField<F>>(
-    alloc: Global,
-    row: Row<'_>,
-) -> Result<Option<bool>, AllocError> {
-    let mut first: Vec<F> = values(alloc, row.argument(0))?;
-    let mut second: Vec<F> = values(alloc, row.argument(0))?;
-    let other: Vec<F> = values(alloc, row.argument(1))?;
-    let expected: Vec<F> = values(alloc, row.answer)?;
-    if first.len() != other.len() || second.len() != other.len() {
-        return Ok(None);
-    }
-    F::add_slices(&mut first, &other);
-    add_slices::<F, P>(&mut second, &other);
-    Ok(Some(first.as_slice() == expected.as_slice() && second.as_slice() == expected.as_slice()))
-}
-
-/// The group of a slice at an index; `Ok(None)` where the slice has none.
-pub(crate) fn loaded<F: PrimeCharacteristicRing, P: PackedValue<Value = F>>(
-    alloc: Global,
-    slice: &str,
-    index: &str,
-) -> Result<Option<P>, AllocError> {
-    let slice: Vec<F> = values(alloc, slice)?;
-    match group_within::<P>(slice.len(), index.parse::<usize>().unwrap_or(usize::MAX)) {
-        Some(i) => Ok(Some(P::load_block(&slice, i))),
-        None => Ok(None),
-    }
-}
-
-/// Whether the slice is what the row says once the packing is written to the group at an index.
-pub(crate) fn stored<F: PrimeCharacteristicRing + PartialEq, P: PackedValue<Value = F>>(
-    alloc: Global,
-    row: Row<'_>,
-) -> Result<Option<bool>, AllocError> {
-    let mut slice: Vec<F> = values(alloc, row.argument(1))?;
-    let index = row.argument(2).parse::<usize>().unwrap_or(usize::MAX);
-    match group_within::<P>(slice.len(), index) {
-        Some(i) => packing::<F, P>(row.argument(0)).store_block(&mut slice, i),
-        None => return Ok(None),
-    }
-    let expected: Vec<F> = values(alloc, row.answer)?;
-    Ok(Some(slice.as_slice() == expected.as_slice()))
+    Ok(true)
 }

@@ -1,108 +1,127 @@
-//! Lists of powers of a prime field's values and of extension values, told by the rows of tables.
-use crate::rows::Row;
+//! Powers as packings one after the other, lists of powers that are made by packings, and the growths that such
+//! lists ask for, refused in turn.
+use crate::cases::{Call, Case};
+use crate::numbered::{Numbered, holds_at, number_at, value, values_told};
 use p3_base::field::Field;
-use p3_base::packed_traits::Packable;
-use p3_ext::extension::{BinomialExtensionField, BinomiallyExtendable};
+use p3_base::packed_traits::PackedField;
+use p3_refusing::Refusing;
 use p3_ring::packed_ring::PackedRing;
-use p3_ring::powers::BoundedPowers;
+use p3_ring::powers::Powers;
 use p3_ring::ring::PrimeCharacteristicRing;
 use std::alloc::{AllocError, Global};
 
-/// The value whose coefficients a word has, at this generator.
-fn value_of<F: Field>(word: &str, generator: F) -> Option<F> {
-    let mut value = F::zero();
-    let mut power = F::one();
-    for part in word.split(',') {
-        value += F::from_u64(part.parse::<u64>().ok()?) * power;
-        power *= generator;
+/// Whether the first packings of a sequence are the answer.
+pub(crate) fn powers_agree<F: Field + Numbered, P: PackedField<F> + Numbered>(
+    call: Call,
+    case: &Case,
+) -> bool {
+    let base = value::<F>(case.argument(0));
+    let powers = match call {
+        Call::ShiftedPowers => P::packed_shifted_powers(base, value::<F>(case.argument(1))),
+        _ => P::packed_powers(base),
+    };
+    are_powers(powers, &case.answer)
+}
+
+/// Whether the next power is the one at an index of those that a list tells.
+fn next_holds<R: PrimeCharacteristicRing + Numbered>(
+    powers: &mut Powers<R>,
+    answer: &[u64],
+    index: usize,
+) -> bool {
+    match powers.next() {
+        Some(power) => holds_at(&power, answer, index),
+        None => false,
     }
-    Some(value)
 }
 
-/// The powers of a row: the base, the start and the length.
-fn powers_of<F: Field>(row: Row<'_>, generator: F) -> Option<BoundedPowers<F>> {
-    let base = value_of(row.argument(0), generator)?;
-    let start = value_of(row.argument(1), generator)?;
-    let length = row.argument(2).parse::<usize>().ok()?;
-    let powers = base.shifted_powers(start);
-    Some(powers.take(length))
-}
-
-/// Whether a list has the values of a text at the indices of another one.
-fn hold_at<F: Field>(terms: &[F], indices: &str, values: &str, generator: F) -> bool {
-    let mut expected = values.split_ascii_whitespace();
-    for index in indices.split_terminator(',') {
-        let i = index.parse::<usize>().unwrap_or(usize::MAX);
-        let value = value_of(expected.next().unwrap_or(""), generator);
-        if i >= terms.len() || value != Some(terms[i]) {
+/// Whether the first powers are those that a list tells.
+fn are_powers<R: PrimeCharacteristicRing + Numbered>(
+    mut powers: Powers<R>,
+    answer: &[u64],
+) -> bool {
+    for index in 0..values_told::<R>(answer) {
+        if !next_holds(&mut powers, answer, index) {
             return false;
         }
     }
-    expected.next().is_none()
+    true
 }
 
-/// Whether a list of powers, made by packings P, has the row's length, and at the row's indices the row's
-/// values. Coefficients are those of the powers of a generator.
-pub(crate) fn are_taken<F: Field, P: PackedRing<F>>(
+/// Whether a list of powers, made by packings P, has the answer's length, and at the indices of the last argument
+/// the values that follow in the answer.
+pub(crate) fn list_agrees<F: PrimeCharacteristicRing + Numbered, P: PackedRing<F>>(
     alloc: Global,
-    generator: F,
-    row: Row<'_>,
-) -> Result<Option<bool>, AllocError> {
-    let Some(powers) = powers_of(row, generator) else {
-        return Ok(None);
-    };
-    let Some((length, values)) = row.answer.split_once('|') else {
-        return Ok(None);
-    };
-    let taken = powers.collect::<P>(alloc)?;
-    Ok(Some(
-        length.parse::<usize>() == Ok(taken.len())
-            && hold_at(&taken, row.argument(3), values, generator),
-    ))
-}
-
-/// `are_taken` by the field itself, a packing of one lane.
-fn are_taken_alone<F: Field + Packable>(
-    alloc: Global,
-    generator: F,
-    row: Row<'_>,
-) -> Result<Option<bool>, AllocError> {
-    are_taken::<F, F>(alloc, generator, row)
-}
-
-/// Lists of powers over the extension of degree D of this field by a binomial, implemented once for all
-/// fields: a call at a field's own name passes the field's traits alone.
-pub(crate) trait ExtensionPowers<const D: usize>: Copy {
-    /// What stands in a list. Of an associated type it is known that its values have room.
-    type Value: Copy;
-
-    /// The value X.
-    fn generator() -> Self::Value;
-
-    /// `are_taken` at this generator.
-    fn extension_powers_agree(
-        alloc: Global,
-        generator: Self::Value,
-        row: Row<'_>,
-    ) -> Result<Option<bool>, AllocError>;
-}
-
-impl<F: BinomiallyExtendable<D> + Packable, const D: usize> ExtensionPowers<D> for F {
-    type Value = BinomialExtensionField<F, D>;
-
-    fn generator() -> BinomialExtensionField<F, D> {
-        let mut coefficients = [F::zero(); D];
-        if 1 < D {
-            coefficients[1] = F::one();
+    case: &Case,
+) -> Result<bool, AllocError> {
+    let base = value::<F>(case.argument(0));
+    let powers = base.shifted_powers(value::<F>(case.argument(1)));
+    let list = powers.take(case.size(2)).collect::<P>(alloc)?;
+    if number_at(&case.answer, 0) != Some(list.len() as u64) {
+        return Ok(false);
+    }
+    for (place, index) in case.argument(3).iter().enumerate() {
+        match list.get(*index as usize) {
+            Some(power) if holds_at(power, &case.answer, place.wrapping_add(1)) => {}
+            _ => return Ok(false),
         }
-        BinomialExtensionField::<F, D>::new(coefficients)
     }
+    Ok(case.answer.len() == case.argument(3).len().wrapping_add(1))
+}
 
-    fn extension_powers_agree(
-        alloc: Global,
-        generator: BinomialExtensionField<F, D>,
-        row: Row<'_>,
-    ) -> Result<Option<bool>, AllocError> {
-        are_taken_alone(alloc, generator, row)
+/// Whether a list has so many items, the start and from there on each the one before it times the base.
+fn are_products<F: PrimeCharacteristicRing + Numbered>(
+    items: &[F],
+    base: F,
+    start: F,
+    length: usize,
+) -> bool {
+    let mut power = start;
+    for i in 0..items.len() {
+        if items[i].number(0) != power.number(0) {
+            return false;
+        }
+        power *= base;
     }
+    items.len() == length
+}
+
+/// Whether a list of powers, made by packings P, is right where as many growths pass as it needs, or is
+/// refused at the first growth that doesn't pass, and keeps no block.
+fn list_grows<F: PrimeCharacteristicRing + Numbered, P: PackedRing<F>>(
+    alloc: Global,
+    passing: u64,
+    case: &Case,
+    length: usize,
+    needed: u64,
+) -> bool {
+    let heap = Refusing::after(alloc, passing);
+    let (base, start) = (value::<F>(case.argument(0)), value::<F>(case.argument(1)));
+    let powers = base.shifted_powers(start);
+    let is_right = match powers.collect_n_in::<P, &Refusing<Global>>(&heap, length) {
+        Ok(items) => passing == needed && are_products(&items, base, start, length),
+        Err(_) => passing < needed && heap.growths() == passing.wrapping_add(1),
+    };
+    is_right && heap.blocks() == 0
+}
+
+/// Whether lists of the lengths of the last argument, by packings P, ask for the answer's growths and have every
+/// item right.
+pub(crate) fn lists_grow<F: PrimeCharacteristicRing + Numbered, P: PackedRing<F>>(
+    alloc: Global,
+    case: &Case,
+) -> bool {
+    let lengths = case.argument(2);
+    for index in 0..lengths.len() {
+        let length = lengths[index] as usize;
+        let Some(needed) = number_at(&case.answer, index) else {
+            return false;
+        };
+        for passing in 0..=needed {
+            if !list_grows::<F, P>(alloc, passing, case, length, needed) {
+                return false;
+            }
+        }
+    }
+    case.answer.len() == lengths.len()
 }

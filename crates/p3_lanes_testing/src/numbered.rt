@@ -1,0 +1,164 @@
+//! Values by numbers.
+use p3_base::field::PrimeField64;
+use p3_base::packed_traits::Inhabited;
+use p3_bench_packed::packed::Packed;
+use p3_bench_prime::form::{Form, Word};
+use p3_bench_prime::fp::Fp;
+use p3_ring::ring::PrimeCharacteristicRing;
+use p3_vectorized::vectorized::Vectorized;
+use std::alloc::{AllocError, Global};
+
+/// Values that numbers tell: of a packing or a vector those of its lanes.
+pub(crate) trait Numbered: Copy {
+    /// How many numbers a value has.
+    fn count() -> usize;
+
+    /// The value whose numbers are those of a list from an index on. Past the end of the list they are zero.
+    fn read(numbers: &[u64], first: usize) -> Self;
+
+    /// The number at an index, zero past the last one.
+    fn number(&self, index: usize) -> u64;
+}
+
+impl<W: Form<T>, T: Word> Numbered for Fp<W, T> {
+    fn count() -> usize {
+        1
+    }
+
+    fn read(numbers: &[u64], first: usize) -> Self {
+        match numbers.get(first) {
+            Some(number) => Self::from_u64(*number),
+            None => Self::from_u64(0),
+        }
+    }
+
+    fn number(&self, _index: usize) -> u64 {
+        self.as_canonical_u64()
+    }
+}
+
+/// The numbers of each item, one after the other.
+impl<T: Numbered, const N: usize> Numbered for [T; N] {
+    fn count() -> usize {
+        T::count().wrapping_mul(N)
+    }
+
+    fn read(numbers: &[u64], first: usize) -> Self {
+        let width = T::count();
+        std::array::from_fn(|i: usize| -> T {
+            T::read(numbers, first.wrapping_add(i.wrapping_mul(width)))
+        })
+    }
+
+    fn number(&self, index: usize) -> u64 {
+        let count = T::count();
+        match self.get(index.checked_div(count).unwrap_or(N)) {
+            Some(item) => item.number(index.checked_rem(count).unwrap_or(0)),
+            None => 0,
+        }
+    }
+}
+
+impl<F: Numbered, const N: usize> Numbered for Packed<F, N> {
+    fn count() -> usize {
+        <[F; N]>::count()
+    }
+
+    fn read(numbers: &[u64], first: usize) -> Self {
+        Packed::new(<[F; N]>::read(numbers, first))
+    }
+
+    fn number(&self, index: usize) -> u64 {
+        self.value.number(index)
+    }
+}
+
+impl<F: Copy, P: Inhabited + Numbered, const N: usize> Numbered for Vectorized<F, P, N> {
+    fn count() -> usize {
+        <[P; N]>::count()
+    }
+
+    fn read(numbers: &[u64], first: usize) -> Self {
+        Vectorized::new(<[P; N]>::read(numbers, first))
+    }
+
+    fn number(&self, index: usize) -> u64 {
+        let vector = *self;
+        let packings = vector.0;
+        packings.number(index)
+    }
+}
+
+/// The value that a list of numbers tells.
+pub(crate) fn value<T: Numbered>(numbers: &[u64]) -> T {
+    T::read(numbers, 0)
+}
+
+/// The value at an index of those that a list of numbers tells, one after the other.
+pub(crate) fn value_at<T: Numbered>(numbers: &[u64], index: usize) -> T {
+    T::read(numbers, index.wrapping_mul(T::count()))
+}
+
+/// How many values a list of numbers tells.
+pub(crate) fn values_told<T: Numbered>(numbers: &[u64]) -> usize {
+    numbers.len().checked_div(T::count()).unwrap_or(0)
+}
+
+/// The values that a list of numbers tells.
+pub(crate) fn values<T: Numbered>(alloc: Global, numbers: &[u64]) -> Result<Vec<T>, AllocError> {
+    let mut values = Vec::new(alloc);
+    for index in 0..values_told::<T>(numbers) {
+        values.push(value_at::<T>(numbers, index))?;
+    }
+    Ok(values)
+}
+
+/// So many values, whose first numbers are the multiples of a step from one time on, and the others zero.
+pub(crate) fn multiples<T: Numbered>(
+    alloc: Global,
+    count: usize,
+    step: u64,
+) -> Result<Vec<T>, AllocError> {
+    let mut values = Vec::new(alloc);
+    let mut number: u64 = 0;
+    for _ in 0..count {
+        number = number.wrapping_add(step);
+        values.push(value::<T>(&[number]))?;
+    }
+    Ok(values)
+}
+
+/// The number at an index of a list, if any.
+pub(crate) fn number_at(numbers: &[u64], index: usize) -> Option<u64> {
+    match numbers.get(index) {
+        Some(number) => Some(*number),
+        None => None,
+    }
+}
+
+/// Whether a value is the one at an index of those that a list tells.
+pub(crate) fn holds_at<T: Numbered>(value: &T, numbers: &[u64], index: usize) -> bool {
+    let count = T::count();
+    let first = index.wrapping_mul(count);
+    for i in 0..count {
+        if number_at(numbers, first.wrapping_add(i)) != Some(value.number(i)) {
+            return false;
+        }
+    }
+    true
+}
+
+/// Whether a value is the one that a list tells.
+pub(crate) fn holds<T: Numbered>(value: &T, numbers: &[u64]) -> bool {
+    numbers.len() == T::count() && holds_at::<T>(value, numbers, 0)
+}
+
+/// Whether values are those that a list tells.
+pub(crate) fn all_hold<T: Numbered>(values: &[T], numbers: &[u64]) -> bool {
+    for (index, value) in values.iter().enumerate() {
+        if !holds_at::<T>(value, numbers, index) {
+            return false;
+        }
+    }
+    values.len().checked_mul(T::count()) == Some(numbers.len())
+}
