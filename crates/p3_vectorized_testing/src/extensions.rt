@@ -1,7 +1,9 @@
-//! The calls on the values of extensions and on packings of 1, 4 and 8 of them. The functions that choose the
-//! number of lanes are generic over the marker of a field: a test then passes the field's constants alone.
-use crate::calls::Call;
-use crate::packings::{ExtensionCalls, ExtensionRooms};
+//! The calls on the values of extensions, and runs over packings of 4 and 8 of them. Each is implemented once for all
+//! markers of fields: at a marker's own name it passes the field's constants alone.
+use crate::packings::{ExtensionRuns, ExtensionVectors};
+use crate::runs::Run;
+use crate::value_calls::{Call, agrees};
+use crate::values::Canonical;
 use p3_bench_packed::lanes::LaneCount;
 use p3_bench_packed::packed::Packed;
 use p3_bench_prime::binomial_constants::BinomialConstants;
@@ -9,18 +11,37 @@ use p3_bench_prime::form::{Form, OverModulus};
 use p3_bench_prime::fp::Fp;
 use p3_bench_prime::polynomial_constants::PolynomialConstants;
 use p3_ext::extension::{
-    Binomial, Cubic, CubicTrinomial, ExtensionShape, IntegerPolynomial, Modulo, Quintic, Septic,
+    Binomial, Cubic, CubicTrinomial, ExtField, ExtensionShape, FrobeniusExtendable,
+    IntegerPolynomial, Modulo, Septic, SepticTrinomial,
 };
 use std::alloc::{AllocError, Global};
 
-/// The calls over packings at the extension of degree D by the shape S, implemented once for all fields that
-/// have it.
-trait Extended<S: ExtensionShape, const D: usize>: Form<u32> {
-    /// The calls over packings P. Nothing is read of `rooms`.
-    fn agree<P: ExtensionCalls<Fp<Self>, S, D>>(
+/// Whether a call on the values of an extension of F gives what is told. Nothing is read of `_room`.
+fn extension_agrees<F: FrobeniusExtendable<D, S> + Canonical, S: ExtensionShape, const D: usize>(
+    alloc: Global,
+    _room: Option<ExtField<F, D, S, F>>,
+    call: &Call<'_>,
+) -> Result<bool, AllocError> {
+    agrees::<ExtField<F, D, S, F>>(alloc, call)
+}
+
+/// The extension of degree D by the shape S, of all fields that have it.
+pub(crate) trait Extended<S: ExtensionShape, const D: usize>: Form<u32> {
+    /// A value. Of an associated type it is known that its values have room.
+    type Value: Copy;
+
+    /// Whether a call on values gives what is told. Nothing is read of `room`.
+    fn agrees(
         alloc: Global,
-        rooms: Option<P::Rooms>,
+        room: Option<Self::Value>,
         call: &Call<'_>,
+    ) -> Result<bool, AllocError>;
+
+    /// Whether a run over packings P leaves what it has to. Nothing is read of `vectors`.
+    fn run_agrees<P: ExtensionRuns<Fp<Self>, S, D>>(
+        alloc: Global,
+        vectors: Option<P::Vectors>,
+        run: &Run<'_>,
     ) -> Result<bool, AllocError>;
 }
 
@@ -28,12 +49,22 @@ impl<W: OverModulus<u32>, const D: usize> Extended<Binomial<Fp<W>>, D> for W
 where
     W::Modulus: BinomialConstants<D>,
 {
-    fn agree<P: ExtensionCalls<Fp<W>, Binomial<Fp<W>>, D>>(
+    type Value = ExtField<Fp<W>, D, Binomial<Fp<W>>, Fp<W>>;
+
+    fn agrees(
         alloc: Global,
-        rooms: Option<P::Rooms>,
+        room: Option<ExtField<Fp<W>, D, Binomial<Fp<W>>, Fp<W>>>,
         call: &Call<'_>,
     ) -> Result<bool, AllocError> {
-        P::agree(alloc, rooms, call)
+        extension_agrees::<Fp<W>, Binomial<Fp<W>>, D>(alloc, room, call)
+    }
+
+    fn run_agrees<P: ExtensionRuns<Fp<W>, Binomial<Fp<W>>, D>>(
+        alloc: Global,
+        vectors: Option<P::Vectors>,
+        run: &Run<'_>,
+    ) -> Result<bool, AllocError> {
+        P::run_agrees(alloc, vectors, run)
     }
 }
 
@@ -41,17 +72,27 @@ impl<W: OverModulus<u32>, S: IntegerPolynomial<D>, const D: usize> Extended<Modu
 where
     W::Modulus: PolynomialConstants<D, S>,
 {
-    fn agree<P: ExtensionCalls<Fp<W>, Modulo<S, D>, D>>(
+    type Value = ExtField<Fp<W>, D, Modulo<S, D>, Fp<W>>;
+
+    fn agrees(
         alloc: Global,
-        rooms: Option<P::Rooms>,
+        room: Option<ExtField<Fp<W>, D, Modulo<S, D>, Fp<W>>>,
         call: &Call<'_>,
     ) -> Result<bool, AllocError> {
-        P::agree(alloc, rooms, call)
+        extension_agrees::<Fp<W>, Modulo<S, D>, D>(alloc, room, call)
+    }
+
+    fn run_agrees<P: ExtensionRuns<Fp<W>, Modulo<S, D>, D>>(
+        alloc: Global,
+        vectors: Option<P::Vectors>,
+        run: &Run<'_>,
+    ) -> Result<bool, AllocError> {
+        P::run_agrees(alloc, vectors, run)
     }
 }
 
-/// The calls over packings of N values. That packings are named tells that they have room; nothing is read of
-/// them.
+/// Whether a run over packings of N values leaves what it has to. That packings are named tells that they have
+/// room; nothing is read of them.
 fn lanes_agree<
     W: Form<u32> + LaneCount<N> + Extended<S, D>,
     S: ExtensionShape,
@@ -60,158 +101,73 @@ fn lanes_agree<
 >(
     alloc: Global,
     _packing: Option<Packed<Fp<W>, N>>,
-    rooms: Option<ExtensionRooms<Fp<W>, S, Packed<Fp<W>, N>, D>>,
-    call: &Call<'_>,
+    vectors: Option<ExtensionVectors<Fp<W>, S, Packed<Fp<W>, N>, D>>,
+    run: &Run<'_>,
 ) -> Result<bool, AllocError> {
-    <W as Extended<S, D>>::agree::<Packed<Fp<W>, N>>(alloc, rooms, call)
+    <W as Extended<S, D>>::run_agrees::<Packed<Fp<W>, N>>(alloc, vectors, run)
 }
 
-/// The calls over packings of 1, 4 or 8 values of the extension by `X^2 = W`.
-pub(crate) fn at_degree_2<W: OverModulus<u32>>(
+/// The same of the extension by `X^2 = W`, of packings of 4 or 8 values; false where there are no such packings
+/// here.
+pub(crate) fn over_quadratic<W: OverModulus<u32>>(
     alloc: Global,
     lanes: usize,
-    call: &Call<'_>,
+    run: &Run<'_>,
 ) -> Result<bool, AllocError>
 where
     W::Modulus: BinomialConstants<2>,
 {
     match lanes {
-        1 => lanes_agree::<W, Binomial<Fp<W>>, 2, 1>(alloc, None, None, call),
-        4 => lanes_agree::<W, Binomial<Fp<W>>, 2, 4>(alloc, None, None, call),
-        8 => lanes_agree::<W, Binomial<Fp<W>>, 2, 8>(alloc, None, None, call),
+        4 => lanes_agree::<W, Binomial<Fp<W>>, 2, 4>(alloc, None, None, run),
+        8 => lanes_agree::<W, Binomial<Fp<W>>, 2, 8>(alloc, None, None, run),
         _ => Ok(false),
     }
 }
 
-/// The calls over packings of 1, 4 or 8 values of the extension by `X^3 = W`.
-pub(crate) fn at_degree_3<W: OverModulus<u32>>(
+/// The same of the extension by `X^4 = W`.
+pub(crate) fn over_quartic<W: OverModulus<u32>>(
     alloc: Global,
     lanes: usize,
-    call: &Call<'_>,
-) -> Result<bool, AllocError>
-where
-    W::Modulus: BinomialConstants<3>,
-{
-    match lanes {
-        1 => lanes_agree::<W, Binomial<Fp<W>>, 3, 1>(alloc, None, None, call),
-        4 => lanes_agree::<W, Binomial<Fp<W>>, 3, 4>(alloc, None, None, call),
-        8 => lanes_agree::<W, Binomial<Fp<W>>, 3, 8>(alloc, None, None, call),
-        _ => Ok(false),
-    }
-}
-
-/// The calls over packings of 1, 4 or 8 values of the extension by `X^4 = W`.
-pub(crate) fn at_degree_4<W: OverModulus<u32>>(
-    alloc: Global,
-    lanes: usize,
-    call: &Call<'_>,
+    run: &Run<'_>,
 ) -> Result<bool, AllocError>
 where
     W::Modulus: BinomialConstants<4>,
 {
     match lanes {
-        1 => lanes_agree::<W, Binomial<Fp<W>>, 4, 1>(alloc, None, None, call),
-        4 => lanes_agree::<W, Binomial<Fp<W>>, 4, 4>(alloc, None, None, call),
-        8 => lanes_agree::<W, Binomial<Fp<W>>, 4, 8>(alloc, None, None, call),
+        4 => lanes_agree::<W, Binomial<Fp<W>>, 4, 4>(alloc, None, None, run),
+        8 => lanes_agree::<W, Binomial<Fp<W>>, 4, 8>(alloc, None, None, run),
         _ => Ok(false),
     }
 }
 
-/// The calls over packings of 1, 4 or 8 values of the extension by `X^5 = W`.
-pub(crate) fn at_degree_5<W: OverModulus<u32>>(
-    alloc: Global,
-    lanes: usize,
-    call: &Call<'_>,
-) -> Result<bool, AllocError>
-where
-    W::Modulus: BinomialConstants<5>,
-{
-    match lanes {
-        1 => lanes_agree::<W, Binomial<Fp<W>>, 5, 1>(alloc, None, None, call),
-        4 => lanes_agree::<W, Binomial<Fp<W>>, 5, 4>(alloc, None, None, call),
-        8 => lanes_agree::<W, Binomial<Fp<W>>, 5, 8>(alloc, None, None, call),
-        _ => Ok(false),
-    }
-}
-
-/// The calls over packings of 1, 4 or 8 values of the extension by `X^6 = W`.
-pub(crate) fn at_degree_6<W: OverModulus<u32>>(
-    alloc: Global,
-    lanes: usize,
-    call: &Call<'_>,
-) -> Result<bool, AllocError>
-where
-    W::Modulus: BinomialConstants<6>,
-{
-    match lanes {
-        1 => lanes_agree::<W, Binomial<Fp<W>>, 6, 1>(alloc, None, None, call),
-        4 => lanes_agree::<W, Binomial<Fp<W>>, 6, 4>(alloc, None, None, call),
-        8 => lanes_agree::<W, Binomial<Fp<W>>, 6, 8>(alloc, None, None, call),
-        _ => Ok(false),
-    }
-}
-
-/// The calls over packings of 1, 4 or 8 values of the extension by `X^8 = W`.
-pub(crate) fn at_degree_8<W: OverModulus<u32>>(
-    alloc: Global,
-    lanes: usize,
-    call: &Call<'_>,
-) -> Result<bool, AllocError>
-where
-    W::Modulus: BinomialConstants<8>,
-{
-    match lanes {
-        1 => lanes_agree::<W, Binomial<Fp<W>>, 8, 1>(alloc, None, None, call),
-        4 => lanes_agree::<W, Binomial<Fp<W>>, 8, 4>(alloc, None, None, call),
-        8 => lanes_agree::<W, Binomial<Fp<W>>, 8, 8>(alloc, None, None, call),
-        _ => Ok(false),
-    }
-}
-
-/// The calls over packings of 1, 4 or 8 values of the extension by `X^3 = X + 1`.
+/// The same of the extension by `X^3 = X + 1`.
 pub(crate) fn over_cubic<W: OverModulus<u32>>(
     alloc: Global,
     lanes: usize,
-    call: &Call<'_>,
+    run: &Run<'_>,
 ) -> Result<bool, AllocError>
 where
     W::Modulus: PolynomialConstants<3, Cubic>,
 {
     match lanes {
-        1 => lanes_agree::<W, CubicTrinomial, 3, 1>(alloc, None, None, call),
-        4 => lanes_agree::<W, CubicTrinomial, 3, 4>(alloc, None, None, call),
-        8 => lanes_agree::<W, CubicTrinomial, 3, 8>(alloc, None, None, call),
+        4 => lanes_agree::<W, CubicTrinomial, 3, 4>(alloc, None, None, run),
+        8 => lanes_agree::<W, CubicTrinomial, 3, 8>(alloc, None, None, run),
         _ => Ok(false),
     }
 }
 
-/// The calls over packings of 4 values of the extension by `X^5 = 1 - X^2`.
-pub(crate) fn over_quintic<W: OverModulus<u32>>(
-    alloc: Global,
-    lanes: usize,
-    call: &Call<'_>,
-) -> Result<bool, AllocError>
-where
-    W::Modulus: PolynomialConstants<5, Quintic>,
-{
-    match lanes {
-        4 => lanes_agree::<W, Modulo<Quintic, 5>, 5, 4>(alloc, None, None, call),
-        _ => Ok(false),
-    }
-}
-
-/// The calls over packings of 4 or 8 values of the extension by `X^7 = X + 1`.
+/// The same of the extension by `X^7 = X + 1`.
 pub(crate) fn over_septic<W: OverModulus<u32>>(
     alloc: Global,
     lanes: usize,
-    call: &Call<'_>,
+    run: &Run<'_>,
 ) -> Result<bool, AllocError>
 where
     W::Modulus: PolynomialConstants<7, Septic>,
 {
     match lanes {
-        4 => lanes_agree::<W, Modulo<Septic, 7>, 7, 4>(alloc, None, None, call),
-        8 => lanes_agree::<W, Modulo<Septic, 7>, 7, 8>(alloc, None, None, call),
+        4 => lanes_agree::<W, SepticTrinomial, 7, 4>(alloc, None, None, run),
+        8 => lanes_agree::<W, SepticTrinomial, 7, 8>(alloc, None, None, run),
         _ => Ok(false),
     }
 }

@@ -1,6 +1,5 @@
-//! The calls on the values of an extension and on packings of them, implemented once for all packings.
-use crate::calls::{Call, Rooms, agrees};
-use crate::runs::run_agrees;
+//! Runs over vectors of packings of an extension's values, implemented once for all packings.
+use crate::runs::{Run, Vectors, run_agrees};
 use crate::values::Canonical;
 use p3_base::field::Field;
 use p3_base::packed_traits::{Inhabited, Packable};
@@ -10,44 +9,45 @@ use p3_ring::packed_ring::PackedRing;
 use p3_ring::ring::{Algebra, PrimeCharacteristicRing};
 use std::alloc::{AllocError, Global};
 
-/// What the calls make values of, over packings P of values of an extension of F.
-pub(crate) type ExtensionRooms<F, S, P, const D: usize> = Rooms<
+/// Vectors of packings P of values of an extension of F.
+pub(crate) type ExtensionVectors<F, S, P, const D: usize> = Vectors<
     F,
     ExtField<F, D, S, F>,
     PackedExtField<F, D, S, P>,
 >;
 
-/// Whether a call gives what it has to, over packings P of values of an extension of F. Nothing is read of
-/// `_rooms`.
-fn extension_agrees<F, S, P, const D: usize>(
+/// Whether a run leaves what it has to, over packings P of values of an extension of F. Nothing is read of
+/// `vectors`.
+fn extension_run_agrees<F, S, P, const D: usize>(
     alloc: Global,
-    _rooms: Option<ExtensionRooms<F, S, P, D>>,
-    call: &Call<'_>,
+    vectors: Option<ExtensionVectors<F, S, P, D>>,
+    run: &Run<'_>,
 ) -> Result<bool, AllocError>
 where
     F: FrobeniusExtendable<D, S> + ExtensionOverAlgebra<P, D, S> + Packable + Canonical,
     S: ExtensionShape,
     P: PackedRing<F> + Inhabited + Packing<Scalar = F>,
 {
-    match call {
-        Call::Run(run) => run_agrees::<F, PackedExtField<F, D, S, P>, S, D>(alloc, None, run),
-        _ => agrees::<F, ExtField<F, D, S, F>, PackedExtField<F, D, S, P>>(alloc, call),
-    }
+    run_agrees::<F, PackedExtField<F, D, S, P>, S, D>(alloc, vectors, run)
 }
 
-/// The calls over packings of this type of values of an extension of F. What the extension owes is a bound of
+/// Runs over packings of this type of values of an extension of F. What the extension owes is a bound of
 /// the method: a function over a marker and any such packing passes it from the packing's algebra alone, and
 /// the call at so many lanes passes that algebra once.
-pub(crate) trait ExtensionCalls<
+pub(crate) trait ExtensionRuns<
     F: PrimeCharacteristicRing,
     S: ExtensionShape,
     const D: usize,
 >: Algebra<F> {
-    /// What the calls make values of. Of an associated type it is known that its values have room.
-    type Rooms: Copy;
+    /// Vectors of packings. Of an associated type it is known that its values have room.
+    type Vectors: Copy;
 
-    /// Whether a call gives what it has to. Nothing is read of `rooms`.
-    fn agree(alloc: Global, rooms: Option<Self::Rooms>, call: &Call<'_>) -> Result<bool, AllocError>
+    /// Whether a run leaves what it has to. Nothing is read of `vectors`.
+    fn run_agrees(
+        alloc: Global,
+        vectors: Option<Self::Vectors>,
+        run: &Run<'_>,
+    ) -> Result<bool, AllocError>
     where
         F: FrobeniusExtendable<D, S> + ExtensionOverAlgebra<Self, D, S>;
 }
@@ -57,17 +57,17 @@ impl<
     S: ExtensionShape,
     P: PackedRing<F> + Inhabited + Packing<Scalar = F>,
     const D: usize,
-> ExtensionCalls<F, S, D> for P {
-    type Rooms = ExtensionRooms<F, S, P, D>;
+> ExtensionRuns<F, S, D> for P {
+    type Vectors = ExtensionVectors<F, S, P, D>;
 
-    fn agree(
+    fn run_agrees(
         alloc: Global,
-        rooms: Option<ExtensionRooms<F, S, P, D>>,
-        call: &Call<'_>,
+        vectors: Option<ExtensionVectors<F, S, P, D>>,
+        run: &Run<'_>,
     ) -> Result<bool, AllocError>
     where
         F: FrobeniusExtendable<D, S> + ExtensionOverAlgebra<P, D, S>,
     {
-        extension_agrees::<F, S, P, D>(alloc, rooms, call)
+        extension_run_agrees::<F, S, P, D>(alloc, vectors, run)
     }
 }

@@ -6,8 +6,7 @@ ghost use Rattle.p3_theory.specs.Polynomials.Polynomial.{quotient_ops};
 ghost use Rattle.p3_ext.specs.Values.{ext_ops};
 ghost use Rattle.p3_runs.specs.Runs.{Fit, run};
 
-use crate::plain::{List, ZERO};
-use crate::values::{Canonical, Listed};
+use crate::values::{Canonical, List, Listed, ZERO};
 use p3_ext::extension::{ExtField, ExtensionShape, FrobeniusExtendable};
 use p3_packings::extension_lanes::PackedExtensionRing;
 use p3_ring::ring::PrimeCharacteristicRing;
@@ -147,12 +146,10 @@ where
 }
 
 /// The value of a register at a lane, where there is one.
-pub(crate) fn at_lane<
-    F: Copy,
-    EF: PrimeCharacteristicRing,
-    PE: PackedExtensionRing<F, EF>,
-    const N: usize,
->(register: &VectorizedExt<F, EF, PE, N>, lane: usize) -> Option<EF> {
+fn at_lane<F: Copy, EF: PrimeCharacteristicRing, PE: PackedExtensionRing<F, EF>, const N: usize>(
+    register: &VectorizedExt<F, EF, PE, N>,
+    lane: usize,
+) -> Option<EF> {
     if lane < PE::LANES.checked_mul(N)? {
         Some(register.extract(lane))
     } else {

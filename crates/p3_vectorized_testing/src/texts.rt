@@ -1,5 +1,5 @@
 //! Coefficient lists, read from texts.
-use crate::plain::{List, MOST, ZERO};
+use crate::values::{List, MOST, ZERO};
 use std::alloc::{AllocError, Global};
 
 /// The coefficient list of a word.

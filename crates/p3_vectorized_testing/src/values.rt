@@ -1,9 +1,22 @@
 //! Extension values by their coefficient lists.
-use crate::plain::{List, MOST, ZERO, at};
 use p3_base::field::PrimeField64;
 use p3_bench_prime::form::{Form, Word};
 use p3_bench_prime::fp::Fp;
 use p3_ext::extension::{ExtField, ExtensionShape, FrobeniusExtendable, HasFrobenius};
+
+/// The greatest degree of the extensions.
+pub(crate) const MOST: usize = 8;
+
+/// The coefficients of a value, from the constant one upward, and zeros from the degree on.
+pub(crate) type List = [u64; MOST];
+
+/// The coefficient list of zero.
+pub(crate) const ZERO: List = [0; MOST];
+
+/// The number at an index, zero past the end.
+fn at(list: &List, index: usize) -> u64 {
+    list.get(index).copied().unwrap_or(0)
+}
 
 /// The canonical number of a residue, and no more of a prime field.
 pub(crate) trait Canonical: Copy {

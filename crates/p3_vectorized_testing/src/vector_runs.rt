@@ -1,16 +1,13 @@
-//! Runs over vectors of packings of the bench's extensions, told by the rows of tables.
-use crate::calls::Call;
-use crate::extensions::{
-    at_degree_2, at_degree_3, at_degree_4, at_degree_5, at_degree_6, at_degree_8, over_cubic,
-    over_quintic, over_septic,
-};
+//! Runs over vectors of packings of the values of extensions, told by the rows of tables.
+use crate::extensions::{over_cubic, over_quadratic, over_quartic, over_septic};
+use crate::residues::SplitM17;
 use crate::run_tables as tables;
 use crate::runs::Run;
 use crate::texts::lists_of;
 use p3_bench_prime::baby_bear::BabyBearModulus;
 use p3_bench_prime::form::Plain;
 use p3_bench_prime::montgomery::Montgomery;
-use p3_bench_prime::small::{M2, M15, M17, M17b, M31};
+use p3_bench_prime::small::{M2, M17, M31};
 use p3_runs::steps::Step;
 use std::alloc::{AllocError, Global};
 use std::process::Abort;
@@ -18,40 +15,25 @@ use std::test::Fail;
 
 /// The extensions.
 #[derive(Clone, Copy)]
-enum BenchExtension {
+enum Extension {
     F17x2,
-    F17bx2,
-    Z15x2,
-    F31x3,
-    F17x4,
     BbX4,
-    F31x5,
-    F31x6,
-    F17x8,
     F31t3,
-    F17t5,
-    F2t5,
     F2t7,
+    /// One that is no field.
+    F17sx2,
 }
 
 /// Their names.
-static NAMES: [(&str, BenchExtension); 13] = [
-    ("f17x2", BenchExtension::F17x2),
-    ("f17bx2", BenchExtension::F17bx2),
-    ("z15x2", BenchExtension::Z15x2),
-    ("f31x3", BenchExtension::F31x3),
-    ("f17x4", BenchExtension::F17x4),
-    ("bbx4", BenchExtension::BbX4),
-    ("f31x5", BenchExtension::F31x5),
-    ("f31x6", BenchExtension::F31x6),
-    ("f17x8", BenchExtension::F17x8),
-    ("f31t3", BenchExtension::F31t3),
-    ("f17t5", BenchExtension::F17t5),
-    ("f2t5", BenchExtension::F2t5),
-    ("f2t7", BenchExtension::F2t7),
+static NAMES: [(&str, Extension); 5] = [
+    ("f17x2", Extension::F17x2),
+    ("bbx4", Extension::BbX4),
+    ("f31t3", Extension::F31t3),
+    ("f2t7", Extension::F2t7),
+    ("f17sx2", Extension::F17sx2),
 ];
 
-impl BenchExtension {
+impl Extension {
     /// The extension of a name.
     fn of_name(name: &str) -> Option<Self> {
         for row in NAMES {
@@ -63,23 +45,15 @@ impl BenchExtension {
         None
     }
 
-    /// Whether a call gives what it has to, over packings of so many values; false where there are no such
+    /// Whether a run leaves what it has to, over packings of so many values; false where there are no such
     /// packings here.
-    fn agrees(self, alloc: Global, lanes: usize, call: &Call<'_>) -> Result<bool, AllocError> {
+    fn run_agrees(self, alloc: Global, lanes: usize, run: &Run<'_>) -> Result<bool, AllocError> {
         match self {
-            Self::F17x2 => at_degree_2::<Plain<M17>>(alloc, lanes, call),
-            Self::F17bx2 => at_degree_2::<Plain<M17b>>(alloc, lanes, call),
-            Self::Z15x2 => at_degree_2::<Plain<M15>>(alloc, lanes, call),
-            Self::F31x3 => at_degree_3::<Plain<M31>>(alloc, lanes, call),
-            Self::F17x4 => at_degree_4::<Plain<M17>>(alloc, lanes, call),
-            Self::BbX4 => at_degree_4::<Montgomery<BabyBearModulus>>(alloc, lanes, call),
-            Self::F31x5 => at_degree_5::<Plain<M31>>(alloc, lanes, call),
-            Self::F31x6 => at_degree_6::<Plain<M31>>(alloc, lanes, call),
-            Self::F17x8 => at_degree_8::<Plain<M17>>(alloc, lanes, call),
-            Self::F31t3 => over_cubic::<Plain<M31>>(alloc, lanes, call),
-            Self::F17t5 => over_quintic::<Plain<M17>>(alloc, lanes, call),
-            Self::F2t5 => over_quintic::<Plain<M2>>(alloc, lanes, call),
-            Self::F2t7 => over_septic::<Plain<M2>>(alloc, lanes, call),
+            Self::F17x2 => over_quadratic::<Plain<M17>>(alloc, lanes, run),
+            Self::BbX4 => over_quartic::<Montgomery<BabyBearModulus>>(alloc, lanes, run),
+            Self::F31t3 => over_cubic::<Plain<M31>>(alloc, lanes, run),
+            Self::F2t7 => over_septic::<Plain<M2>>(alloc, lanes, run),
+            Self::F17sx2 => over_quadratic::<Plain<SplitM17>>(alloc, lanes, run),
         }
     }
 }
@@ -170,7 +144,7 @@ fn steps_of(alloc: Global, text: &str) -> Result<Option<Vec<Step>>, AllocError> 
 /// A row of a table.
 #[derive(Clone, Copy)]
 struct Row<'a> {
-    extension: BenchExtension,
+    extension: Extension,
     /// The number of lanes of a packing.
     lanes: usize,
     /// The number of packings of a vector.
@@ -188,7 +162,7 @@ impl<'a> Row<'a> {
         let (before, steps) = arguments.split_once('|')?;
         let mut words = head.split(' ');
         Some(Row {
-            extension: BenchExtension::of_name(words.next()?)?,
+            extension: Extension::of_name(words.next()?)?,
             lanes: words.next()?.parse::<usize>().ok()?,
             packings: words.nth(1)?.parse::<usize>().ok()?,
             before,
@@ -209,13 +183,13 @@ fn run_agrees(alloc: Global, line: &str) -> Result<Option<bool>, AllocError> {
     };
     let before = lists_of(alloc, row.before)?;
     let after = lists_of(alloc, row.after)?;
-    let call = Call::Run(Run {
+    let run = Run {
         packings: row.packings,
         steps: &steps,
         before: &before,
         after: &after,
-    });
-    Ok(Some(row.extension.agrees(alloc, row.lanes, &call)?))
+    };
+    Ok(Some(row.extension.run_agrees(alloc, row.lanes, &run)?))
 }
 
 /// Every line of a table has its registers after.
@@ -232,8 +206,15 @@ fn assert_table(rt: &(impl Abort + AllocGlobal), table: &str) -> Result<(), Fail
 fn runs_over_vectors(rt: HostRuntime) -> Result<(), Fail> {
     assert_table(&rt, tables::RUNS_BY_HAND)?;
     assert_table(&rt, tables::RUNS_OVER_F17X2)?;
+    assert_table(&rt, tables::RUNS_OVER_BBX4)?;
     assert_table(&rt, tables::RUNS_OVER_F31T3)?;
     assert_table(&rt, tables::RUNS_OVER_F2T7)?;
-    assert_table(&rt, tables::RUNS_OVER_OTHERS)?;
-    assert_table(&rt, tables::RUNS_OVER_BBX4)
+    assert_table(&rt, tables::RUNS_OVER_F17SX2)
+}
+
+#[test]
+fn a_wrong_number_is_seen(rt: HostRuntime) -> Result<(), Fail> {
+    let agrees = run_agrees(rt.alloc(), tables::WRONG_RUN)?;
+    assert_eq!(rt; agrees, Some(false));
+    Ok(())
 }
