@@ -1,6 +1,6 @@
 //! Dot products of packings: of two to four positions at all lanes at once, or at each lane one of the values
 //! there; of more four positions at a time.
-ghost use Rattle.std.specs.Prelude.{◌≡◌, ◌≤◌, ◌<◌, IfSome, length, map, drop};
+ghost use Rattle.std.specs.Prelude.{◌≡◌, ◌≤◌, ◌<◌, ◌^◌, IfSome, length, map, drop};
 ghost use Rattle.p3_theory.specs.Rings.DotProduct.{dot};
 ghost use Rattle.p3_theory.specs.Lanes.RowRing.{item, row_ops};
 ghost use Rattle.p3_bench_packed.specs.Values.{packed_rows};
@@ -186,6 +186,48 @@ fn dot_by_blocks<F: LaneDotProducts<N> + LaneArithmetic<N>, const N: usize>(
     add_products(sum, u, v, start)
 }
 
+/// The most packings whose products are summed up before they are reduced.
+const STRIP: usize = 0x1_0000;
+
+/// The dot product of two slices of at most `STRIP` packings: all at once where the type has it.
+#[inline]
+fn dot_of_strip<F: LaneDotProducts<N> + LaneArithmetic<N>, const N: usize>(
+    u: &[Packed<F, N>],
+    v: &[Packed<F, N>],
+) -> Packed<F, N>
+    requires few { length u.now ≤ 2 ^ 16 }
+    requires lengths { length u.now ≡ length v.now }
+    ensures { result ≡ dot (row_ops packed_rows F.ops) u.now v.now }
+{
+    match F::slice_dot_product(u, v) {
+        Some(sum) => sum,
+        None => dot_by_blocks(u, v),
+    }
+}
+
+/// The dot product of two slices of packings, `STRIP` positions at a time.
+#[inline(never)]
+fn dot_by_strips<F: LaneDotProducts<N> + LaneArithmetic<N>, const N: usize>(
+    u: &[Packed<F, N>],
+    v: &[Packed<F, N>],
+) -> Packed<F, N>
+    requires { length u.now ≡ length v.now }
+    ensures { result ≡ dot (row_ops packed_rows F.ops) u.now v.now }
+{
+    let mut sum = Packed::new([F::zero(); N]);
+    let mut start = 0;
+    while u.len() - start > STRIP {
+        let strip = dot_of_strip(&u[start..start + STRIP], &v[start..start + STRIP]);
+        sum = add_lanes(sum, strip);
+        start += STRIP;
+    }
+    let last = dot_of_strip(&u[start..], &v[start..]);
+    add_lanes(sum, last)
+}
+
+/// From how many positions on a dot product goes by strips.
+const MANY: usize = 32;
+
 /// The dot product of two slices of packings. Of the few positions that the formulas of extensions have a
 /// type reduces the sum of their products once, and so it does at each lane. It is taken into each caller,
 /// where the number of positions is known.
@@ -201,6 +243,7 @@ pub(crate) fn packed_dot_product<
         2 => short_dot::<F, N, 2>(u, v),
         3 => short_dot::<F, N, 3>(u, v),
         4 => short_dot::<F, N, 4>(u, v),
-        _ => dot_by_blocks(u, v),
+        count if count < MANY => dot_by_blocks(u, v),
+        _ => dot_by_strips(u, v),
     }
 }

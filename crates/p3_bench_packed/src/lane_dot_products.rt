@@ -1,9 +1,13 @@
-//! Dot products of at most four rows of N values, index by index, which packings go by.
+//! Dot products of at most four rows of N values, index by index, and of slices of packings, which packings go by.
 ghost use Rattle.std.specs.Prelude.{◌≡◌, ◌≤◌, ◌<◌, ◌^◌, ℕ, [], true, IfSome, length, get_or};
 ghost use Rattle.p3_theory.specs.Rings.DotProduct.{dot};
+ghost use Rattle.p3_theory.specs.Lanes.RowRing.{row_ops};
 ghost use Rattle.p3_bench_packed.specs.Columns.{column};
+ghost use Rattle.p3_bench_packed.specs.Values.{packed_rows};
 ghost use Rattle.p3_bench_prime.specs.Elements.{ops};
 
+use crate::packed::Packed;
+use crate::slice_dot_products::{montgomery_dot_of_slices, small_dot_of_slices};
 use p3_bench_prime::form::{Form, Word};
 use p3_bench_prime::fp::Fp;
 use p3_bench_prime::lane_words::{MOST_LANES, values_of, words_of};
@@ -14,7 +18,10 @@ use p3_ring::ring::PrimeCharacteristicRing;
 /// Orders up to which sums of four products of residues have 16 bits.
 const SMALL_ORDERS: u64 = 0x80;
 
-/// A type that may have the dot products of a few rows of N values at once. This project's own.
+/// Orders up to which products of residues have 16 bits.
+const SHORT_ORDERS: u64 = 0x100;
+
+/// A type that may have the dot products of rows of N values at once. This project's own.
 pub trait LaneDotProducts<const N: usize>: PrimeCharacteristicRing {
     /// The dot products of the values at each index of at most four rows. `None` where the type has no way
     /// that is faster than one index after the other.
@@ -23,6 +30,13 @@ pub trait LaneDotProducts<const N: usize>: PrimeCharacteristicRing {
         requires lengths { length left.now ≡ length right.now }
         ensures length { IfSome result (λ sums. length sums ≡ N) }
         ensures lanes { IfSome result (λ sums. (d : Self) (k : ℕ) → k < N → get_or sums k d ≡ dot Self.ops (column k d left.now) (column k d right.now)) };
+
+    /// The dot product of two slices of at most 2^16 packings. `None` where the type has no way that is faster than a
+    /// few packings after the others.
+    fn slice_dot_product(left: &[Packed<Self, N>], right: &[Packed<Self, N>]) -> Option<Packed<Self, N>>
+        requires few { length left.now ≤ 2 ^ 16 }
+        requires lengths { length left.now ≡ length right.now }
+        ensures { IfSome result (λ sum. sum ≡ dot (row_ops packed_rows Self.ops) left.now right.now) };
 }
 
 /// The words of at most four rows of values, and zeros after them.
@@ -89,6 +103,17 @@ impl<W: Form<T>, T: Word, const N: usize> LaneDotProducts<N> for Fp<W, T> {
             Some(montgomery_dot_products::<W, T, N>(left, right))
         } else if W::PLAIN && W::ORDER <= SMALL_ORDERS && N <= MOST_LANES {
             Some(small_dot_products::<W, T, N>(left, right))
+        } else {
+            None
+        }
+    }
+
+    #[inline(always)]
+    fn slice_dot_product(left: &[Packed<Self, N>], right: &[Packed<Self, N>]) -> Option<Packed<Self, N>> {
+        if W::INVERSE > 0 && N <= MOST_LANES {
+            montgomery_dot_of_slices::<W, T, N>(left, right)
+        } else if W::PLAIN && W::ORDER <= SHORT_ORDERS {
+            small_dot_of_slices::<W, T, N>(left, right)
         } else {
             None
         }

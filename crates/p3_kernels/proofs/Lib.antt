@@ -6,6 +6,7 @@ pub mod ProductSums
 pub mod Recasts
 pub mod Reductions
 pub mod Rows
+pub mod RowProducts
 pub mod SmallDotProducts
 pub mod SmallProducts
 pub mod SmallSums

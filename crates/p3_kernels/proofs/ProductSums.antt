@@ -76,35 +76,37 @@ module _ (us vs p q r s : List ℕ)
         omega (arith, products_sum 16 us vs a b, first, second, third, fourth)
 
 -- the low and the high words of numbers of 64 bits
-pub low_fits : (sums : List ℕ) (k : ℕ) → k < 4 → get_or sums k 0 % 2 ^ 32 < 2 ^ 32
-low_fits sums k l = mod-lt (get_or sums k 0) (omega arith)
+pub low_fits : (h : ℕ) (numbers : List ℕ) (k : ℕ) → k < h → get_or numbers k 0 % 2 ^ 32 < 2 ^ 32
+low_fits h numbers k l = mod-lt (get_or numbers k 0) (omega arith)
 
-pub high_fits : (sums : List ℕ) → AreBelow 4 (2 ^ 64) sums → (k : ℕ) → k < 4 → get_or sums k 0 / 2 ^ 32 < 2 ^ 32
-high_fits sums h k l = let f = h k l in omega (arith, f)
+pub high_fits : (h : ℕ) (numbers : List ℕ) → ((k : ℕ) → get_or numbers k 0 < 2 ^ 64) → (k : ℕ) → k < h → get_or numbers k 0 / 2 ^ 32 < 2 ^ 32
+high_fits h numbers short k l = let f = short k in omega (arith, f)
 
 -- words that are added to sums of fewer than 2^32 words, lane by lane
-module _ (lanes words : List ℕ) (a : length lanes ≡ 4) (b : length words ≡ 4) (room : AreWordSums (2 ^ 32 - 1) lanes)
-    (word : ℕ → ℕ) (is : (k : ℕ) → k < 4 → get_or words k 0 ≡ word k) (short : (k : ℕ) → k < 4 → word k < 2 ^ 32) where
-  added : (k : ℕ) → k < 4 → get_or (zip2 plus lanes words) k 0 ≡ get_or lanes k 0 + word k
+module _ (h : ℕ) (lanes words : List ℕ) (a : length lanes ≡ h) (b : length words ≡ h) (room : AreWordSums h (2 ^ 32 - 1) lanes)
+    (word : ℕ → ℕ) (is : (k : ℕ) → k < h → get_or words k 0 ≡ word k) (short : (k : ℕ) → k < h → word k < 2 ^ 32) where
+  pub added : (k : ℕ) → k < h → get_or (zip2 plus lanes words) k 0 ≡ get_or lanes k 0 + word k
   added k l =
       let most = room k l in
       let w = short k l in
-      sum_lane 4 lanes words a b k l (word k) (is k l) (omega (arith, most, w))
+      sum_lane h lanes words a b k l (word k) (is k l) (omega (arith, most, w))
 
-  pub added_step : (n : ℕ) → AreWordSums n lanes → AreWordSums (n + 1) (zip2 plus lanes words)
+  pub added_step : (n : ℕ) → AreWordSums h n lanes → AreWordSums h (n + 1) (zip2 plus lanes words)
   added_step n held k l =
       let e = added k l in
-      let h = held k l in
+      let most = held k l in
       let w = short k l in
-      omega (arith, e, h, w)
+      omega (arith, e, most, w)
 
-  pub sum_added : sum_of_lanes (zip2 plus lanes words) ≡ sum_of_lanes lanes + (word 0 + word 1 + word 2 + word 3)
-  sum_added =
-      let first = added 0 (omega arith) in
-      let second = added 1 (omega arith) in
-      let third = added 2 (omega arith) in
-      let fourth = added 3 (omega arith) in
-      omega (arith, first, second, third, fourth)
+-- four lanes to which words were added
+pub sum_added : (lanes sums : List ℕ) (word : ℕ → ℕ) → ((k : ℕ) → k < 4 → get_or sums k 0 ≡ get_or lanes k 0 + word k)
+    → sum_of_lanes sums ≡ sum_of_lanes lanes + (word 0 + word 1 + word 2 + word 3)
+sum_added lanes sums word added =
+    let first = added 0 (omega arith) in
+    let second = added 1 (omega arith) in
+    let third = added 2 (omega arith) in
+    let fourth = added 3 (omega arith) in
+    omega (arith, first, second, third, fourth)
 
 -- the low and the high words of numbers, added apart
 pub total_added : (low high lows highs sums : List ℕ)

@@ -1,6 +1,6 @@
 //! Sums of products of words below 2^31, sixteen at a time: four of them in each of four lanes of 64 bits, and of
 //! these sums the low and the high words summed up apart.
-ghost use Rattle.std.specs.Prelude.{◌≡◌, ℕ, ◌+◌, ◌-◌, ◌^◌, ◌<◌, length};
+ghost use Rattle.std.specs.Prelude.{◌≡◌, ℕ, ◌+◌, ◌-◌, ◌/◌, ◌%◌, ◌^◌, ◌<◌, length, slice_index};
 ghost use Rattle.p3_kernels.specs.Words.{AreBelow};
 ghost use Rattle.p3_kernels.specs.ProductSums.{AreWordSums, sum_of_lanes, total};
 ghost use Rattle.p3_theory.specs.ResidueRings.SumsOfProducts.{sum_of_products};
@@ -28,24 +28,48 @@ fn lanes_of_products(left: &[u32], right: &[u32]) -> u64x4
     sums_of_four::<4>(first.0, first.1, last.0, last.1)
 }
 
+/// The sums to which the low words of numbers are added, lane by lane.
+#[inline(always)]
+pub(crate) fn add_low_words<const H: usize>(sums: Simd<u64, H>, numbers: Simd<u64, H>) -> Simd<u64, H>
+    requires room { AreWordSums H (2 ^ 32 - 1) sums }
+    ensures width { length result ≡ H }
+    ensures step { (n : ℕ) → AreWordSums H n sums.entry → AreWordSums H (n + 1) result }
+    ensures value { (k : ℕ) → k < H → slice_index result k ≡ slice_index sums.entry k + slice_index numbers.entry k % 2 ^ 32 }
+{
+    let words = low_words::<H>(numbers);
+    sums + words
+}
+
+/// The sums to which the high words of numbers are added, lane by lane.
+#[inline(always)]
+pub(crate) fn add_high_words<const H: usize>(sums: Simd<u64, H>, numbers: Simd<u64, H>) -> Simd<u64, H>
+    requires room { AreWordSums H (2 ^ 32 - 1) sums }
+    ensures width { length result ≡ H }
+    ensures step { (n : ℕ) → AreWordSums H n sums.entry → AreWordSums H (n + 1) result }
+    ensures value { (k : ℕ) → k < H → slice_index result k ≡ slice_index sums.entry k + slice_index numbers.entry k / 2 ^ 32 }
+{
+    let words = high_words::<H>(numbers);
+    sums + words
+}
+
 /// The sums of low and of high words, to which those of the products of sixteen words by sixteen others are
 /// added, in one step of fewer than 2^32.
 #[inline(always)]
 pub fn add_products(low: u64x4, high: u64x4, left: &[u32; 16], right: &[u32; 16]) -> (u64x4, u64x4)
     requires left { AreBelow 16 (2 ^ 31) left.now }
     requires right { AreBelow 16 (2 ^ 31) right.now }
-    requires low_room { AreWordSums (2 ^ 32 - 1) low }
-    requires high_room { AreWordSums (2 ^ 32 - 1) high }
+    requires low_room { AreWordSums 4 (2 ^ 32 - 1) low }
+    requires high_room { AreWordSums 4 (2 ^ 32 - 1) high }
     ensures low_width { length result.0 ≡ 4 }
     ensures high_width { length result.1 ≡ 4 }
-    ensures low_step { (n : ℕ) → AreWordSums n low → AreWordSums (n + 1) result.0 }
-    ensures high_step { (n : ℕ) → AreWordSums n high → AreWordSums (n + 1) result.1 }
+    ensures low_step { (n : ℕ) → AreWordSums 4 n low → AreWordSums 4 (n + 1) result.0 }
+    ensures high_step { (n : ℕ) → AreWordSums 4 n high → AreWordSums 4 (n + 1) result.1 }
     ensures value { total result.0 result.1 ≡ total low high + sum_of_products (λ word. word) left.now right.now }
 {
     let sums = lanes_of_products(&left[..], &right[..]);
-    let lows = low_words::<4>(sums);
-    let highs = high_words::<4>(sums);
-    (low + lows, high + highs)
+    let lows = add_low_words::<4>(low, sums);
+    let highs = add_high_words::<4>(high, sums);
+    (lows, highs)
 }
 
 /// The sum of four lanes.

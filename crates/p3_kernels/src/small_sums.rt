@@ -4,8 +4,22 @@ ghost use Rattle.std.specs.Simd.Lanes.{sum_l};
 ghost use Rattle.p3_kernels.specs.Words.{AreBelow, product_at};
 ghost use Rattle.p3_theory.specs.ResidueRings.SumsOfProducts.{sum_of_products};
 
-use crate::halfwords::{halfwords_of_8, join_halfwords_8};
+use crate::halfwords::{halfwords_of_4, halfwords_of_8, join_halfwords_4, join_halfwords_8};
 use std::simd::prelude::*;
+
+/// The products of four words by four others, which have 16 bits: those of the halves are these, and zeros.
+#[inline(always)]
+pub fn whole_products_4(left: u32x4, right: u32x4) -> u32x4
+    requires left { AreBelow 4 (2 ^ 8) left }
+    requires right { AreBelow 4 (2 ^ 8) right }
+    ensures width { length result ≡ 4 }
+    ensures lanes { (k : ℕ) → k < 4 → slice_index result k ≡ product_at left right k }
+{
+    let x = halfwords_of_4(left);
+    let y = halfwords_of_4(right);
+    let products = x * y;
+    join_halfwords_4(products)
+}
 
 /// The products of eight words by eight others, which have 16 bits: those of the halves are these, and zeros.
 #[inline(always)]

@@ -8,7 +8,7 @@ use std::simd::prelude::*;
 
 /// The products of the low words of pairs.
 #[inline(always)]
-fn low_products<const H: usize>(left: Simd<u64, H>, right: Simd<u64, H>) -> Simd<u64, H>
+pub(crate) fn low_products<const H: usize>(left: Simd<u64, H>, right: Simd<u64, H>) -> Simd<u64, H>
     ensures width { length result ≡ H }
     ensures lanes { (k : ℕ) → k < H → slice_index result k ≡ slice_index left.entry k % 2 ^ 32 * (slice_index right.entry k % 2 ^ 32) }
 {
@@ -19,7 +19,7 @@ fn low_products<const H: usize>(left: Simd<u64, H>, right: Simd<u64, H>) -> Simd
 
 /// The products of the high words of pairs.
 #[inline(always)]
-fn high_products<const H: usize>(left: Simd<u64, H>, right: Simd<u64, H>) -> Simd<u64, H>
+pub(crate) fn high_products<const H: usize>(left: Simd<u64, H>, right: Simd<u64, H>) -> Simd<u64, H>
     ensures width { length result ≡ H }
     ensures lanes { (k : ℕ) → k < H → slice_index result k ≡ slice_index left.entry k / 2 ^ 32 * (slice_index right.entry k / 2 ^ 32) }
 {

@@ -1,0 +1,32 @@
+-- Sums of products of rows of words, at a lane.
+use Rattle.std.proofs.Common.{get_or, ◌≡◌, ℕ, ◌+◌, ◌*◌, ◌<◌, ◌≤◌, ◌^◌, List, length, drop, arith, ap}
+use Rattle.std.proofs.Math.Nat.{mul-le-mul}
+use Rattle.std.proofs.lemmas.List.{drop_all}
+use Rattle.p3_theory.specs.ResidueRings.SumsOfProducts.{sum_of_products, products-drop}
+
+-- the product of two words below 2^31
+pub product_short : (x y : ℕ) → x < 2 ^ 31 → y < 2 ^ 31 → x * y < 2 ^ 62
+product_short x y h k =
+    let most = mul-le-mul (let e : x ≤ 2147483647 = omega (arith, h) in e) (let e : y ≤ 2147483647 = omega (arith, k) in e) in
+    omega (arith, most)
+
+module _ {A : Type 0} (word : A → ℕ) (us vs : List A) (same : length us ≡ length vs) (start : ℕ) (room : start + 4 ≤ length us) where
+  -- the products of the rows at four indices, and of those after them
+  pub four_products : (a b c d e f g h : A) → a ≡ get_or us start a → b ≡ get_or us (start + 1) b → c ≡ get_or us (start + 2) c → d ≡ get_or us (start + 3) d
+      → e ≡ get_or vs start e → f ≡ get_or vs (start + 1) f → g ≡ get_or vs (start + 2) g → h ≡ get_or vs (start + 3) h
+      → word a * word e + word b * word f + (word c * word g + word d * word h) + sum_of_products word (drop (start + 4) us) (drop (start + 4) vs)
+      ≡ sum_of_products word (drop start us) (drop start vs)
+  four_products a b c d e f g h ea eb ec ed ee ef eg eh =
+      let first = products-drop word us vs start a e (omega (arith, room)) (omega (arith, room, same)) ea ee in
+      let second = products-drop word us vs (start + 1) b f (omega (arith, room)) (omega (arith, room, same)) eb ef in
+      let third = products-drop word us vs (start + 2) c g (omega (arith, room)) (omega (arith, room, same)) ec eg in
+      let fourth = products-drop word us vs (start + 3) d h (omega (arith, room)) (omega (arith, room, same)) ed eh in
+      let at : ℕ → ℕ = λ n. sum_of_products word (drop n us) (drop n vs) in
+      let two : at (start + 1 + 1) ≡ at (start + 2) = ap at (let e : start + 1 + 1 ≡ start + 2 = omega arith in e) in
+      let three : at (start + 2 + 1) ≡ at (start + 3) = ap at (let e : start + 2 + 1 ≡ start + 3 = omega arith in e) in
+      let four : at (start + 3 + 1) ≡ at (start + 4) = ap at (let e : start + 3 + 1 ≡ start + 4 = omega arith in e) in
+      omega (arith, first, second, third, fourth, two, three, four)
+
+-- past the end of a list there is nothing to sum up
+pub none-left : {A : Type 0} (word : A → ℕ) (i : ℕ) (xs ys : List A) → length xs ≤ i → sum_of_products word (drop i xs) ys ≡ 0
+none-left word i xs ys past = ap (λ zs. sum_of_products word zs ys) (drop_all i xs past)

@@ -1,0 +1,207 @@
+//! Sums of the products of rows of words below 2^31, lane by lane of two lists of rows: four products are summed up
+//! in 64 bits, and of these sums the low and the high words apart.
+ghost use Rattle.std.specs.Prelude.{◌≡◌, ℕ, ◌+◌, ◌-◌, ◌*◌, ◌/◌, ◌%◌, ◌^◌, ◌<◌, ◌≤◌, IfSome, drop, get_or, length, slice_index};
+ghost use Rattle.p3_kernels.specs.ProductSums.{sum_at};
+ghost use Rattle.p3_kernels.specs.Words.{AreBelow, AreReduced};
+ghost use Rattle.p3_theory.specs.ResidueRings.SumsOfProducts.{sum_of_products};
+
+use crate::product_sums::{add_high_words, add_low_words};
+use crate::wide_products::{high_products, low_products, sums_of_four};
+use p3_bench_residues::montgomery::montgomery_sum;
+use std::simd::prelude::*;
+
+/// A row of N words.
+pub trait WordRow<const N: usize> {
+    /// The word at a lane.
+    ghost word: { ℕ → Self → ℕ };
+
+    /// The word at a lane.
+    fn word_at(&self, lane: usize) -> u32
+        requires { lane < N }
+        ensures { result ≡ word lane self.now };
+}
+
+/// The words of 2 H lanes from one on, two by two: the first of a pair low, the second one high.
+#[inline(always)]
+fn word_pairs<R: WordRow<N>, const N: usize, const H: usize>(row: &R, lane: usize) -> Simd<u64, H>
+    requires { lane + 2 * H ≤ N }
+    ensures width { length result ≡ H }
+    ensures low { (k : ℕ) → k < H → slice_index result k % 2 ^ 32 ≡ R.word (lane + 2 * k) row.now }
+    ensures high { (k : ℕ) → k < H → slice_index result k / 2 ^ 32 ≡ R.word (lane + 2 * k + 1) row.now }
+{
+    let mut pairs = [0u64; H];
+    for k in 0..H {
+        let low = row.word_at(lane + 2 * k);
+        let high = row.word_at(lane + 2 * k + 1);
+        pairs[k] = low as u64 + 0x1_0000_0000 * high as u64;
+    }
+    Simd::from_array(pairs)
+}
+
+/// The products of the words of two rows at every second of 2 H lanes, from the first or, with `ODD` at 1, from the
+/// second of them on.
+#[inline(always)]
+fn products_of_rows<R: WordRow<N>, const N: usize, const H: usize, const ODD: usize>(
+    left: &R,
+    right: &R,
+    lane: usize,
+) -> Simd<u64, H>
+    requires inside { lane + 2 * H ≤ N }
+    requires odd { ODD ≤ 1 }
+    ensures width { length result ≡ H }
+    ensures value { (k : ℕ) → k < H → slice_index result k ≡ R.word (lane + 2 * k + ODD) left.now * R.word (lane + 2 * k + ODD) right.now }
+{
+    let x = word_pairs::<R, N, H>(left, lane);
+    let y = word_pairs::<R, N, H>(right, lane);
+    if ODD == 0 {
+        low_products::<H>(x, y)
+    } else {
+        high_products::<H>(x, y)
+    }
+}
+
+/// The same products, summed up over four rows from an index on.
+#[inline(always)]
+fn products_of_four_rows<R: WordRow<N>, const N: usize, const H: usize, const ODD: usize>(
+    u: &[R],
+    v: &[R],
+    start: usize,
+    lane: usize,
+) -> Simd<u64, H>
+    requires lengths { length u.now ≡ length v.now }
+    requires room { start + 4 ≤ length u.now }
+    requires inside { lane + 2 * H ≤ N }
+    requires odd { ODD ≤ 1 }
+    requires short { (k : ℕ) (x : R) → k < N → R.word k x < 2 ^ 31 }
+    ensures width { length result ≡ H }
+    ensures value { (k : ℕ) → k < H → slice_index result k + sum_of_products (R.word (lane + 2 * k + ODD)) (drop (start + 4) u.now) (drop (start + 4) v.now)
+        ≡ sum_of_products (R.word (lane + 2 * k + ODD)) (drop start u.now) (drop start v.now) }
+{
+    let first = products_of_rows::<R, N, H, ODD>(&u[start], &v[start], lane);
+    let second = products_of_rows::<R, N, H, ODD>(&u[start + 1], &v[start + 1], lane);
+    let third = products_of_rows::<R, N, H, ODD>(&u[start + 2], &v[start + 2], lane);
+    let fourth = products_of_rows::<R, N, H, ODD>(&u[start + 3], &v[start + 3], lane);
+    sums_of_four::<H>(first, second, third, fourth)
+}
+
+/// Writes at 2 H lanes from one on what the sums of low and of high words come to: those of the even lanes, and of
+/// the odd ones between them.
+#[inline(always)]
+fn write_sums<const H: usize>(
+    totals: &mut [u128],
+    lane: usize,
+    even_low: Simd<u64, H>,
+    even_high: Simd<u64, H>,
+    odd_low: Simd<u64, H>,
+    odd_high: Simd<u64, H>,
+)
+    requires inside { lane + 2 * H ≤ length totals.old }
+    ensures length { length totals.new ≡ length totals.old }
+    ensures value { (number : ℕ → ℕ) → ((j : ℕ) → j < lane → slice_index totals.old j ≡ number j)
+        → ((k : ℕ) → k < H → sum_at even_low.entry even_high.entry k ≡ number (lane + 2 * k))
+        → ((k : ℕ) → k < H → sum_at odd_low.entry odd_high.entry k ≡ number (lane + 2 * k + 1))
+        → (j : ℕ) → j < lane + 2 * H → slice_index totals.new j ≡ number j }
+{
+    let even_lows = even_low.to_array();
+    let even_highs = even_high.to_array();
+    let odd_lows = odd_low.to_array();
+    let odd_highs = odd_high.to_array();
+    for k in 0..H {
+        totals[lane + 2 * k] = even_lows[k] as u128 + 0x1_0000_0000 * even_highs[k] as u128;
+        totals[lane + 2 * k + 1] = odd_lows[k] as u128 + 0x1_0000_0000 * odd_highs[k] as u128;
+    }
+}
+
+/// Writes the sums of the products of two lists of rows at 2 H lanes from one on, after those of the lanes before.
+#[inline(always)]
+fn write_lanes<R: WordRow<N>, const N: usize, const H: usize>(
+    totals: &mut [u128],
+    u: &[R],
+    v: &[R],
+    lane: usize,
+)
+    requires inside { lane + 2 * H ≤ N }
+    requires width { length totals.old ≡ N }
+    requires lengths { length u.now ≡ length v.now }
+    requires few { length u.now ≤ 2 ^ 16 }
+    requires short { (k : ℕ) (x : R) → k < N → R.word k x < 2 ^ 31 }
+    ensures length { length totals.new ≡ N }
+    ensures value { ((j : ℕ) → j < lane → slice_index totals.old j ≡ sum_of_products (R.word j) u.now v.now)
+        → (j : ℕ) → j < lane + 2 * H → slice_index totals.new j ≡ sum_of_products (R.word j) u.now v.now }
+{
+    let mut even_low = Simd::<u64, H>::splat(0);
+    let mut even_high = Simd::<u64, H>::splat(0);
+    let mut odd_low = Simd::<u64, H>::splat(0);
+    let mut odd_high = Simd::<u64, H>::splat(0);
+    let blocks = u.len() / 4;
+    for i in 0..blocks {
+        let even = products_of_four_rows::<R, N, H, 0>(u, v, 4 * i, lane);
+        let odd = products_of_four_rows::<R, N, H, 1>(u, v, 4 * i, lane);
+        even_low = add_low_words::<H>(even_low, even);
+        even_high = add_high_words::<H>(even_high, even);
+        odd_low = add_low_words::<H>(odd_low, odd);
+        odd_high = add_high_words::<H>(odd_high, odd);
+    }
+    for i in 4 * blocks..u.len() {
+        let last_even = products_of_rows::<R, N, H, 0>(&u[i], &v[i], lane);
+        let last_odd = products_of_rows::<R, N, H, 1>(&u[i], &v[i], lane);
+        even_low = add_low_words::<H>(even_low, last_even);
+        even_high = add_high_words::<H>(even_high, last_even);
+        odd_low = add_low_words::<H>(odd_low, last_odd);
+        odd_high = add_high_words::<H>(odd_high, last_odd);
+    }
+    write_sums::<H>(totals, lane, even_low, even_high, odd_low, odd_high);
+}
+
+/// The sums of the products of two lists of rows, lane by lane. `None` where the number of lanes is neither four
+/// nor a multiple of eight.
+#[inline(always)]
+pub fn sums_of_rows<R: WordRow<N>, const N: usize>(u: &[R], v: &[R]) -> Option<[u128; N]>
+    requires lengths { length u.now ≡ length v.now }
+    requires few { length u.now ≤ 2 ^ 16 }
+    requires short { (k : ℕ) (x : R) → k < N → R.word k x < 2 ^ 31 }
+    ensures length { IfSome result (λ sums. length sums ≡ N) }
+    ensures value { IfSome result (λ sums. (k : ℕ) → k < N → slice_index sums k ≡ sum_of_products (R.word k) u.now v.now) }
+{
+    let mut totals = [0u128; N];
+    if N == 4 {
+        write_lanes::<R, N, 2>(&mut totals[..], u, v, 0);
+        return Some(totals);
+    }
+    if N % 8 > 0 {
+        return None;
+    }
+    for block in 0..N / 8 {
+        write_lanes::<R, N, 4>(&mut totals[..], u, v, 8 * block);
+    }
+    Some(totals)
+}
+
+/// The residues that are, lane by lane, the sums of the products of two lists of rows once they are multiplied by
+/// 2^32. `None` as `sums_of_rows`.
+#[inline(always)]
+pub fn montgomery_sums_of_rows<R: WordRow<N>, const N: usize>(
+    u: &[R],
+    v: &[R],
+    order: u32,
+    inverse: u32,
+) -> Option<[u32; N]>
+    requires above { 1 < order }
+    requires fits { order < 2 ^ 31 }
+    requires inverse { (order * inverse) % 2 ^ 32 ≡ 1 }
+    requires lanes { N ≤ 64 }
+    requires lengths { length u.now ≡ length v.now }
+    requires few { length u.now ≤ 2 ^ 16 }
+    requires short { (k : ℕ) (x : R) → k < N → R.word k x < 2 ^ 31 }
+    ensures length { IfSome result (λ words. length words ≡ N) }
+    ensures below { IfSome result (λ words. AreBelow N order words) }
+    ensures value { IfSome result (λ words. AreReduced N order (λ k. sum_of_products (R.word k) u.now v.now) words) }
+{
+    let totals = sums_of_rows::<R, N>(u, v)?;
+    let mut words = [0u32; N];
+    for k in 0..N {
+        let word = montgomery_sum(totals[k], order, inverse);
+        words[k] = word;
+    }
+    Some(words)
+}
