@@ -1,2 +1,3 @@
 mod LaneDotProducts
 mod PaddedRows
+mod SliceDotProducts

@@ -33,7 +33,10 @@ pub trait LaneDotProducts<const N: usize>: PrimeCharacteristicRing {
 
     /// The dot product of two slices of at most 2^16 packings. `None` where the type has no way that is faster than a
     /// few packings after the others.
-    fn slice_dot_product(left: &[Packed<Self, N>], right: &[Packed<Self, N>]) -> Option<Packed<Self, N>>
+    fn slice_dot_product(
+        left: &[Packed<Self, N>],
+        right: &[Packed<Self, N>],
+    ) -> Option<Packed<Self, N>>
         requires few { length left.now ≤ 2 ^ 16 }
         requires lengths { length left.now ≡ length right.now }
         ensures { IfSome result (λ sum. sum ≡ dot (row_ops packed_rows Self.ops) left.now right.now) };
@@ -109,10 +112,13 @@ impl<W: Form<T>, T: Word, const N: usize> LaneDotProducts<N> for Fp<W, T> {
     }
 
     #[inline(always)]
-    fn slice_dot_product(left: &[Packed<Self, N>], right: &[Packed<Self, N>]) -> Option<Packed<Self, N>> {
+    fn slice_dot_product(
+        left: &[Packed<Self, N>],
+        right: &[Packed<Self, N>],
+    ) -> Option<Packed<Self, N>> {
         if W::INVERSE > 0 && N <= MOST_LANES {
             montgomery_dot_of_slices::<W, T, N>(left, right)
-        } else if W::PLAIN && W::ORDER <= SHORT_ORDERS {
+        } else if W::PLAIN && W::ORDER <= SHORT_ORDERS && N <= MOST_LANES {
             small_dot_of_slices::<W, T, N>(left, right)
         } else {
             None

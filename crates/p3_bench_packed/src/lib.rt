@@ -11,6 +11,7 @@ pub mod operators;
 pub mod packed;
 pub mod ring;
 pub mod scalar_operators;
+mod slice_dot_products;
 mod wide_products;
 
 pub use packed::Packed;

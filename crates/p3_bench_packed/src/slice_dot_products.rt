@@ -38,8 +38,7 @@ pub(crate) fn montgomery_dot_of_slices<W: Form<T>, T: Word, const N: usize>(
     ensures { IfSome result (λ sum. sum ≡ dot (row_ops packed_rows (ops W.Form)) left.now right.now) }
 {
     let order = W::ORDER as u32;
-    let words =
-        montgomery_sums_of_rows::<Packed<Fp<W, T>, N>, N>(left, right, order, W::INVERSE)?;
+    let words = montgomery_sums_of_rows::<Packed<Fp<W, T>, N>, N>(left, right, order, W::INVERSE)?;
     let values = values_of::<W, T, N>(&words);
     Some(Packed::new(values))
 }
@@ -52,6 +51,7 @@ pub(crate) fn small_dot_of_slices<W: Form<T>, T: Word, const N: usize>(
 ) -> Option<Packed<Fp<W, T>, N>>
     requires plain { W.PLAIN ≡ true }
     requires small { W.ORDER ≤ 2 ^ 8 }
+    requires lanes { N ≤ 64 }
     requires few { length left.now ≤ 2 ^ 16 }
     requires lengths { length left.now ≡ length right.now }
     ensures { IfSome result (λ sum. sum ≡ dot (row_ops packed_rows (ops W.Form)) left.now right.now) }

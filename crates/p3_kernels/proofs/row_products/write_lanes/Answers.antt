@@ -9,6 +9,6 @@ returns-clause-value g c before =
     let held = c.loop-i-2.invariant in
     let past : length c.args.u.now ≤ c.loop-i-2.i = omega (arith, c.loop-i-2-test.false) in
     let none : (j : ℕ) → sum_of_products (word j) (drop c.loop-i-2.i c.args.u.now) (drop c.loop-i-2.i c.args.v.now) ≡ 0 =
-        λ j. none-left (word j) c.loop-i-2.i c.args.u.now (drop c.loop-i-2.i c.args.v.now) past in
+    λ j. none-left (word j) c.loop-i-2.i c.args.u.now (drop c.loop-i-2.i c.args.v.now) past in
     c.write_sums.ensures.value (λ j. sum_of_products (word j) c.args.u.now c.args.v.now) before
     (λ k l. omega (arith, held.4 k l, none (c.args.lane + 2 * k))) (λ k l. omega (arith, held.5 k l, none (c.args.lane + 2 * k + 1)))

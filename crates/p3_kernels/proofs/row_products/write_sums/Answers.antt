@@ -16,7 +16,8 @@ loop-k-preserved g c =
       λ number before evens odds j l.
           word-stored (λ j w. w ≡ number j) (i + 1) odd (slice_set vs i even) (omega (arith, room, length-set vs i even))
           (word-stored (λ j w. w ≡ number j) i even vs (omega (arith, room)) (held.1 number before evens odds) (evens c.loop-k.k c.loop-k-test.true))
-          (odds c.loop-k.k c.loop-k-test.true) j (omega (arith, l)))
+          (odds c.loop-k.k c.loop-k-test.true) j (omega (arith, l)),
+    )
 
 pub returns-clause-value : goal.returns-clause-value
 returns-clause-value g c number before evens odds j l = c.loop-k.invariant.1 number before evens odds j (omega (arith, l, c.loop-k-test.false))
