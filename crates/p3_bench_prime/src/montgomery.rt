@@ -7,7 +7,7 @@ use crate::form::{Form, Order, OverModulus, ShortForm, add_short};
 use crate::fp::Fp;
 use crate::short_sums::{ShortWord, sum_last_products, sum_products};
 use p3_bench_residues::montgomery::{
-    montgomery_product, montgomery_reduce_word, montgomery_short_sum, montgomery_sum,
+    montgomery_product, montgomery_reduce_word, montgomery_residue, montgomery_short_sum, montgomery_sum,
 };
 use p3_bench_residues::remainder::remainder_of_sum;
 use p3_bench_residues::short_words::{add_words, halve_word, negate_word, subtract_words};
@@ -153,7 +153,7 @@ impl<M: MontgomeryModulus> Form<u32> for Montgomery<M> {
 
     #[inline]
     fn decode(stored: u32) -> u64 {
-        reduced_product::<M>(stored, 1) as u64
+        montgomery_residue(stored, M::ORDER, M::INVERSE) as u64
     }
 
     #[inline]

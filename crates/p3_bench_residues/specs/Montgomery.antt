@@ -82,8 +82,8 @@ module _ (p r i : ℕ) (unit : (r * i) % p ≡ 1) where
   divided t c h e = sym (undone t h) ∙ ap (λ z. (z * i) % p) e ∙ mul-mod_first c i p
 
   -- a reduction of a word is its residue
-  pub residue_reduced : (t w : ℕ) → t < p → (t * r) % p ≡ (w * 1) % p → t ≡ canon w
-  residue_reduced t w h e = divided t w h (e ∙ ap (λ z. z % p) (mul-one w))
+  pub residue_reduced : (t w : ℕ) → t < p → (t * r) % p ≡ w % p → t ≡ canon w
+  residue_reduced t w h e = divided t w h e
 
   -- a reduction of a number times r^2 is the word of its residue
   pub word_reduced : (t n s : ℕ) → t < p → s ≡ (r * r) % p → (t * r) % p ≡ (s * n) % p → t ≡ (n * r) % p

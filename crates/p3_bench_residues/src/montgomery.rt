@@ -46,6 +46,18 @@ pub fn montgomery_product(left: u32, right: u32, order: u32, inverse: u32) -> u3
     montgomery_reduce_word(left as u64 * right as u64, order, inverse)
 }
 
+/// The residue that a word holds: it is the word once it is multiplied by 2^32.
+#[inline]
+pub fn montgomery_residue(word: u32, order: u32, inverse: u32) -> u32
+    requires fits { order < 2 ^ 31 }
+    requires inverse { (order * inverse) % 2 ^ 32 ≡ 1 }
+    requires word { word < order }
+    ensures below { result < order }
+    ensures value { (result * 2 ^ 32) % order ≡ word % order }
+{
+    montgomery_product(word, 1, order, inverse)
+}
+
 /// The residue that is a sum of 128 bits once it is multiplied by 2^32. What stands above the low 32
 /// bits is reduced first; of most sums it is one word.
 #[inline]

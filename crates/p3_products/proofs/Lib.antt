@@ -1,4 +1,3 @@
 mod FirstSums
-mod FixedDegrees
 mod ProductRows
 mod Readings

@@ -1,6 +1,6 @@
 ghost use Rattle.std.specs.Prelude.{◌≡◌, ◌≤◌, length, map, replicate, IsTrue, IsFalse};
 ghost use Rattle.p3_theory.specs.Polynomials.Polynomial.{quotient_mul, quotient_add, binomial};
-ghost use Rattle.p3_theory.specs.Rings.Powers.{scale_powers};
+ghost use Rattle.p3_theory.specs.Rings.Powers.{power, scale_powers};
 ghost use Rattle.p3_products.specs.FixedFormulas.{has_fixed_formula};
 
 use crate::binomial_products::{
@@ -35,12 +35,30 @@ fn general_mul<F: PrimeCharacteristicRing, A: Algebra<F>, const D: usize>(
     }
 }
 
-/// Whether products of this degree have a formula of their own.
+/// Writes the product modulo `X^D - W` at a degree that has a formula of its own; whether it has one.
 #[inline]
-fn is_fixed(degree: usize) -> bool
-    ensures { result ≡ has_fixed_formula degree }
+fn fixed_mul<F: PrimeCharacteristicRing, A: Algebra<F>, const D: usize>(
+    a: &[A],
+    b: &[A],
+    res: &mut [A],
+    w: F,
+) -> bool
+    requires left { length a.now ≡ D }
+    requires right { length b.now ≡ D }
+    requires room { length res.old ≡ D }
+    ensures formula { result ≡ has_fixed_formula D }
+    ensures product { IsTrue result → res.new ≡ quotient_mul A.ops D (binomial A.ops D (A.embed w)) a.now b.now }
+    ensures kept { IsFalse result → res.new ≡ res.old }
 {
-    degree == 2 || degree == 3 || degree == 4 || degree == 5 || degree == 8
+    match D {
+        2 => quadratic_mul(a, b, res, w),
+        3 => cubic_mul(a, b, res, w),
+        4 => quartic_product(a, b, res, w),
+        5 => quintic_product(a, b, res, w),
+        8 => octic_product(a, b, res, w),
+        _ => return false,
+    }
+    true
 }
 
 /// The product of two lists of D coefficients of one algebra modulo `X^D - W`, as `binomial_mul`
@@ -59,13 +77,8 @@ fn algebra_mul<F: PrimeCharacteristicRing, A: Algebra<F>, const D: usize>(
     ensures becomes { IsTrue (has_fixed_formula D) → res.new ≡ quotient_mul A.ops D (binomial A.ops D (A.embed w)) a.now b.now }
     ensures added { IsFalse (has_fixed_formula D) → res.new ≡ quotient_add A.ops D res.old (quotient_mul A.ops D (binomial A.ops D (A.embed w)) a.now b.now) }
 {
-    match D {
-        2 => quadratic_mul(a, b, res, w),
-        3 => cubic_mul(a, b, res, w),
-        4 => quartic_product(a, b, res, w),
-        5 => quintic_product(a, b, res, w),
-        8 => octic_product(a, b, res, w),
-        _ => general_mul::<F, A, D>(a, b, res, w),
+    if !fixed_mul::<F, A, D>(a, b, res, w) {
+        general_mul::<F, A, D>(a, b, res, w);
     }
 }
 
@@ -144,6 +157,30 @@ where
     octic_product(a, &embedded, res, w);
 }
 
+/// Writes the square modulo `X^D - W` at a degree that has a formula of its own; whether it has one.
+#[inline]
+fn fixed_square<F: PrimeCharacteristicRing, A: Algebra<F>, const D: usize>(
+    a: &[A],
+    res: &mut [A],
+    w: F,
+) -> bool
+    requires input { length a.now ≡ D }
+    requires room { length res.old ≡ D }
+    ensures formula { result ≡ has_fixed_formula D }
+    ensures product { IsTrue result → res.new ≡ quotient_mul A.ops D (binomial A.ops D (A.embed w)) a.now a.now }
+    ensures kept { IsFalse result → res.new ≡ res.old }
+{
+    match D {
+        2 => quadratic_square(a, res, w),
+        3 => cubic_square(a, res, w),
+        4 => quartic_square(a, res, w),
+        5 => quintic_square(a, res, w),
+        8 => octic_square(a, res, w),
+        _ => return false,
+    }
+    true
+}
+
 /// The square of a list of D coefficients modulo `X^D - W`, in the place of `binomial_mul` with
 /// itself. Upstream's `binomial_square`.
 #[inline]
@@ -158,13 +195,8 @@ pub fn binomial_square<F: PrimeCharacteristicRing, A: Algebra<F>, const D: usize
     ensures becomes { IsTrue (has_fixed_formula D) → res.new ≡ quotient_mul A.ops D (binomial A.ops D (A.embed w)) a.now a.now }
     ensures added { IsFalse (has_fixed_formula D) → res.new ≡ quotient_add A.ops D res.old (quotient_mul A.ops D (binomial A.ops D (A.embed w)) a.now a.now) }
 {
-    match D {
-        2 => quadratic_square(a, res, w),
-        3 => cubic_square(a, res, w),
-        4 => quartic_square(a, res, w),
-        5 => quintic_square(a, res, w),
-        8 => octic_square(a, res, w),
-        _ => general_mul::<F, A, D>(a, a, res, w),
+    if !fixed_square::<F, A, D>(a, res, w) {
+        general_mul::<F, A, D>(a, a, res, w);
     }
 }
 
@@ -193,11 +225,9 @@ pub fn binomial_product<F: PrimeCharacteristicRing, A: Algebra<F>, const D: usiz
     requires room { length res.old ≡ D }
     ensures { res.new ≡ quotient_mul A.ops D (binomial A.ops D (A.embed w)) a.now b.now }
 {
-    if is_fixed(D) {
-        algebra_mul::<F, A, D>(a, b, res, w);
-    } else {
+    if !fixed_mul::<F, A, D>(a, b, res, w) {
         clear(res);
-        algebra_mul::<F, A, D>(a, b, res, w);
+        general_mul::<F, A, D>(a, b, res, w);
     }
 }
 
@@ -229,6 +259,21 @@ pub fn ring_square<R: PrimeCharacteristicRing, const D: usize>(a: &[R], res: &mu
     ensures { res.new ≡ quotient_mul R.ops D (binomial R.ops D w) a.now a.now }
 {
     binomial_square::<R, R, D>(a, res, w);
+}
+
+/// Each coefficient times its power of the power `count` of `root`.
+#[inline]
+pub fn scale_by_repeated_powers<F: PrimeCharacteristicRing>(
+    a: &[F],
+    root: F,
+    count: usize,
+    res: &mut [F],
+)
+    requires { length res.old ≡ length a.now }
+    ensures { res.new ≡ scale_powers F.ops (length a.now) (power F.ops root count) a.now }
+{
+    let repeated = root.exp_u64(count as u64);
+    scale_by_powers(a, repeated, res);
 }
 
 /// Each coefficient times its power of `root`.

@@ -1,5 +1,5 @@
 use super::{Binomial, BinomiallyExtendable, FrobeniusExtendable, InverseByFormula};
-use p3_products::binomial_extension::scale_by_powers;
+use p3_products::binomial_extension::{scale_by_powers, scale_by_repeated_powers};
 use p3_products::binomial_inverses::binomial_inv;
 use p3_products::binomial_products::compute_coefficient;
 use p3_ring::ring::PrimeCharacteristicRing;
@@ -26,8 +26,7 @@ impl<F: BinomiallyExtendable<D>, const D: usize> FrobeniusExtendable<D, Binomial
 
     #[inline]
     fn apply_repeated_frobenius(a: &[F], count: usize, res: &mut [F]) {
-        let root = F::dth_root().exp_u64(count as u64);
-        scale_by_powers(a, root, res);
+        scale_by_repeated_powers(a, F::dth_root(), count, res);
     }
 
     #[inline]

@@ -1,5 +1,5 @@
-use Rattle.std.proofs.Common.{◌≡◌, ◌<◌, ◌≤◌, ◌*◌, ◌%◌, ◌^◌, ◌∙◌, ℕ, ap, arith, rules, sym, subst, get_or}
-use Rattle.std.proofs.Math.Nat.{mod-lt, mod-mod, mul-one}
+use Rattle.std.proofs.Common.{◌≡◌, ◌<◌, ◌≤◌, ◌%◌, ◌^◌, ◌∙◌, ap, arith}
+use Rattle.std.proofs.Math.Nat.{mod-mod, mul-one}
 use Rattle.p3_theory.specs.ResidueRings.SumsOfProducts.{sum_of_products}
 use Rattle.p3_bench_prime.proofs.LaneValues.{own_scale}
 use Rattle.p3_bench_prime.specs.Elements.{of}

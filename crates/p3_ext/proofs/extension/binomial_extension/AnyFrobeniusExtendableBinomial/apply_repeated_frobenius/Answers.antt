@@ -9,7 +9,7 @@ returns g c =
     let o = g.F.PrimeCharacteristicRing.ops in
     let b = g.F.BinomiallyExtendable in
     let m = g.met.F.BinomiallyExtendable in
-    c.scale_by_powers.ensures
-    ∙ ap₂ (λ n r. scale_powers o n r c.args.a.now) c.requires.input (c.exp_u64-root.ensures ∙ ap (λ r. power o r c.args.count) c.dth_root.ensures)
+    c.scale_by_repeated_powers.ensures
+    ∙ ap₂ (λ n r. scale_powers o n r c.args.a.now) c.requires.input (ap (λ r. power o r c.args.count) c.dth_root.ensures)
     ∙ scaled_is_repeated (ring_of g.met.F.PrimeCharacteristicRing.ring) g.row.D g.met.F.ExtensionAlgebra.at_least_two g.F.ExtensionAlgebra.modulus b.w b.dth_root
     m.by_w m.root_power c.args.count c.args.a.now c.requires.input
