@@ -13,6 +13,8 @@ f17 4 extract: 3 1 4 15|2 = 4
 f17 4 set_ext_lane: 3 1 4 15|2|9 = 3 1 9 15
 f17x2 4 packed_ext_powers_capped: 0,1|6 = 1,0 0,1 3,0 0,3;9,0 0,9 10,0 0,10
 f17x2 4 invert_packed_extension: 1,2 1,0 0,1 2,0 = 3,11 1,0 0,6 9,0
+f31c 4 packed_ext mul: 3,2 1,5 0,1 30,30|1,5 1,5 0,1 3,2 = 24,17 7,10 30,0 30,26
+f31c 4 packed_ext square: 3,2 1,5 0,1 30,30 = 5,12 7,10 30,0 0,2
 ";
 
 /// Outside values over `f17x2`.

@@ -2,7 +2,7 @@
 //! packings are generic over the marker of a field: a test then passes the field's constants alone.
 use crate::call_tables as tables;
 use crate::cases::Case;
-use crate::extension_calls::{BaseCalls, ExtensionCalls, ExtensionRooms};
+use crate::extension_calls::{BaseCalls, ComplexCalls, ExtensionCalls, ExtensionRooms};
 use crate::rows::Row;
 use p3_bench_packed::lanes::LaneCount;
 use p3_bench_packed::packed::Packed;
@@ -10,7 +10,7 @@ use p3_bench_prime::binomial_constants::BinomialConstants;
 use p3_bench_prime::form::{Form, OverModulus, Plain};
 use p3_bench_prime::fp::Fp;
 use p3_bench_prime::polynomial_constants::PolynomialConstants;
-use p3_bench_prime::small::{M2, M17};
+use p3_bench_prime::small::{F31, M2, M17};
 use p3_ext::extension::{Binomial, ExtensionShape, IntegerPolynomial, Modulo, Septic};
 use std::alloc::{AllocError, Global};
 use std::process::Abort;
@@ -106,14 +106,17 @@ enum Packings {
     FourF17x2,
     /// Four values of the extension of the bits by `X^7 = X + 1`.
     FourF2t7,
+    /// Four complex values of the residues modulo 31.
+    FourF31c,
 }
 
 /// Their fields and numbers of lanes.
-static NAMES: [(&str, &str, Packings); 4] = [
+static NAMES: [(&str, &str, Packings); 5] = [
     ("f17", "1", Packings::F17),
     ("f17", "4", Packings::FourF17),
     ("f17x2", "4", Packings::FourF17x2),
     ("f2t7", "4", Packings::FourF2t7),
+    ("f31c", "4", Packings::FourF31c),
 ];
 
 /// The packings that a row names.
@@ -134,6 +137,9 @@ fn packings_agree(alloc: Global, packings: Packings, case: &Case) -> Result<bool
         Packings::FourF17 => over_base::<Plain<M17>>(alloc, None, case),
         Packings::FourF17x2 => over_quadratic::<Plain<M17>>(alloc, case),
         Packings::FourF2t7 => over_septic::<Plain<M2>>(alloc, case),
+        Packings::FourF31c => {
+            Ok(<Packed<F31, 4> as ComplexCalls<F31>>::complex_agrees(None, case))
+        }
     }
 }
 
