@@ -1,12 +1,14 @@
-//! Cosets of two elements of the residues modulo 15, by hand.
+//! Cosets of two elements of the residues modulo 15, by hand; and the tests of cosets.
 use crate::canonical::Canonical;
+use crate::coset_values::assert_values;
 use p3_base::field::TwoAdicField;
 use p3_bench_prime::form::{OverModulus, Plain};
 use p3_bench_prime::fp::Fp;
-use p3_bench_prime::small::M15;
+use p3_bench_prime::small::{M15, M17};
 use p3_bench_prime::two_adic::TwoAdicConstants;
 use p3_tools::coset::TwoAdicMultiplicativeCoset;
 use std::process::Abort;
+use std::test::Fail;
 
 /// The shifts, and the elements of their cosets; none where the shift has no inverse.
 const COSETS: [(u64, Option<[u64; 2]>); 6] = [
@@ -54,15 +56,38 @@ fn assert_cosets<F: TwoAdicField + Canonical>(rt: &impl Abort) {
     }
 }
 
-/// `assert_cosets` at the marker of a field.
-fn assert_over<W: OverModulus<u32>>(rt: &impl Abort)
+/// What is asserted of a two-adic type.
+#[derive(Clone, Copy)]
+enum Topic {
+    /// The elements of cosets modulo 15.
+    Elements,
+    /// The values of polynomials over cosets modulo 17.
+    Values,
+}
+
+/// Asserts a topic at the marker of a type.
+fn assert_over<W: OverModulus<u32>>(
+    rt: &(impl Abort + AllocGlobal),
+    topic: Topic,
+) -> Result<(), Fail>
 where
     W::Modulus: TwoAdicConstants,
 {
-    assert_cosets::<Fp<W>>(rt);
+    match topic {
+        Topic::Elements => {
+            assert_cosets::<Fp<W>>(rt);
+            Ok(())
+        }
+        Topic::Values => assert_values::<Fp<W>>(rt),
+    }
 }
 
 #[test]
-fn cosets_modulo_15(rt: HostRuntime) {
-    assert_over::<Plain<M15>>(&rt);
+fn cosets_modulo_15(rt: HostRuntime) -> Result<(), Fail> {
+    assert_over::<Plain<M15>>(&rt, Topic::Elements)
+}
+
+#[test]
+fn values_modulo_17(rt: HostRuntime) -> Result<(), Fail> {
+    assert_over::<Plain<M17>>(&rt, Topic::Values)
 }

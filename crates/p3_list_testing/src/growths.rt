@@ -8,9 +8,6 @@ use calls::{Callee, Scalars, Splits};
 use numbers::Pair;
 use p3_base::field::PrimeField32;
 use p3_base::packed_traits::Packable;
-use p3_bench_prime::extensions::F17x2;
-use p3_bench_prime::goldilocks::Goldilocks;
-use p3_bench_prime::small::F17;
 use p3_ext::extension::{BinomialExtensionField, BinomiallyExtendable};
 use p3_refusing::Refusing;
 use p3_spaces::in_memory::InMemory;
@@ -74,7 +71,7 @@ fn assert_length<C: Callee>(
 }
 
 /// Asserts this of each call, at each length.
-fn assert_growths<C: Callee>(
+fn assert_rows<C: Callee>(
     rt: &(impl Abort + AllocGlobal),
     callee: C,
     rows: &[Row],
@@ -90,18 +87,12 @@ fn assert_growths<C: Callee>(
     Ok(())
 }
 
-/// Asserts the calls over a field of 17 elements, over its extension, of which X is given, and of splits into
-/// values of it.
-fn assert_calls<F: BinomiallyExtendable<2> + PrimeField32 + Canonical + InMemory + Packable>(
-    rt: &(impl Abort + AllocGlobal),
-    x: BinomialExtensionField<F, 2>,
-) -> Result<(), Fail> {
-    assert_growths(rt, Scalars::<F>::of_field(), &SCALARS)?;
-    assert_growths(rt, x, &PAIRS)?;
-    assert_growths(rt, Splits::<Goldilocks, F>::of_fields(), &LIMBS)
-}
-
-#[test]
-fn growths_of_calls(rt: HostRuntime) -> Result<(), Fail> {
-    assert_calls::<F17>(&rt, F17x2::new([F17::new(0), F17::new(1)]))
+/// Asserts the calls over a field of 17 elements, over its extension, of which X is given, and of splits into values of
+/// it.
+pub(crate) fn assert_growths<
+    F: BinomiallyExtendable<2> + PrimeField32 + Canonical + InMemory + Packable,
+>(rt: &(impl Abort + AllocGlobal), x: BinomialExtensionField<F, 2>) -> Result<(), Fail> {
+    assert_rows(rt, Scalars::<F>::of_field(), &SCALARS)?;
+    assert_rows(rt, x, &PAIRS)?;
+    assert_rows(rt, Splits::<F>::of_field(), &LIMBS)
 }

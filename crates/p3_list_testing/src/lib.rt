@@ -1,5 +1,5 @@
-//! Tests of lists of values over prime fields and extensions: batch inversion, the growths of memory that calls ask
-//! for, cosets, and the values of polynomials.
+//! Tests of lists of values: batch inversion, the growths of memory that calls ask for, cosets, and the values of
+//! polynomials.
 #![tactic(auto)]
 
 #[cfg(test)]
@@ -7,10 +7,16 @@ mod batch_inverses;
 #[cfg(test)]
 mod canonical;
 #[cfg(test)]
+mod coset_values;
+#[cfg(test)]
 mod cosets;
+#[cfg(test)]
+mod fields;
 #[cfg(test)]
 mod growths;
 #[cfg(test)]
 mod inverses;
 #[cfg(test)]
-mod polynomials;
+mod points;
+#[cfg(test)]
+mod texts;

@@ -1,5 +1,5 @@
 //! The calls that the rows of tables name, and the numbers of their arguments and answers.
-use crate::rows::{Row, word};
+use crate::rows::Row;
 use std::alloc::{AllocError, Global};
 
 /// A call on the lanes of a packing.
@@ -42,19 +42,16 @@ pub(crate) enum MixedOperation {
 #[derive(Clone, Copy)]
 pub(crate) enum RightSide {
     Packing,
-    Scalar,
     Value,
 }
 
-/// What a row calls.
+/// What a row calls. Columns and scales are two.
 #[derive(Clone, Copy)]
 pub(crate) enum Call {
     Lanes(LaneCall),
     Invert,
-    /// Packs so many columns.
-    Pack(usize),
-    /// Unpacks so many columns.
-    Unpack(usize),
+    Pack,
+    Unpack,
     Powers,
     CappedPowers,
     /// The values of packings one after the other.
@@ -67,12 +64,12 @@ pub(crate) enum Call {
     Divide,
     Sum,
     Product,
-    /// Adds products with so many scales.
-    Columnwise(usize),
-    GenericColumnwise(usize),
+    /// Adds products.
+    Columnwise,
+    GenericColumnwise,
 }
 
-/// The calls that are no operations by their names. Where a call has a number, it is zero here.
+/// The calls on lanes and columns by their names.
 static CALLS: [(&str, Call); 15] = [
     ("from_ext_fn", Call::Lanes(LaneCall::FromFn)),
     ("from_ext_slice", Call::Lanes(LaneCall::FromSlice)),
@@ -81,21 +78,21 @@ static CALLS: [(&str, Call); 15] = [
     ("extract", Call::Lanes(LaneCall::Extract)),
     ("to_ext_slice", Call::Lanes(LaneCall::ToSlice)),
     ("unpack_transpose_into", Call::Lanes(LaneCall::Transpose)),
-    ("pack_ext_columns", Call::Pack(0)),
-    ("unpack_ext_into", Call::Unpack(0)),
+    ("pack_ext_columns 2", Call::Pack),
+    ("unpack_ext_into 2", Call::Unpack),
     ("packed_ext_powers", Call::Powers),
     ("packed_ext_powers_capped", Call::CappedPowers),
     ("to_ext_iter", Call::Values),
     ("invert_packed_extension", Call::Invert),
-    ("batched_columnwise_dot_product", Call::Columnwise(0)),
+    ("batched_columnwise_dot_product 2", Call::Columnwise),
     (
-        "generic_batched_columnwise_dot_product",
-        Call::GenericColumnwise(0),
+        "generic_batched_columnwise_dot_product 2",
+        Call::GenericColumnwise,
     ),
 ];
 
-/// The operations on packings of extension values alone, by their names.
-static OPERATIONS: [(&str, Call); 14] = [
+/// The operations by their names.
+static OPERATIONS: [(&str, Call); 25] = [
     ("add", Call::Operation(Operation::Add)),
     ("sub", Call::Operation(Operation::Sub)),
     ("mul", Call::Operation(Operation::Mul)),
@@ -110,79 +107,45 @@ static OPERATIONS: [(&str, Call); 14] = [
     ("sum", Call::Sum),
     ("product", Call::Product),
     ("div", Call::Divide),
-];
-
-/// The operations with another right side, by their names and that of what stands there.
-static MIXED_OPERATIONS: [(&str, &str, Call); 15] = [
+    ("div value", Call::DivideByValue),
     (
-        "from",
-        "packing",
+        "from packing",
         Call::Mixed(MixedOperation::From, RightSide::Packing),
     ),
     (
-        "from",
-        "scalar",
-        Call::Mixed(MixedOperation::From, RightSide::Scalar),
-    ),
-    (
-        "from",
-        "value",
-        Call::Mixed(MixedOperation::From, RightSide::Value),
-    ),
-    (
-        "add",
-        "packing",
+        "add packing",
         Call::Mixed(MixedOperation::Add, RightSide::Packing),
     ),
     (
-        "add",
-        "scalar",
-        Call::Mixed(MixedOperation::Add, RightSide::Scalar),
-    ),
-    (
-        "add",
-        "value",
-        Call::Mixed(MixedOperation::Add, RightSide::Value),
-    ),
-    (
-        "sub",
-        "packing",
+        "sub packing",
         Call::Mixed(MixedOperation::Sub, RightSide::Packing),
     ),
     (
-        "sub",
-        "scalar",
-        Call::Mixed(MixedOperation::Sub, RightSide::Scalar),
-    ),
-    (
-        "sub",
-        "value",
-        Call::Mixed(MixedOperation::Sub, RightSide::Value),
-    ),
-    (
-        "mul",
-        "packing",
+        "mul packing",
         Call::Mixed(MixedOperation::Mul, RightSide::Packing),
     ),
     (
-        "mul",
-        "scalar",
-        Call::Mixed(MixedOperation::Mul, RightSide::Scalar),
-    ),
-    (
-        "mul",
-        "value",
-        Call::Mixed(MixedOperation::Mul, RightSide::Value),
-    ),
-    ("div", "value", Call::DivideByValue),
-    (
-        "mixed_dot_product",
-        "packing",
+        "mixed_dot_product packing",
         Call::Mixed(MixedOperation::DotProduct, RightSide::Packing),
     ),
     (
-        "mixed_dot_product",
-        "value",
+        "from value",
+        Call::Mixed(MixedOperation::From, RightSide::Value),
+    ),
+    (
+        "add value",
+        Call::Mixed(MixedOperation::Add, RightSide::Value),
+    ),
+    (
+        "sub value",
+        Call::Mixed(MixedOperation::Sub, RightSide::Value),
+    ),
+    (
+        "mul value",
+        Call::Mixed(MixedOperation::Mul, RightSide::Value),
+    ),
+    (
+        "mixed_dot_product value",
         Call::Mixed(MixedOperation::DotProduct, RightSide::Value),
     ),
 ];
@@ -198,40 +161,12 @@ fn call_in(table: &[(&'static str, Call)], name: &str) -> Option<Call> {
     None
 }
 
-/// The call of an operation's name, with what stands on the right side where that is no such packing.
-fn operation_call(name: &str, right: &str) -> Option<Call> {
-    if right.is_empty() {
-        return call_in(&OPERATIONS, name);
+/// The call that a row names; an operation stands behind `packed_ext`.
+fn call_of(name: &str) -> Option<Call> {
+    match name.strip_prefix("packed_ext ") {
+        Some(operation) => call_in(&OPERATIONS, operation),
+        None => call_in(&CALLS, name),
     }
-    for row in &MIXED_OPERATIONS {
-        let (known, side, call) = *row;
-        if known == name && side == right {
-            return Some(call);
-        }
-    }
-    None
-}
-
-/// The call with a number of columns or of scales, where it has one.
-fn counted(call: Call, count: usize) -> Call {
-    match call {
-        Call::Pack(_) => Call::Pack(count),
-        Call::Unpack(_) => Call::Unpack(count),
-        Call::Columnwise(_) => Call::Columnwise(count),
-        Call::GenericColumnwise(_) => Call::GenericColumnwise(count),
-        _ => call,
-    }
-}
-
-/// The call that a row names; a number of columns or of scales is its second word.
-fn call_of(call: &str) -> Option<Call> {
-    let name = word(call, 0);
-    let second = word(call, 1);
-    if name == "packed_ext" {
-        return operation_call(second, word(call, 2));
-    }
-    let found = call_in(&CALLS, name)?;
-    Some(counted(found, second.parse::<usize>().unwrap_or(0)))
 }
 
 /// The numbers of a text, whatever stands between them.

@@ -2,13 +2,19 @@
 use crate::cases::{Call, Case};
 use crate::column_calls::Rooms;
 use crate::extension_operations::quotient_or_total_agrees;
+use crate::lane_calls::lanes_agree;
 use crate::numbered::Numbered;
+use crate::operation_calls::operation_agrees;
 use crate::row_calls::row_agrees;
+use crate::sequence_calls::sequences_agree;
 use p3_base::field::Field;
 use p3_base::packed_traits::{Inhabited, Packable, PackedField};
-use p3_ext::extension::{ExtField, ExtensionOverAlgebra, ExtensionShape, FrobeniusExtendable};
+use p3_ext::extension::{
+    Binomial, ComplexExtendable, ExtField, ExtensionOverAlgebra, ExtensionShape,
+    FrobeniusExtendable,
+};
 use p3_packed::holds_scalar::HoldsScalar;
-use p3_packed::packed_ext_field::{PackedExtField, Packing};
+use p3_packed::packed_ext_field::PackedExtField;
 use p3_ring::ring::{Algebra, PrimeCharacteristicRing};
 use std::alloc::{AllocError, Global};
 
@@ -91,27 +97,37 @@ impl<
 
 /// The calls over packings of this type of the values of F, which is an extension of itself.
 pub(crate) trait BaseCalls<F: PrimeCharacteristicRing>: Inhabited {
-    /// What the calls make values of.
-    type BaseRooms: Drop;
-
-    /// Whether a call has its answer. Nothing is read of `rooms`.
-    fn base_agrees(
-        alloc: Global,
-        rooms: Option<Self::BaseRooms>,
-        case: &Case,
-    ) -> Result<bool, AllocError>;
+    /// Whether a call on lanes, or one that gives powers, has its answer.
+    fn base_agrees(alloc: Global, case: &Case) -> Result<bool, AllocError>;
 }
 
-impl<F: Field + Packable + Numbered, P: PackedField<F> + Packing<Scalar = F> + Numbered> BaseCalls<
-    F,
-> for P {
-    type BaseRooms = Rooms<F, F, P>;
+impl<F: Field + Packable + Numbered, P: PackedField<F> + Numbered> BaseCalls<F> for P {
+    fn base_agrees(alloc: Global, case: &Case) -> Result<bool, AllocError> {
+        match case.call {
+            Call::Lanes(call) => lanes_agree::<F, F, P>(alloc, call, case),
+            _ => sequences_agree::<F, F, P>(alloc, case.call, case),
+        }
+    }
+}
 
-    fn base_agrees(
-        alloc: Global,
-        rooms: Option<Rooms<F, F, P>>,
-        case: &Case,
-    ) -> Result<bool, AllocError> {
-        row_agrees::<F, F, P>(alloc, rooms, case)
+/// The calls over packings of this type of complex values of F.
+pub(crate) trait ComplexCalls<F: PrimeCharacteristicRing>: Algebra<F> {
+    /// A packing of complex values. Of an associated type it is known that its values have room.
+    type Packing: Copy;
+
+    /// Whether an operation has its answer. Nothing is read of `_packing`.
+    fn complex_agrees(_packing: Option<Self::Packing>, case: &Case) -> bool;
+}
+
+impl<F: ComplexExtendable, P: Algebra<F> + Numbered> ComplexCalls<F> for P {
+    type Packing = PackedExtField<F, 2, Binomial<F>, P>;
+
+    fn complex_agrees(_packing: Option<PackedExtField<F, 2, Binomial<F>, P>>, case: &Case) -> bool {
+        match case.call {
+            Call::Operation(operation) => {
+                operation_agrees::<PackedExtField<F, 2, Binomial<F>, P>>(operation, case)
+            }
+            _ => false,
+        }
     }
 }

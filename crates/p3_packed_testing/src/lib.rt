@@ -12,8 +12,6 @@ mod column_calls;
 #[cfg(test)]
 mod columnwise_calls;
 #[cfg(test)]
-mod columnwise_tables;
-#[cfg(test)]
 mod extension_calls;
 #[cfg(test)]
 mod extension_operations;
@@ -25,8 +23,6 @@ mod lane_calls;
 mod numbered;
 #[cfg(test)]
 mod operation_calls;
-#[cfg(test)]
-mod operation_tables;
 #[cfg(test)]
 mod row_calls;
 #[cfg(test)]

@@ -1,8 +1,6 @@
-//! Operations on packings of extension values, with each other, with packings of the base, with extension
-//! values and with scalars.
-use crate::cases::{Case, MixedOperation, Operation, RightSide};
+//! Operations on packings of extension values, with each other, with packings of the base and with extension values.
+use crate::cases::{Case, MixedOperation, Operation};
 use crate::numbered::{Numbered, holds, value, values};
-use p3_base::packed_traits::PackedValue;
 use p3_ring::ring::{Algebra, PrimeCharacteristicRing};
 use std::alloc::{AllocError, Global};
 
@@ -83,16 +81,4 @@ pub(crate) fn mixed_operation_agrees<
             Ok(holds(&mixed_operation(operation, x, y), &case.answer))
         }
     }
-}
-
-/// Whether an operation on a value of an algebra and a scalar in all lanes of a packing has its answer.
-pub(crate) fn scalar_operation_agrees<F, A, P>(operation: MixedOperation, case: &Case) -> bool
-where
-    F: Numbered,
-    A: Algebra<P> + Numbered,
-    P: PrimeCharacteristicRing + PackedValue<Value = F>,
-{
-    let x = value::<A>(case.argument(0));
-    let y = P::broadcast(value::<F>(case.argument(1)));
-    holds(&mixed_operation(operation, x, y), &case.answer)
 }

@@ -3,12 +3,12 @@
 /// A row of a table.
 #[derive(Clone, Copy)]
 pub(crate) struct Row<'a> {
-    /// The name of the extension.
+    /// The name of the field or extension.
     pub(crate) field: &'a str,
     /// The number of lanes.
     pub(crate) lanes: &'a str,
-    /// The call, and after it the number of columns or of scales where it has one.
     pub(crate) call: &'a str,
+    /// The arguments, which stand between bars.
     pub(crate) arguments: &'a str,
     pub(crate) answer: &'a str,
 }
@@ -28,14 +28,4 @@ impl<'a> Row<'a> {
             answer: answer.trim(),
         })
     }
-
-    /// The arguments at an index, which stand between bars.
-    pub(crate) fn argument(self, index: usize) -> &'a str {
-        self.arguments.split('|').nth(index).unwrap_or("")
-    }
-}
-
-/// The word at an index of a text.
-pub(crate) fn word(text: &str, index: usize) -> &str {
-    text.split_ascii_whitespace().nth(index).unwrap_or("")
 }

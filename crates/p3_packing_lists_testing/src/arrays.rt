@@ -1,28 +1,28 @@
 //! Calls on arrays told by lines of four texts: the number of entries, the call, its arguments and its answer.
-//! Arguments stand between bars, and the values of an array between commas.
+//! Arguments stand between bars, and the values of an array between commas. And arrays entry by entry.
 
+mod brackets;
 mod calls;
 mod mapping;
+mod quotients;
 mod tables;
 
-use crate::fields::{Rooms, Topic, assert_over};
+use crate::fields::Rooms;
 use crate::numbered::Numbered;
-use crate::packings::numbers::BABY_BEAR_ORDER;
 use crate::texts::{holds, packing, value_at};
-use calls::{Call, Operation, Row};
-pub(crate) use mapping::assert_mapped;
+use brackets::assert_brackets;
+use calls::{Call, Operation, Row, Total};
+use mapping::assert_mapped;
 use p3_array::array::FieldArray;
 use p3_base::field::Field;
 use p3_base::packed_traits::{Inhabited, Packable};
-use p3_bench_prime::baby_bear::BabyBearModulus;
-use p3_bench_prime::form::Plain;
-use p3_bench_prime::montgomery::Montgomery;
-use p3_bench_prime::small::{M17, M31};
 use p3_ring::ring::{Algebra, PrimeCharacteristicRing};
+use quotients::assert_quotients;
 use std::alloc::{AllocError, Global};
+use std::fmt;
 use std::process::Abort;
 use std::test::Fail;
-use tables::{BABY_BEAR_CALLS, F17_CALLS, F31_CALLS};
+use tables::{OUTSIDE, WORKED};
 
 /// What an operation gives on two values, or on one and a scalar.
 fn operated<F: PrimeCharacteristicRing, A: Algebra<F>>(
@@ -61,23 +61,26 @@ fn quotient<F: Field + Inhabited, const N: usize>(
     Some(quotient)
 }
 
-/// The sum or the product of the arrays of a text. Nothing is read of `_array`.
+/// The sum or the product of the values of a text: of arrays entry by entry, and of scalars in each entry. Nothing is
+/// read of `_array`.
 fn total<F: PrimeCharacteristicRing + Packable + Numbered, const N: usize>(
     alloc: Global,
-    is_sum: bool,
+    total: Total,
     text: &str,
     _array: Option<FieldArray<F, N>>,
 ) -> Result<FieldArray<F, N>, AllocError> {
     let mut arrays: Vec<FieldArray<F, N>> = Vec::new(alloc);
+    let mut scalars: Vec<F> = Vec::new(alloc);
     for word in text.split_terminator('|') {
         arrays.push(packing::<F, FieldArray<F, N>>(word))?;
+        scalars.push(value_at::<F>(word, 0))?;
     }
-    let terms = arrays.iter().copied();
-    if is_sum {
-        Ok(terms.sum())
-    } else {
-        Ok(terms.product())
-    }
+    Ok(match total {
+        Total::Sum => arrays.iter().copied().sum(),
+        Total::Product => arrays.iter().copied().product(),
+        Total::ScalarSum => scalars.iter().copied().sum(),
+        Total::ScalarProduct => scalars.iter().copied().product(),
+    })
 }
 
 /// Whether the call of a row has its answer for arrays of N entries; `Ok(None)` where it names none, or the divisor,
@@ -96,7 +99,7 @@ fn agrees<F: Field + Packable + Numbered, const N: usize>(
         }
         Some(Call::Halve) => half::<F, FieldArray<F, N>>(x),
         Some(Call::DivScalar) => quotient(x, scalar),
-        Some(Call::Total(is_sum)) => { Some(total::<F, N>(alloc, is_sum, row.arguments, None)?) }
+        Some(Call::Total(kind)) => Some(total::<F, N>(alloc, kind, row.arguments, None)?),
         None => None,
     };
     match found {
@@ -105,8 +108,8 @@ fn agrees<F: Field + Packable + Numbered, const N: usize>(
     }
 }
 
-/// Whether the call of a line has its answer, for arrays of 1, 3, 4 and 8 entries; `Ok(None)` where the line can't be
-/// read, or names no call. Nothing is read of `_rooms`.
+/// Whether the call of a line has its answer, for arrays of 3 and 4 entries; `Ok(None)` where the line can't be read,
+/// or names no call. Nothing is read of `_rooms`.
 fn line_agrees<F: Field + Packable + Numbered>(
     alloc: Global,
     line: &str,
@@ -116,10 +119,8 @@ fn line_agrees<F: Field + Packable + Numbered>(
         return Ok(None);
     };
     match row.entries {
-        1 => agrees::<F, 1>(alloc, row, None),
         3 => agrees::<F, 3>(alloc, row, None),
         4 => agrees::<F, 4>(alloc, row, None),
-        8 => agrees::<F, 8>(alloc, row, None),
         _ => Ok(None),
     }
 }
@@ -127,23 +128,26 @@ fn line_agrees<F: Field + Packable + Numbered>(
 /// Asserts that the call of each line has its answer. Nothing is read of `_rooms`.
 pub(crate) fn assert_calls<F: Field + Packable + Numbered>(
     rt: &(impl Abort + AllocGlobal),
-    table: &str,
     _rooms: Rooms<F>,
 ) -> Result<(), Fail> {
-    for line in table.lines() {
-        assert_eq!(rt;
-            line_agrees::<F>(rt.alloc(), line, None)?,
-            Some(true),
-            "{line}"
-        );
+    for table in [WORKED, OUTSIDE] {
+        for line in table.lines() {
+            assert_eq!(rt;
+                line_agrees::<F>(rt.alloc(), line, None)?,
+                Some(true),
+                "{line}"
+            );
+        }
     }
     Ok(())
 }
 
-#[test]
-fn calls_on_arrays(rt: HostRuntime) -> Result<(), Fail> {
-    assert_over::<Plain<M17>>(&rt, 17, Topic::Calls(F17_CALLS))?;
-    let baby_bear = Topic::Calls(BABY_BEAR_CALLS);
-    assert_over::<Montgomery<BabyBearModulus>>(&rt, BABY_BEAR_ORDER, baby_bear)?;
-    assert_over::<Plain<M31>>(&rt, 31, Topic::Calls(F31_CALLS))
+/// Asserts arrays entry by entry, mapped ones and quotients. Nothing is read of `_rooms`.
+pub(crate) fn assert_entries<F: Field + Packable + Numbered + fmt::Debug>(
+    rt: &(impl Abort + AllocGlobal),
+    _rooms: Rooms<F>,
+) -> Result<(), Fail> {
+    assert_mapped::<F>(rt, None);
+    assert_quotients::<F, 4>(rt, None);
+    assert_brackets::<F, 4>(rt, FieldArray::default())
 }

@@ -1,10 +1,9 @@
-//! Iterators that the library makes: what they say of how many items are left, endless ones, and what they
-//! answer after their end.
+//! Iterators that the library makes: what they say of how many items are left.
 
 mod lane_items;
 mod streams;
 
-pub(crate) use lane_items::{assert_field_powers, assert_items};
+pub(crate) use lane_items::assert_items;
 use std::alloc::{AllocError, Global};
 
 /// Whether an iterator, after so many items were taken, says that just so many are left.

@@ -1,19 +1,19 @@
-//! Tests of arrays, and of lists that packings read and write: calls on arrays and their entries, slices and lists of
-//! powers by packings, iterators over lanes and bytes, and values of a polynomial at the lanes of vectors.
+//! Tests of arrays, and of iterators over lanes and bytes: calls on arrays and their entries, arrays as packings, what
+//! iterators say is left, and values of a polynomial at the lanes of vectors.
 #![tactic(auto)]
 
 #[cfg(test)]
 mod arrays;
 #[cfg(test)]
-mod entries;
-#[cfg(test)]
 mod fields;
+#[cfg(test)]
+mod hashes;
 #[cfg(test)]
 mod iterators;
 #[cfg(test)]
-mod numbered;
+mod lanes;
 #[cfg(test)]
-mod packings;
+mod numbered;
 #[cfg(test)]
 mod texts;
 #[cfg(test)]

@@ -1,13 +1,10 @@
-//! A row worked by hand, at the eight lanes of vectors: of eight values, and of two arrays of four.
-use crate::fields::{Rooms, Topic, assert_over};
+//! A row worked by hand, at the eight lanes of a vector of two arrays.
+use crate::fields::Rooms;
 use crate::numbered::Numbered;
-use crate::packings::numbers::ORDER_17;
 use crate::texts::{holds_from, value_at};
 use p3_array::array::FieldArray;
 use p3_base::field::Field;
 use p3_base::packed_traits::{Inhabited, Packable, PackedField, PackedValue};
-use p3_bench_prime::form::Plain;
-use p3_bench_prime::small::M17;
 use p3_vectorized::vectorized::Vectorized;
 use poly_eval::eval_vectorized;
 use std::process::Abort;
@@ -60,19 +57,7 @@ fn agrees<F: Field + Numbered, P: PackedField<F>, const N: usize>(
     holds(values)
 }
 
-/// Whether both vectors agree. Nothing is read of `values` and `arrays`.
-fn both_agree<F: Field + Packable + Numbered>(
-    coeffs: &[F],
-    values: Option<Vectorized<F, F, 8>>,
-    arrays: Option<Vectorized<F, FieldArray<F, 4>, 2>>,
-) -> (bool, bool) {
-    (
-        agrees::<F, F, 8>(coeffs, values),
-        agrees::<F, FieldArray<F, 4>, 2>(coeffs, arrays),
-    )
-}
-
-/// Asserts that both vectors agree. Nothing is read of `_rooms`.
+/// Asserts that the vector agrees. Nothing is read of `_rooms`.
 pub(crate) fn assert_vectors<F: Field + Packable + Numbered>(
     rt: &(impl Abort + AllocGlobal),
     _rooms: Rooms<F>,
@@ -81,11 +66,6 @@ pub(crate) fn assert_vectors<F: Field + Packable + Numbered>(
     for index in 0..3 {
         coeffs.push(value_at::<F>(COEFFICIENTS, index))?;
     }
-    assert_eq!(rt; both_agree::<F>(&coeffs, None, None), (true, true));
+    assert!(rt; agrees::<F, FieldArray<F, 4>, 2>(&coeffs, None));
     Ok(())
-}
-
-#[test]
-fn at_the_lanes_of_vectors(rt: HostRuntime) -> Result<(), Fail> {
-    assert_over::<Plain<M17>>(&rt, ORDER_17, Topic::Vectors)
 }

@@ -3,7 +3,7 @@ use super::numbers::{Pair, Sequence, coefficient, coefficients, terms};
 use super::table::Call;
 use crate::canonical::Canonical;
 use crate::inverses::have_inverses;
-use p3_base::field::{Field, PrimeField, PrimeField32};
+use p3_base::field::{Field, PrimeField32};
 use p3_base::packed_traits::Packable;
 use p3_batch_inverse::batch_inverse::batch_multiplicative_inverse_in;
 use p3_ext::extension::{Binomial, BinomiallyExtendable, ExtField, HasFrobenius};
@@ -207,22 +207,20 @@ impl<F: BinomiallyExtendable<2> + Canonical + InMemory + Packable> Callee
     }
 }
 
-/// A value of SF that is split into values of TF.
+/// Values of a field that are split into values of the same.
 #[derive(Clone, Copy)]
-pub(crate) struct Splits<SF, TF> {
-    fields: PhantomData<(SF, TF)>,
+pub(crate) struct Splits<F> {
+    field: PhantomData<F>,
 }
 
-impl<SF, TF> Splits<SF, TF> {
-    /// The splits between these fields.
-    pub(crate) fn of_fields() -> Self {
-        Splits {
-            fields: PhantomData,
-        }
+impl<F> Splits<F> {
+    /// The splits of the field.
+    pub(crate) fn of_field() -> Self {
+        Splits { field: PhantomData }
     }
 }
 
-impl<SF: PrimeField, TF: PrimeField32 + Canonical + InMemory> Callee for Splits<SF, TF> {
+impl<F: PrimeField32 + Canonical + InMemory> Callee for Splits<F> {
     fn answers<A: Allocator + Copy>(
         self,
         alloc: A,
@@ -231,19 +229,19 @@ impl<SF: PrimeField, TF: PrimeField32 + Canonical + InMemory> Callee for Splits<
         items: &[Pair],
     ) -> Result<bool, AllocError> {
         let count = items.len();
-        let found: Vec<TF, A> = match call {
+        let found: Vec<F, A> = match call {
             Call::PackedLimbs { number, radix_bits } => {
-                if radix_bits >= 32 || 1u64 << radix_bits > TF::ORDER_U32 as u64 {
+                if radix_bits >= 32 || 1u64 << radix_bits > F::ORDER_U32 as u64 {
                     return Ok(false);
                 }
-                split_pf_to_packed_limbs_in(alloc, SF::from_u64(number), count, radix_bits)?
+                split_pf_to_packed_limbs_in(alloc, F::from_u64(number), count, radix_bits)?
             }
             Call::FieldOrderLimbs(number) => {
-                split_pf_to_field_order_limbs_in(alloc, SF::from_u64(number), count)?
+                split_pf_to_field_order_limbs_in(alloc, F::from_u64(number), count)?
             }
-            Call::Words(number) => split_32_in(alloc, SF::from_u64(number), count)?,
+            Call::Words(number) => split_32_in(alloc, F::from_u64(number), count)?,
             _ => return Ok(false),
         };
-        Ok(are_values::<TF, TF>(&found, items))
+        Ok(are_values::<F, F>(&found, items))
     }
 }

@@ -192,24 +192,20 @@ pub(crate) const PAIRS: [Row; 8] = [
     ("algebra_id", Call::AlgebraId("bench:f17x2"), Growths::Once),
 ];
 
-/// The greatest residue modulo `2^64 - 2^32 + 1`, split into residues modulo 17.
+/// The greatest residue modulo 17, split into such residues.
 pub(crate) const LIMBS: [Row; 3] = [
     (
         "split_pf_to_packed_limbs",
         Call::PackedLimbs {
-            number: 18446744069414584320,
-            radix_bits: 4,
+            number: 16,
+            radix_bits: 3,
         },
         Growths::OnceForItems,
     ),
     (
         "split_pf_to_field_order_limbs",
-        Call::FieldOrderLimbs(18446744069414584320),
+        Call::FieldOrderLimbs(16),
         Growths::OnceForItems,
     ),
-    (
-        "split_32",
-        Call::Words(18446744069414584320),
-        Growths::OnceForItems,
-    ),
+    ("split_32", Call::Words(16), Growths::OnceForItems),
 ];

@@ -14,14 +14,22 @@ pub(crate) enum Operation {
     MulScalar,
 }
 
+/// A sum or a product of arrays, or of scalars.
+#[derive(Clone, Copy)]
+pub(crate) enum Total {
+    Sum,
+    Product,
+    ScalarSum,
+    ScalarProduct,
+}
+
 /// A call on arrays.
 #[derive(Clone, Copy)]
 pub(crate) enum Call {
     Operation(Operation),
     Halve,
     DivScalar,
-    /// The sum, or else the product.
-    Total(bool),
+    Total(Total),
 }
 
 impl Call {
@@ -38,8 +46,10 @@ impl Call {
             "mul scalar" => Some(Call::Operation(Operation::MulScalar)),
             "halve" => Some(Call::Halve),
             "div scalar" => Some(Call::DivScalar),
-            "sum" => Some(Call::Total(true)),
-            "product" => Some(Call::Total(false)),
+            "sum" => Some(Call::Total(Total::Sum)),
+            "product" => Some(Call::Total(Total::Product)),
+            "scalar sum" => Some(Call::Total(Total::ScalarSum)),
+            "scalar product" => Some(Call::Total(Total::ScalarProduct)),
             _ => None,
         }
     }

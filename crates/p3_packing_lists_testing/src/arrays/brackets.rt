@@ -9,7 +9,10 @@ use std::process::Abort;
 use std::test::Fail;
 
 /// The numbers of an array's entries, from the first on.
-const NUMBERS: &str = "3,5,7,9,11,13,15,16";
+const NUMBERS: &str = "3,5,7,9";
+
+/// The text of the array.
+const TEXT: &str = "[3, 5, 7, 9]";
 
 /// A number that is none of them.
 const OTHER: u64 = 2;
@@ -73,32 +76,27 @@ fn is_zero<F: Numbered + Inhabited, const N: usize>(array: &FieldArray<F, N>) ->
     true
 }
 
-/// Whether an array is printed so.
+/// Whether an array is printed as its text.
 fn is_printed<F: Inhabited + fmt::Debug, const N: usize>(
     alloc: Global,
     array: &FieldArray<F, N>,
-    text: &str,
 ) -> Result<bool, AllocError> {
     let printed = format!(in alloc; "{array:?}")?;
-    Ok(printed.as_str() == text)
+    Ok(printed.as_str() == TEXT)
 }
 
 /// Asserts reads, writes, comparison and the text of the array of the first N numbers, and that the default is zero.
 pub(crate) fn assert_brackets<F: Numbered + Packable + fmt::Debug, const N: usize>(
     rt: &(impl Abort + AllocGlobal),
     default: FieldArray<F, N>,
-    text: &str,
 ) -> Result<(), Fail> {
     let array = packing::<F, FieldArray<F, N>>(NUMBERS);
-    assert!(rt; holds(&array, N, OTHER), "{N}");
+    assert!(rt; holds(&array, N, OTHER));
     for i in 0..N {
-        assert!(rt; is_written(&array, i), "{N} {i}");
+        assert!(rt; is_written(&array, i), "{i}");
     }
-    assert!(rt;
-        is_compared(&array, &packing::<F, FieldArray<F, N>>(NUMBERS)),
-        "{N}"
-    );
-    assert!(rt; is_zero(&default), "{N}");
-    assert!(rt; is_printed(rt.alloc(), &array, text)?, "{N}");
+    assert!(rt; is_compared(&array, &packing::<F, FieldArray<F, N>>(NUMBERS)));
+    assert!(rt; is_zero(&default));
+    assert!(rt; is_printed(rt.alloc(), &array)?);
     Ok(())
 }

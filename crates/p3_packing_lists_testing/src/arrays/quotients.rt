@@ -10,14 +10,14 @@ use p3_base::packed_traits::{Inhabited, Packable};
 use std::process::Abort;
 
 /// What is divided, a divisor of each, and the quotients.
-const DIVIDED: &str = "1,2,3,4,5,6,7,8";
+const DIVIDED: &str = "1,2,3,4";
 
-const DIVISORS: &str = "3,5,7,9,11,13,15,16";
+const DIVISORS: &str = "3,5,7,9";
 
-const QUOTIENTS: &str = "6,14,15,8,2,7,5,9";
+const QUOTIENTS: &str = "6,14,15,8";
 
 /// The halves of what is divided.
-const HALVES: &str = "9,1,10,2,11,3,12,4";
+const HALVES: &str = "9,1,10,2";
 
 /// Whether a value has an inverse.
 fn has_inverse<F: Field>(y: F) -> bool
@@ -68,13 +68,13 @@ fn divides<F: Field + Packable + Numbered, const N: usize>(
         && holds::<F, FieldArray<F, N>>(written, QUOTIENTS)
 }
 
-/// Asserts the quotients of the first N numbers. Nothing is read of `_array`.
+/// Asserts the quotients of four numbers. Nothing is read of `_array`.
 pub(crate) fn assert_quotients<F: Field + Packable + Numbered, const N: usize>(
     rt: &impl Abort,
     _array: Option<FieldArray<F, N>>,
 ) {
     let x = packing::<F, FieldArray<F, N>>(DIVIDED);
     let y = packing::<F, FieldArray<F, N>>(DIVISORS);
-    assert!(rt; halves(x, F::of(2)), "{N}");
-    assert!(rt; divides(x, y), "{N}");
+    assert!(rt; halves(x, F::of(2)));
+    assert!(rt; divides(x, y));
 }

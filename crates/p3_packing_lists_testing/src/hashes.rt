@@ -1,7 +1,14 @@
 //! Residues that differ hash apart.
 use crate::numbered::Numbered;
+use p3_bench_prime::baby_bear::BabyBearModulus;
+use p3_bench_prime::form::{Plain, ShortForm};
+use p3_bench_prime::fp::Fp;
+use p3_bench_prime::montgomery::Montgomery;
+use p3_bench_prime::small::M17;
 use std::alloc::{AllocError, Global};
 use std::hash::{Hash, Hasher};
+use std::process::Abort;
+use std::test::Fail;
 
 /// A hash of bytes: they are digits in base 257 behind those that came before, modulo 2^64. Up to seven
 /// bytes behind a one have a hash of their own.
@@ -34,7 +41,7 @@ fn hash_of<T: Hash>(x: &T) -> u64 {
 }
 
 /// Whether the hash of each residue of the first so many numbers differs from those of the ones before it.
-pub(crate) fn are_apart<F: Numbered + Hash>(alloc: Global, count: u64) -> Result<bool, AllocError> {
+fn are_apart<F: Numbered + Hash>(alloc: Global, count: u64) -> Result<bool, AllocError> {
     let mut hashes = Vec::new(alloc);
     for n in 0..count {
         let hash = hash_of(&F::of(n));
@@ -46,4 +53,16 @@ pub(crate) fn are_apart<F: Numbered + Hash>(alloc: Global, count: u64) -> Result
         hashes.push(hash)?;
     }
     Ok(true)
+}
+
+/// Asserts that the residues of the first so many numbers hash apart.
+fn assert_apart<W: ShortForm>(rt: &(impl Abort + AllocGlobal), count: u64) -> Result<(), Fail> {
+    assert!(rt; are_apart::<Fp<W>>(rt.alloc(), count)?);
+    Ok(())
+}
+
+#[test]
+fn residues_hash_apart(rt: HostRuntime) -> Result<(), Fail> {
+    assert_apart::<Plain<M17>>(&rt, 17)?;
+    assert_apart::<Montgomery<BabyBearModulus>>(&rt, 31)
 }
