@@ -13,9 +13,9 @@ use std::iter::{Product, Sum};
 use std::marker::{Model, PhantomData};
 use std::ops::{Add, AddAssign, Mul, MulAssign, Neg, Sub, SubAssign};
 
-/// N packings P of values of S, one after the other. The marker T says which vectors are operands beside
-/// its own: `OfScalars` none, `OfExtension<F>` those of packings of values of F. This project's own:
-/// upstream has a type for each marker.
+/// N packings P of values of S, one after the other. The marker T says which other vectors are
+/// operands: none at `OfScalars`, those of packings of values of F at `OfExtension<F>`. This project's
+/// own: upstream has a type for each marker.
 pub struct PackingVector<S, T, P: Inhabited, const N: usize>(pub [P; N], PhantomData<(S, T)>);
 
 impl<S, T, P: Inhabited, const N: usize> Model for PackingVector<S, T, P, N> {

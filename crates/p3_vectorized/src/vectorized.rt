@@ -3,7 +3,7 @@ pub mod lanes;
 
 use crate::packing_vector::PackingVector;
 
-/// The marker of a vector of packings of field values.
+/// The marker of a vector of packings of field values. This project's own.
 #[derive(Clone, Copy)]
 pub struct OfScalars;
 

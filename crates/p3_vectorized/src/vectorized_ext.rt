@@ -12,8 +12,8 @@ use p3_ring::ring::PrimeCharacteristicRing;
 use p3_spaces::basis::BasedVectorSpace;
 use std::marker::PhantomData;
 
-/// The marker of a vector of packings of values of an extension of F. Vectors of packings of values of
-/// F are operands too.
+/// The marker of a vector of packings of values of an extension of F, which also takes vectors of
+/// packings of values of F as operands. This project's own.
 #[derive(Clone, Copy)]
 pub struct OfExtension<F>(PhantomData<F>);
 
