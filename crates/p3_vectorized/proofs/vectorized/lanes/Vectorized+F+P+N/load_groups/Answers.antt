@@ -1,9 +1,7 @@
 use Rattle.std.specs.Prelude.{◌≡◌, ◌<◌, ◌≤◌, ◌*◌, ◌/◌, ℕ, length}
-use Rattle.std.proofs.Common.{arith, ap, rules, sym, subst}
+use Rattle.std.proofs.Common.{arith, ap, rules}
 use Rattle.std.proofs.Math.Nat.{div-mul-le_self}
-use Rattle.p3_theory.specs.Lists.TabulatedPlaces.{HoldsBelow}
-use Rattle.p3_theory.specs.Polynomials.Polynomial.{at}
-use Rattle.p3_vectorized.specs.VectorLists.{lane_count, vector_lanes, group-counted, group-loaded, lanes-groups}
+use Rattle.p3_vectorized.specs.VectorLists.{lane_count, group-counted, group-loaded, lanes-groups}
 use Rattle.p3_vectorized.proofs.vectorized.lanes.Vectorized+F+P+N.load_groups.Goals as goal
 
 pub nonzero_div-whole : goal.nonzero_div-whole

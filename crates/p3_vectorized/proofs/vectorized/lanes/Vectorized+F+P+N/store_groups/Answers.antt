@@ -1,8 +1,7 @@
 use Rattle.std.specs.Prelude.{◌≡◌, ◌<◌, ◌≤◌, ◌*◌, ◌/◌, ℕ, length}
 use Rattle.std.proofs.Common.{arith, ap, rules, ◌∙◌, sym}
 use Rattle.std.proofs.Math.Nat.{mul-le-mul_right}
-use Rattle.p3_theory.specs.Lists.TabulatedPlaces.{HoldsBelow}
-use Rattle.p3_vectorized.specs.VectorLists.{lane_at, group-counted, group-written}
+use Rattle.p3_vectorized.specs.VectorLists.{group-counted, group-written}
 use Rattle.p3_vectorized.proofs.vectorized.lanes.Vectorized+F+P+N.store_groups.Goals as goal
 
 pub nonzero_div-whole : goal.nonzero_div-whole
