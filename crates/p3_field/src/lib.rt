@@ -138,5 +138,8 @@ pub use p3_tools::helpers::par_add_scaled_slice_in_place;
 pub use p3_tools::helpers::par_scale_slice_in_place;
 pub use p3_tools::helpers::scale_slice_in_place_single_core;
 pub use p3_tools::horner::horner_slice;
+pub use p3_vectorized::packing_vector::PackingVector;
+pub use p3_vectorized::vectorized::OfScalars;
 pub use p3_vectorized::vectorized::Vectorized;
+pub use p3_vectorized::vectorized_ext::OfExtension;
 pub use p3_vectorized::vectorized_ext::VectorizedExt;

@@ -147,7 +147,7 @@ pub fn packed_ext_of_packing<F: Field, EF: ExtensionField<F>, PE: PackedFieldExt
 /// A vector of packings of field values as one of extension values: each part is the packing's image.
 pub fn vector_ext_of_vector<
     F: Copy,
-    EF: Copy,
+    EF: Field,
     P: PrimeCharacteristicRing + Inhabited,
     PE: Algebra<P> + Inhabited,
     const N: usize,

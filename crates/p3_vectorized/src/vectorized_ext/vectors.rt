@@ -2,6 +2,7 @@ ghost use Rattle.std.specs.Prelude.{◌≡◌, ◌<◌, ℕ, get_or, length};
 
 use super::VectorizedExt;
 use crate::vectorized::Vectorized;
+use p3_base::field::Field;
 use p3_base::packed_traits::Inhabited;
 use p3_ring::ring::{Algebra, PrimeCharacteristicRing};
 use p3_ring::sums::sum_of_products;
@@ -10,7 +11,7 @@ use std::ops::{Add, AddAssign, Mul, MulAssign, Sub, SubAssign};
 /// Each packing of field values as a packing of extension values.
 impl<
     F: Copy,
-    EF: Copy,
+    EF: Field,
     P: PrimeCharacteristicRing + Inhabited,
     PE: PrimeCharacteristicRing + Inhabited + From<P>,
     const N: usize,
@@ -31,7 +32,7 @@ impl<
 /// Each packing and the packing of field values at its index.
 impl<
     F: Copy,
-    EF: Copy,
+    EF: Field,
     P: PrimeCharacteristicRing + Inhabited,
     PE: PrimeCharacteristicRing + Inhabited + Add<P, Output = PE>,
     const N: usize,
@@ -56,7 +57,7 @@ impl<
 
 impl<
     F: Copy,
-    EF: Copy,
+    EF: Field,
     P: PrimeCharacteristicRing + Inhabited,
     PE: PrimeCharacteristicRing + Inhabited + Add<P, Output = PE>,
     const N: usize,
@@ -74,7 +75,7 @@ impl<
 /// Each packing less the packing of field values at its index.
 impl<
     F: Copy,
-    EF: Copy,
+    EF: Field,
     P: PrimeCharacteristicRing + Inhabited,
     PE: PrimeCharacteristicRing + Inhabited + Sub<P, Output = PE>,
     const N: usize,
@@ -99,7 +100,7 @@ impl<
 
 impl<
     F: Copy,
-    EF: Copy,
+    EF: Field,
     P: PrimeCharacteristicRing + Inhabited,
     PE: PrimeCharacteristicRing + Inhabited + Sub<P, Output = PE>,
     const N: usize,
@@ -117,7 +118,7 @@ impl<
 /// Each packing times the packing of field values at its index.
 impl<
     F: Copy,
-    EF: Copy,
+    EF: Field,
     P: PrimeCharacteristicRing + Inhabited,
     PE: PrimeCharacteristicRing + Inhabited + Mul<P, Output = PE>,
     const N: usize,
@@ -142,7 +143,7 @@ impl<
 
 impl<
     F: Copy,
-    EF: Copy,
+    EF: Field,
     P: PrimeCharacteristicRing + Inhabited,
     PE: PrimeCharacteristicRing + Inhabited + Mul<P, Output = PE>,
     const N: usize,
@@ -160,7 +161,7 @@ impl<
 /// A vector of packings of field values stands for the vector of the packings that they stand for.
 impl<
     F: Copy,
-    EF: Copy,
+    EF: Field,
     P: PrimeCharacteristicRing + Inhabited,
     PE: Inhabited + Algebra<P>,
     const N: usize,

@@ -1,0 +1,9 @@
+use Rattle.std.proofs.Common.{◌≡◌, ◌<◌, ℕ, length, get_or}
+use Rattle.p3_theory.specs.Rings.Powers.{power}
+use Rattle.p3_theory.specs.Rings.Multiples.{two}
+use Rattle.p3_vectorized.proofs.packing_vector.PackingVectorPrimeCharacteristicRing.mul_2exp_u64.Given as goal
+
+abbrev pub invariant-loop-i : goal.invariant-loop-i
+invariant-loop-i g l =
+    let o = g.P.PrimeCharacteristicRing.ops in
+    (length l.items ≡ g.row.N) × ((d : g.row.P.Denot) (k : ℕ) → k < l.i → get_or l.items k d ≡ o.mul (get_or l.xs k d) (power o (two o) l.fn.exponent))

@@ -1,6 +1,0 @@
-use Rattle.std.proofs.Common.{◌≡◌, ◌<◌, ℕ, length, get_or}
-use Rattle.p3_vectorized.proofs.vectorized_ext.algebra.VectorizedExtMul.mul.Given as goal
-
-abbrev pub invariant-loop-i : goal.invariant-loop-i
-invariant-loop-i g l =
-    (length l.items ≡ g.row.N) × ((d : g.row.PE.Denot) (k : ℕ) → k < l.i → g.PE.Mul-2.mul_gives (get_or l.xs k d) l.rhs (get_or l.items k d))
