@@ -33,9 +33,8 @@ pub use ext_field::ExtField;
 pub use has_frobenius::HasFrobenius;
 use p3_base::field::Field;
 pub use p3_products::binomial_extension::{
-    binomial_mul, binomial_square, octic_mul, quartic_mul, quintic_mul,
+    InverseByFormula, binomial_mul, binomial_square, octic_mul, quartic_mul, quintic_mul,
 };
-pub use p3_products::binomial_inverses::InverseByFormula;
 pub use p3_products::cubic_extension::{Cubic, cubic_square, trinomial_cubic_mul};
 pub use p3_products::integer_polynomial::IntegerPolynomial;
 pub use p3_products::quintic_extension::{Quintic, quintic_square, trinomial_quintic_mul};

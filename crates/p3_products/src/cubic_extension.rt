@@ -3,9 +3,9 @@ ghost use Rattle.p3_theory.specs.Polynomials.Polynomial.{at, quotient_mul};
 ghost use Rattle.p3_theory.specs.Polynomials.IntegerPolynomials.{over};
 ghost use Rattle.p3_products.specs.Trinomials.{cubic_trinomial};
 
-use crate::binomial_products::array_dot_product;
-use crate::entries::{three_from, write_entries};
+use crate::binomial_extension::array_dot_product;
 use crate::integer_polynomial::IntegerPolynomial;
+use crate::vectors::{three_from, write_entries};
 use p3_ring::ring::PrimeCharacteristicRing;
 
 /// The product of two lists of three coefficients modulo `X^3 - X - 1`. Upstream's

@@ -2,10 +2,7 @@
 #![tactic(auto)]
 
 pub mod binomial_extension;
-pub mod binomial_inverses;
-pub mod binomial_products;
 pub mod cubic_extension;
-mod entries;
 pub mod integer_polynomial;
 pub mod power_table;
 pub mod quintic_extension;

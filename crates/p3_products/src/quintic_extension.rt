@@ -4,9 +4,9 @@ ghost use Rattle.p3_theory.specs.Polynomials.IntegerPolynomials.{over};
 ghost use Rattle.p3_products.specs.Trinomials.{quintic_trinomial};
 ghost use Rattle.p3_products.specs.TrinomialRemainders.{quintic_reduced};
 
-use crate::binomial_products::{array_dot_product, double_four};
-use crate::entries::{four_from, write_entries};
+use crate::binomial_extension::{array_dot_product, double_four};
 use crate::integer_polynomial::IntegerPolynomial;
+use crate::vectors::{four_from, write_entries};
 use p3_ring::ring::PrimeCharacteristicRing;
 
 /// Writes the remainder modulo `X^5 + X^2 - 1` of the polynomial with these nine coefficients.

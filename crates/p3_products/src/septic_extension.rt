@@ -3,9 +3,9 @@ ghost use Rattle.p3_theory.specs.Polynomials.Polynomial.{at, quotient_mul};
 ghost use Rattle.p3_theory.specs.Polynomials.IntegerPolynomials.{over};
 ghost use Rattle.p3_products.specs.Trinomials.{septic_trinomial};
 
-use crate::binomial_products::{array_dot_product, double_four, double_three};
-use crate::entries::{four_from, three_from, write_entries};
+use crate::binomial_extension::{array_dot_product, double_four, double_three};
 use crate::integer_polynomial::IntegerPolynomial;
+use crate::vectors::{four_from, three_from, write_entries};
 use p3_ring::ring::PrimeCharacteristicRing;
 
 /// The product of two lists of seven coefficients modulo `X^7 - X - 1`. Upstream has no

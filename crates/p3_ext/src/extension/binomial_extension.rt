@@ -1,7 +1,7 @@
 use super::{Binomial, BinomiallyExtendable, FrobeniusExtendable, InverseByFormula};
-use p3_products::binomial_extension::{scale_by_powers, scale_by_repeated_powers};
-use p3_products::binomial_inverses::binomial_inv;
-use p3_products::binomial_products::compute_coefficient;
+use p3_products::binomial_extension::{
+    binomial_inv, compute_coefficient, scale_by_powers, scale_by_repeated_powers,
+};
 use p3_ring::ring::PrimeCharacteristicRing;
 
 impl<F: BinomiallyExtendable<D>, const D: usize> FrobeniusExtendable<D, Binomial<F>> for F {
