@@ -8,7 +8,7 @@ use p3_bench_prime::fp::Fp;
 use p3_bench_prime::goldilocks::Goldilocks;
 use p3_bench_prime::montgomery::Montgomery;
 use p3_bench_prime::small::{F17, M2, M17};
-use p3_columns::parallel_streams::into_parallel_u64_streams;
+use p3_packings::parallel_streams::into_parallel_u64_streams;
 use p3_ext::extension::{Binomial, ByteCountFits, ExtField};
 use p3_spaces::streams::{ByteStream, RawDataSerializable};
 use std::alloc::{AllocError, Global};

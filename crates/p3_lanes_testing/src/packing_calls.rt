@@ -15,7 +15,7 @@ use p3_bench_packed::lanes::LaneCountPow2;
 use p3_bench_packed::packed::Packed;
 use p3_bench_prime::form::{Form, Word};
 use p3_bench_prime::fp::Fp;
-use p3_columns::unpacked_rows::UnpackedRows;
+use p3_packings::unpacked_rows::UnpackedRows;
 use p3_ring::ring::Algebra;
 use p3_vectorized::vectorized::Vectorized;
 use std::alloc::{AllocError, Global};

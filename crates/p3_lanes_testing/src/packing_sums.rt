@@ -5,7 +5,7 @@ use crate::cases::Case;
 use crate::numbered::{Numbered, all_hold, holds, value, values};
 use p3_base::field::Field;
 use p3_base::packed_traits::PackedField;
-use p3_columns::columnwise::{
+use p3_packings::columnwise::{
     AsRow, coeffwise_dot_product, generic_batched_columnwise_dot_product,
 };
 use p3_ring::ring::{Algebra, PrimeCharacteristicRing};

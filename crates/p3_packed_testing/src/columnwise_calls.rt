@@ -3,7 +3,7 @@ ghost use Rattle.std.specs.Prelude.{◌≡◌};
 
 use crate::cases::{Call, Case};
 use crate::numbered::{Numbered, all_hold, value, values};
-use p3_columns::columnwise::{
+use p3_packings::columnwise::{
     batched_columnwise_dot_product, generic_batched_columnwise_dot_product,
 };
 use p3_ring::ring::{Algebra, PrimeCharacteristicRing};

@@ -1,5 +1,10 @@
 pub mod CallsInTurn
 pub mod CappedPowers
+pub mod CoefficientSums
+pub mod ColumnGroups
+pub mod Columns
+pub mod IndexAnswers
 pub mod LaneItems
+pub mod ParallelStreams
 pub mod ScalarFolds
 pub mod Transposition

@@ -1,10 +1,10 @@
 //! Columns of rows of extension values as packings, and back.
 ghost use Rattle.std.specs.Prelude.{◌≡◌, ◌<◌, ℕ, length, get_or, slice_get, Some};
-ghost use Rattle.p3_columns.specs.Columns.{column};
+ghost use Rattle.p3_packings.specs.Columns.{column};
 
+use crate::columnwise::AsRow;
+use crate::entries::entry_at;
 use crate::extension_lanes::ExtensionLanes;
-use p3_columns::columnwise::AsRow;
-use p3_columns::entries::entry_at;
 use p3_ring::ring::PrimeCharacteristicRing;
 
 /// The packing whose lane l is entry c of row l.

@@ -8,9 +8,9 @@ ghost use Rattle.p3_runs.specs.Runs.{Fit, run};
 
 use crate::values::{Canonical, List, Listed, ZERO};
 use p3_ext::extension::{ExtField, ExtensionShape, FrobeniusExtendable};
+use p3_field::laws::run_lane_steps_by_coefficients;
 use p3_packings::extension_lanes::PackedExtensionRing;
 use p3_ring::ring::PrimeCharacteristicRing;
-use p3_run_laws::laws::run_lane_steps_by_coefficients;
 use p3_runs::steps::{Step, run_steps, steps_fit};
 use p3_vectorized::vectorized_ext::VectorizedExt;
 use std::alloc::{AllocError, Global};

@@ -1,7 +1,7 @@
 //! Streams of bytes and words over sources whose hint is exact.
 use super::{repeated, says};
 use p3_bench_prime::baby_bear::BabyBear;
-use p3_columns::parallel_streams::{
+use p3_packings::parallel_streams::{
     into_parallel_byte_streams, into_parallel_u32_streams, into_parallel_u64_streams,
 };
 use p3_spaces::streams::RawDataSerializable;

@@ -1,6 +1,6 @@
 use Rattle.std.proofs.Common.{◌≡◌, ◌∙◌, ℕ, ap, rules}
-use Rattle.p3_columns.specs.Columns.{column, column_answer}
-use Rattle.p3_columns.specs.IndexAnswers.{each_answer}
+use Rattle.p3_packings.specs.Columns.{column, column_answer}
+use Rattle.p3_packings.specs.IndexAnswers.{each_answer}
 use Rattle.p3_packings.proofs.ext_columns.pack_ext_columns.Goals as goal
 
 pub returns : goal.returns

@@ -1,5 +1,5 @@
 use Rattle.std.proofs.Common.{get_or, ap, rules}
-use Rattle.p3_columns.specs.IndexAnswers.{lanes_of_answers}
+use Rattle.p3_packings.specs.IndexAnswers.{lanes_of_answers}
 use Rattle.p3_packings.proofs.ext_columns.packed_ext_answers.Goals as goal
 
 pub returns : goal.returns

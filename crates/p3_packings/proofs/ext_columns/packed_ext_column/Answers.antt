@@ -1,5 +1,5 @@
 use Rattle.std.proofs.Common.{◌≡◌, ◌∙◌, ap, rules}
-use Rattle.p3_columns.specs.Columns.{column_of_answers, entry_answer}
+use Rattle.p3_packings.specs.Columns.{column_of_answers, entry_answer}
 use Rattle.p3_packings.proofs.ext_columns.packed_ext_column.Goals as goal
 
 pub returns : goal.returns

@@ -1,5 +1,5 @@
 use Rattle.std.proofs.Common.{◌≡◌, ◌∙◌, ℕ, get_or, slice_get, Some, ap, subst, rules}
-use Rattle.p3_columns.specs.IndexAnswers.{each_answer}
+use Rattle.p3_packings.specs.IndexAnswers.{each_answer}
 use Rattle.p3_packings.proofs.ext_columns.packed_ext_columns.Goals as goal
 
 pub returns : goal.returns

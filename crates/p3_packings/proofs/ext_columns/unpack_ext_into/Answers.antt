@@ -1,5 +1,5 @@
 use Rattle.std.proofs.Common.{◌≡◌, ℕ, get_or, slice_get, Some, arith}
-use Rattle.p3_columns.specs.Columns.{written_below}
+use Rattle.p3_packings.specs.Columns.{written_below}
 use Rattle.p3_packings.proofs.ext_columns.unpack_ext_into.Goals as goal
 
 pub loop-l-init : goal.loop-l-init

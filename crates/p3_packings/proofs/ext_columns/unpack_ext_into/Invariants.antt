@@ -1,5 +1,5 @@
 use Rattle.std.proofs.Common.{◌≡◌, ◌<◌, ℕ, get_or, slice_get, Some}
-use Rattle.p3_columns.specs.Columns.{column}
+use Rattle.p3_packings.specs.Columns.{column}
 use Rattle.p3_packings.proofs.ext_columns.unpack_ext_into.Given as goal
 
 abbrev pub invariant-loop-l : goal.invariant-loop-l

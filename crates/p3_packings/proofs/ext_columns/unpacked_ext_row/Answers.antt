@@ -1,6 +1,6 @@
 use Rattle.std.proofs.Common.{◌≡◌, ◌∙◌, ℕ, get_or, slice_get, Some, ap, rules}
-use Rattle.p3_columns.specs.Columns.{lane_told}
-use Rattle.p3_columns.specs.IndexAnswers.{each_answer}
+use Rattle.p3_packings.specs.Columns.{lane_told}
+use Rattle.p3_packings.specs.IndexAnswers.{each_answer}
 use Rattle.p3_packings.proofs.ext_columns.unpacked_ext_row.Goals as goal
 
 pub returns : goal.returns

@@ -1,4 +1,0 @@
-use Rattle.p3_run_laws.proofs.laws.packed_extension_has_a_lane.Goals as goal
-
-pub returns : goal.returns
-returns g c = g.met.PE.ExtensionLanes.some_ext_lane

@@ -1,5 +1,0 @@
-use Rattle.p3_runs.specs.RunsAlong.{run-through}
-use Rattle.p3_run_laws.proofs.laws.run_steps_by_lanes.Goals as goal
-
-pub returns : goal.returns
-returns g c i h = run-through (g.met.P.PackedRing.keeps i h) c.args.steps.now c.run_steps.new.regs c.args.regs.now c.run_steps.ensures

@@ -1,6 +1,0 @@
-use Rattle.p3_theory.specs.Lanes.Rows.{rows}
-use Rattle.p3_theory.specs.Lanes.RowRing.{written_constant}
-use Rattle.p3_run_laws.proofs.laws.vector_default_is_zero.Goals as goal
-
-pub returns : goal.returns
-returns g c = written_constant rows g.P.PrimeCharacteristicRing.ops c.args.x g.P.PrimeCharacteristicRing.ops.zero

@@ -1,4 +1,0 @@
-//! Laws of runs of steps over vectors of packings.
-#![tactic(auto)]
-
-pub mod laws;
