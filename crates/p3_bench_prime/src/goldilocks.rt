@@ -12,8 +12,8 @@ use p3_bench_residues::goldilocks_words::{
     P, add_residues, reduce_halves, reduce128, subtract_residues,
 };
 use p3_integers::halves::halve_u64;
+use p3_ring::exponentiation::exp_10540996611094048183;
 use p3_ring::ring::PrimeCharacteristicRing;
-use p3_spaces::exponentiation::exp_10540996611094048183;
 
 /// The form in which each residue modulo 2^64 - 2^32 + 1 is its own word of 64 bits.
 #[derive(Clone, Copy)]

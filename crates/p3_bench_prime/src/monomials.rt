@@ -8,8 +8,8 @@ use crate::form::{Order, OverModulus, Word};
 use crate::fp::Fp;
 use crate::koala_bear::KoalaBearModulus;
 use crate::small::{M17, M31};
+use p3_ring::exponentiation::{exp_1420470955, exp_1725656503};
 use p3_ring::ring::PrimeCharacteristicRing;
-use p3_spaces::exponentiation::{exp_1420470955, exp_1725656503};
 use p3_spaces::monomials::{InjectiveMonomial, PermutationMonomial};
 
 /// The power that undoes power N, for the marker of an order. It stands for what upstream writes in

@@ -7,7 +7,8 @@ use crate::form::{Form, Order, OverModulus, ShortForm, add_short};
 use crate::fp::Fp;
 use crate::short_sums::{ShortWord, sum_last_products, sum_products};
 use p3_bench_residues::montgomery::{
-    montgomery_product, montgomery_reduce_word, montgomery_residue, montgomery_short_sum, montgomery_sum,
+    montgomery_product, montgomery_reduce_word, montgomery_residue, montgomery_short_sum,
+    montgomery_sum,
 };
 use p3_bench_residues::remainder::remainder_of_sum;
 use p3_bench_residues::short_words::{add_words, halve_word, negate_word, subtract_words};

@@ -23,7 +23,7 @@ pub use Rattle.p3_ext.specs.Values
 pub use Rattle.p3_ext.specs.declared.extension.Binomial.{Binomial}
 pub use Rattle.p3_ext.specs.declared.extension.ext_field.ExtField.{ExtField}
 pub use Rattle.p3_ext.specs.declared.extension.polynomial_extension.Modulo.{Modulo}
-pub use Rattle.p3_limbs.specs.Digits
+pub use Rattle.p3_tools.specs.Digits
 pub use Rattle.p3_packed.specs.PackedValues
 pub use Rattle.p3_packed.specs.Sizes
 pub use Rattle.p3_packed.specs.ValueLanes

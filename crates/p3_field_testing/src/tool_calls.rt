@@ -5,10 +5,10 @@ use p3_base::field::Field;
 use p3_base::packed_traits::Packable;
 use p3_bench_prime::baby_bear::BabyBear;
 use p3_field::{halve_u32, halve_u64};
-use p3_ring::ring::{PrimeCharacteristicRing, RingSums};
-use p3_spaces::exponentiation::{
+use p3_ring::exponentiation::{
     exp_1420470955, exp_1717986917, exp_1725656503, exp_10540996611094048183,
 };
+use p3_ring::ring::{PrimeCharacteristicRing, RingSums};
 use p3_tools::helpers::{
     add_scaled_slice_in_place, cyclic_subgroup_coset_known_order, cyclic_subgroup_known_order,
     field_to_array, par_add_scaled_slice_in_place, par_scale_slice_in_place,

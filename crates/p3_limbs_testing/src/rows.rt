@@ -12,13 +12,13 @@ use p3_bench_prime::goldilocks::GoldilocksForm;
 use p3_bench_prime::koala_bear::KoalaBearModulus;
 use p3_bench_prime::montgomery::Montgomery;
 use p3_bench_prime::small::{M2, M15, M17, M31};
-use p3_limbs::limits::{
+use p3_tools::limits::{
     absorb_radix_bits, injective_pack_bits, max_absorb_injective_limbs, max_packed_injective_limbs,
     max_shifted_absorb_injective_limbs, max_shifted_packed_injective_limbs,
     pf_packed_limbs_cover_order, squeeze_field_order_num_limbs,
 };
-use p3_limbs::packing::{reduce_32, reduce_packed, reduce_packed_shifted};
-use p3_limbs::splits::{split_32, split_pf_to_field_order_limbs, split_pf_to_packed_limbs};
+use p3_tools::packing::{reduce_32, reduce_packed, reduce_packed_shifted};
+use p3_tools::splits::{split_32, split_pf_to_field_order_limbs, split_pf_to_packed_limbs};
 use std::alloc::{AllocError, Global};
 use std::process::Abort;
 use std::test::Fail;

@@ -1,6 +1,7 @@
 //! Rings and algebras, powers, sums and linear combinations, over the integer maps of `p3_integers`.
 #![tactic(auto)]
 
+pub mod exponentiation;
 pub mod linear_combination;
 pub mod packed_ring;
 mod power_chains;

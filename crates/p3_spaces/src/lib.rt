@@ -5,7 +5,6 @@
 pub mod array_chunks;
 pub mod basis;
 pub mod const_power;
-pub mod exponentiation;
 pub mod extension_field;
 pub mod field_bounds;
 pub mod field_bytes;

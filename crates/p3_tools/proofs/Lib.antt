@@ -1,6 +1,12 @@
-pub mod GroupSteps
-pub mod YieldedItems
-pub mod TurningStrands
-pub mod Strands
-pub mod CopiedItems
 pub mod BackwardFolds
+pub mod BitLengths
+pub mod CopiedItems
+pub mod EqualDigits
+pub mod GroupSteps
+pub mod Horner
+pub mod Injective
+pub mod Sizes
+pub mod SplitDigits
+pub mod Strands
+pub mod TurningStrands
+pub mod YieldedItems

@@ -1,2 +1,4 @@
-pub mod PairedRuns
 pub mod BackwardRuns
+pub mod Digits
+pub mod Multiples
+pub mod PairedRuns

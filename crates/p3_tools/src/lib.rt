@@ -4,3 +4,6 @@
 pub mod coset;
 pub mod helpers;
 pub mod horner;
+pub mod limits;
+pub mod packing;
+pub mod splits;

@@ -1,6 +1,6 @@
 -- What the calls over limbs answer.
 use Rattle.std.specs.Prelude.{◌≡◌, ◌<◌, ◌≤◌, ◌-◌, ◌^◌, ℕ, List, Result, MatchResult, length, map, ⊤}
-use Rattle.p3_limbs.specs.Digits.{IsLimit, digits, pack}
+use Rattle.p3_tools.specs.Digits.{IsLimit, digits, pack}
 use Rattle.p3_words.specs.Words.{Words, Stands, AllStand, values}
 use Rattle.p3_words.specs.declared.refusal.Refusal.{Refusal}
 use Rattle.p3_words.specs.declared.refusal.Refusal.TheVariants.{Length, Word, NoInverse, NoRoot, LogSize, Memory, Step, Radix}

@@ -3,9 +3,9 @@ ghost use Rattle.std.specs.Prelude.{◌≡◌, ◌↔◌, IsTrue};
 ghost use Rattle.p3_word_limbs.specs.Calls.{IsDigitRadix, AnswersPacked, WritesDigits, AnswersLimit};
 
 use p3_base::field::{PrimeField, PrimeField32};
-use p3_limbs::limits::max_packed_injective_limbs;
-use p3_limbs::packing::reduce_packed;
-use p3_limbs::splits::split_pf_to_packed_limbs;
+use p3_tools::limits::max_packed_injective_limbs;
+use p3_tools::packing::reduce_packed;
+use p3_tools::splits::split_pf_to_packed_limbs;
 use p3_words::blocks::{values_of, write};
 use p3_words::refusal::Refusal;
 use p3_words::stored::Stored;

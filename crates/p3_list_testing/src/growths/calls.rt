@@ -7,7 +7,7 @@ use p3_base::field::{Field, PrimeField32};
 use p3_base::packed_traits::Packable;
 use p3_batch_inverse::batch_inverse::batch_multiplicative_inverse_in;
 use p3_ext::extension::{Binomial, BinomiallyExtendable, ExtField, HasFrobenius};
-use p3_limbs::splits::{
+use p3_tools::splits::{
     split_32_in, split_pf_to_field_order_limbs_in, split_pf_to_packed_limbs_in,
 };
 use p3_ring::ring::PrimeCharacteristicRing;
