@@ -2,9 +2,8 @@
 use Rattle.std.specs.Prelude.{◌≡◌, ◌<◌, ◌≤◌, ◌*◌, ◌%◌, ◌^◌, ℕ, List, get_or, map}
 use Rattle.std.proofs.Common.{ap, arith, ◌∙◌}
 use Rattle.p3_theory.specs.Lanes.RowRing.{item, row_ops}
-use Rattle.p3_theory.specs.ResidueRings.SumsOfProducts.{sum_of_products}
+use Rattle.p3_theory.specs.ResidueRings.SumsOfProducts.{sum_of_products, products-along}
 use Rattle.p3_theory.specs.Rings.DotProduct.{dot}
-use Rattle.p3_kernels.specs.ProductSums.{products-along}
 use Rattle.p3_bench_prime.specs.Elements.{of, ops}
 use Rattle.p3_bench_prime.specs.declared.fp.Fp.{Fp}
 use Rattle.p3_bench_prime.specs.declared.form.Form as forms

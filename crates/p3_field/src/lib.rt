@@ -1,6 +1,7 @@
 //! The front of the library: every public name at its path, over the crates that hold them.
 #![tactic(auto)]
 
+pub mod bounds;
 pub mod extension;
 pub mod laws;
 mod run_laws;

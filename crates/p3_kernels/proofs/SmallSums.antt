@@ -4,9 +4,8 @@ use Rattle.std.proofs.Math.Seq.{take-length}
 use Rattle.std.proofs.lemmas.List.{get_or-drop, length-drop, length-take}
 use Rattle.std.proofs.lemmas.Simd.{length-zip2, sum-zip2}
 use Rattle.std.specs.Simd.Lanes.{sum_l}
-use Rattle.p3_kernels.specs.ProductSums.{products-split}
 use Rattle.p3_kernels.specs.Words.{AreBelow, product_at}
-use Rattle.p3_theory.specs.ResidueRings.SumsOfProducts.{sum_of_products}
+use Rattle.p3_theory.specs.ResidueRings.SumsOfProducts.{sum_of_products, products-split}
 use lib.Lanes.{chunk, zip2}
 
 -- what lanes of products sum up to

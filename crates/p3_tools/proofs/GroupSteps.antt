@@ -2,13 +2,13 @@
 use Rattle.std.specs.Prelude.{◌≡◌, ◌<◌, ◌≤◌, ◌+◌, ◌-◌, ◌*◌, ◌/◌, ℕ, zero, suc, List, [], ◌∷◌, ◌++◌, length, map, take, drop, replicate, slice_range}
 use Rattle.std.proofs.Common.{arith, ap, ap₂, sym, refl, ◌∙◌, take-add, drop-drop, append_assoc, append-nil, subst}
 use Rattle.std.proofs.lemmas.Nat.{div-add-mod'}
-use Rattle.std.proofs.lemmas.List.{get_or-map, ext_get_or, length-drop, take_all}
+use Rattle.std.proofs.lemmas.List.{get_or-map, ext_get_or, length-drop, length-map, take_all}
 use Rattle.std.proofs.lemmas.Slice.{take-put_mid_below, between-put_mid, drop-put_mid}
 use Rattle.std.proofs.Math.Nat.{suc-mul, mul-le-mul_right}
 use Rattle.std.proofs.Math.ListN.{drop_of_length-le}
 use Rattle.p3_theory.specs.Rings.Ring.{Ops}
 use Rattle.p3_theory.specs.Lanes.Lanes.{lane, KeepsLanes, at_replicate}
-use Rattle.p3_theory.specs.Lists.PairedLists.{zip_with, length-zip, get-zip}
+use Rattle.p3_theory.specs.Lists.PairedLists.{zip_with, length-zip, get-zip, map-split, zip-map, zip-split}
 use borrow.Rule.Slice.PartMut.{put_mid}
 
 module _ (w : ℕ) where
@@ -29,21 +29,6 @@ module _ {A : Type 0} where
   -- the front with a group more
   front : (new : List A) (a w : ℕ) → take (a + w) new ≡ take a new ++ slice_range new a (a + w)
   front new a w = take-add a w new ∙ ap (λ l. take a new ++ l) (sym (range_is new a w))
-
-  zip-nil : (g : A → A → A) (xs : List A) → [] ≡ zip_with g xs []
-  zip-nil g [] = refl
-  zip-nil g (x ∷ xs) = refl
-
-  zip-split : (g : A → A → A) (w : ℕ) (xs ys : List A) → zip_with g xs ys ≡ zip_with g (take w xs) (take w ys) ++ zip_with g (drop w xs) (drop w ys)
-  zip-split g zero xs ys = refl
-  zip-split g (suc w) [] ys = refl
-  zip-split g (suc w) (x ∷ xs) [] = zip-nil g (drop w xs)
-  zip-split g (suc w) (x ∷ xs) (y ∷ ys) = ap (λ l. g x y ∷ l) (zip-split g w xs ys)
-
-  map-split : (f : A → A) (w : ℕ) (xs : List A) → map f xs ≡ map f (take w xs) ++ map f (drop w xs)
-  map-split f zero xs = refl
-  map-split f (suc w) [] = refl
-  map-split f (suc w) (x ∷ xs) = ap (λ l. f x ∷ l) (map-split f w xs)
 
   joined : (new old part rest whole : List A) (a w : ℕ) → take a new ≡ take a old → slice_range new a (a + w) ≡ part → take a old ++ (part ++ rest) ≡ whole → take (a + w) new ++ rest ≡ whole
   joined new old part rest whole a w before group h =
@@ -93,22 +78,12 @@ module _ {A : Type 0} where
       ap (λ l. take a old ++ l) (ap₂ (λ p q. p ++ q) (group ∙ ap₂ (zip_with g) (all old) (all other)) after ∙ append-nil _)
       ∙ subst (λ j. take (j * w) old ++ zip_with g (drop (j * w) old) (drop (j * w) other) ≡ whole) e h
 
-  -- a map on the right of a combination
-  pub zip-map : (g : A → A → A) (f : A → A) (xs ys : List A) → zip_with g xs (map f ys) ≡ zip_with (λ a b. g a (f b)) xs ys
-  zip-map g f [] ys = refl
-  zip-map g f (x ∷ xs) [] = refl
-  zip-map g f (x ∷ xs) (y ∷ ys) = ap (λ l. g x (f y) ∷ l) (zip-map g f xs ys)
-
-  length-mapped : (f : A → A) (xs : List A) → length (map f xs) ≡ length xs
-  length-mapped f [] = refl
-  length-mapped f (x ∷ xs) = ap suc (length-mapped f xs)
-
 module _ {P F : Type 0} (O : Ops P) (Q : Ops F) (lanes : P → List F) (w : ℕ) (lengths : (x : P) → length (lanes x) ≡ w) (keeps : KeepsLanes O Q lanes w) where
   -- the lanes of a packing times one value in all lanes
   pub scaled_lanes : (x y : P) (s : F) → lanes y ≡ replicate w s → lanes (O.mul x y) ≡ map (λ a. Q.mul a s) (lanes x)
   scaled_lanes x y s all =
       let long : length (lanes (O.mul x y)) ≡ w = lengths (O.mul x y) in
-      ext_get_or Q.zero (lanes (O.mul x y)) (map (λ a. Q.mul a s) (lanes x)) (long ∙ sym (length-mapped (λ a. Q.mul a s) (lanes x) ∙ lengths x)) (λ k h.
+      ext_get_or Q.zero (lanes (O.mul x y)) (map (λ a. Q.mul a s) (lanes x)) (long ∙ sym (length-map (λ a. Q.mul a s) (lanes x) ∙ lengths x)) (λ k h.
       let below : k < w = omega (arith, h, long) in
       (keeps k below).mul x y ∙ ap (Q.mul (lane Q lanes k x)) (at_replicate w k s Q.zero (lanes y) below all)
       ∙ sym (get_or-map (λ a. Q.mul a s) (lanes x) k Q.zero Q.zero (omega (arith, below, lengths x))))

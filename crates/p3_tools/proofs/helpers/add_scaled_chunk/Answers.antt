@@ -1,6 +1,6 @@
 use Rattle.std.proofs.Common.{ap, ◌∙◌}
 use Rattle.p3_theory.specs.Lists.PairedLists.{zip_with}
-use Rattle.p3_tools.proofs.GroupSteps.{zip-map}
+use Rattle.p3_theory.specs.Lists.PairedLists.{zip-map}
 use Rattle.p3_tools.proofs.helpers.add_scaled_chunk.Goals as goal
 
 pub returns : goal.returns
