@@ -1,7 +1,7 @@
 use crate::packed_ext_field::PackedExtField;
 use p3_ext::extension::{ExtensionAlgebra, ExtensionShape};
 use p3_ring::ring::PrimeCharacteristicRing;
-use p3_spaces::array_chunks::take_up_to;
+use p3_spaces::array_chunks::take_exactly;
 use p3_spaces::basis::BasedVectorSpace;
 
 /// The basis is 1, X, .., X^(D-1).
@@ -33,17 +33,10 @@ impl<
 
     #[inline]
     fn from_basis_coefficients_iter<I: ExactSizeIterator<Item = P> + Drop>(
-        mut iter: I,
+        iter: I,
     ) -> Option<Self> {
-        let mut value = [P::zero(); D];
-        let count = take_up_to(&mut iter, &mut value);
-        if count < D {
-            return None;
-        }
-        match iter.next() {
-            None => Some(Self::new(value)),
-            Some(_) => None,
-        }
+        let value = take_exactly(iter, [P::zero(); D])?;
+        Some(Self::new(value))
     }
 
     ghost lengths = { λ x. x.value.sized };

@@ -1,7 +1,7 @@
-ghost use Rattle.std.specs.Prelude.{◌≡◌, ◌≤◌, ◌<◌, ◌+◌, ◌++◌, List, length, drop, OnSome};
+ghost use Rattle.std.specs.Prelude.{◌≡◌, ◌≤◌, ◌<◌, ◌+◌, ◌++◌, List, length, drop, MatchOption, OnSome};
 ghost use Rattle.std.specs.Bool.{MatchBool};
 ghost use Rattle.std.specs.Iterator.{IsFinite, size, count_map, count_unless};
-ghost use Rattle.p3_spaces.specs.Streams.{GathersGroup, TakesUpTo, group_count};
+ghost use Rattle.p3_spaces.specs.Streams.{GathersGroup, TakesExactly, TakesUpTo, YieldsExactly, group_count};
 
 /// The next N items of `source` as an array, filled up by copies of `padding` where the items end
 /// first, and `None` where no item is left. `is_over` keeps whether the source has ended; from then
@@ -50,4 +50,26 @@ pub fn take_up_to<I: Iterator<Item = T>, T: Copy>(source: &mut I, places: &mut [
         places[i] = item;
     }
     places.len()
+}
+
+/// The items of an iterator over those of an array, and `None` exactly where there are not N. This project's own.
+#[inline]
+pub fn take_exactly<I: Iterator<Item = T> + Drop, T: Copy, const N: usize>(
+    mut iter: I,
+    items: [T; N],
+) -> Option<[T; N]>
+    requires can { I.can_next iter }
+    requires ends { IsFinite (I.remaining iter) }
+    ensures drawn { TakesExactly I.next_gives N (λ v. v) iter result }
+    ensures all { (xs : List T) → YieldsExactly I.next_gives iter xs → MatchOption result (length xs ≡ N → ⊥) (λ v. v ≡ xs) }
+{
+    let mut taken = items;
+    let count = take_up_to(&mut iter, &mut taken);
+    if count < N {
+        return None;
+    }
+    match iter.next() {
+        None => Some(taken),
+        Some(_) => None,
+    }
 }

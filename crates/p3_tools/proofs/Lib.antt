@@ -3,7 +3,7 @@ pub mod BitLengths
 pub mod CopiedItems
 pub mod EqualDigits
 pub mod GroupSteps
-pub mod Horner
+pub mod PackedDigits
 pub mod Injective
 pub mod Sizes
 pub mod SplitDigits

@@ -4,7 +4,7 @@ use super::ext_field::ExtField;
 use super::{ExtensionAlgebra, ExtensionShape, FrobeniusExtendable};
 use p3_base::field::Field;
 use p3_ring::ring::PrimeCharacteristicRing;
-use p3_spaces::array_chunks::take_up_to;
+use p3_spaces::array_chunks::take_exactly;
 use p3_spaces::basis::{AlgebraIdentity, BasedVectorSpace};
 use p3_spaces::extension_field::ExtensionField;
 use std::alloc::{AllocError, Allocator};
@@ -33,17 +33,10 @@ impl<F: Copy, const D: usize, S: ExtensionShape, A: ExtensionAlgebra<F, D, S>> B
 
     #[inline]
     fn from_basis_coefficients_iter<I: ExactSizeIterator<Item = A> + Drop>(
-        mut iter: I,
+        iter: I,
     ) -> Option<Self> {
-        let mut value = [A::zero(); D];
-        let count = take_up_to(&mut iter, &mut value);
-        if count < D {
-            return None;
-        }
-        match iter.next() {
-            None => Some(ExtField::<F, D, S, A>::new(value)),
-            Some(_) => None,
-        }
+        let value = take_exactly(iter, [A::zero(); D])?;
+        Some(ExtField::<F, D, S, A>::new(value))
     }
 
     ghost lengths = { λ x. x.sized };

@@ -1,6 +1,6 @@
 use Rattle.std.proofs.Common.{◌+◌, ◌^◌, arith, refl}
 use Rattle.std.proofs.lemmas.Nat.{one_shl}
-use Rattle.p3_tools.proofs.Horner.{none_packed, one_more_packed}
+use Rattle.p3_tools.proofs.PackedDigits.{none_packed, one_more_packed}
 use Rattle.p3_tools.proofs.packing.reduce_packed_shifted.Goals as goal
 
 pub loop-i-init : goal.loop-i-init
