@@ -83,7 +83,7 @@ module _ {P F : Type 0} (O : Ops P) (Q : Ops F) (lanes : P → List F) (w : ℕ)
   pub scaled_lanes : (x y : P) (s : F) → lanes y ≡ replicate w s → lanes (O.mul x y) ≡ map (λ a. Q.mul a s) (lanes x)
   scaled_lanes x y s all =
       let long : length (lanes (O.mul x y)) ≡ w = lengths (O.mul x y) in
-      ext_get_or Q.zero (lanes (O.mul x y)) (map (λ a. Q.mul a s) (lanes x)) (long ∙ sym (length-map (λ a. Q.mul a s) (lanes x) ∙ lengths x)) (λ k h.
+      ext_get_or Q.zero (lanes (O.mul x y)) (map (λ a. Q.mul a s) (lanes x)) (long ∙ sym (length-map (lanes x) (λ a. Q.mul a s) ∙ lengths x)) (λ k h.
       let below : k < w = omega (arith, h, long) in
       (keeps k below).mul x y ∙ ap (Q.mul (lane Q lanes k x)) (at_replicate w k s Q.zero (lanes y) below all)
       ∙ sym (get_or-map (λ a. Q.mul a s) (lanes x) k Q.zero Q.zero (omega (arith, below, lengths x))))
