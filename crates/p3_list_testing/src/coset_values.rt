@@ -58,8 +58,10 @@ fn row_agrees<F: TwoAdicField + Canonical>(alloc: Global, row: Row) -> Result<bo
     if coset.log_size() >= 64 {
         return Ok(false);
     }
-    let mut out: Vec<F> = values(alloc, answer)?;
-    out.fill(F::from_u64(9));
+    let mut out = Vec::new(alloc);
+    for _ in 0..coset.size() {
+        out.push(F::from_u64(9))?;
+    }
     if out.len() != coset.size() {
         return Ok(false);
     }

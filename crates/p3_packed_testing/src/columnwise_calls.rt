@@ -1,6 +1,4 @@
 //! Products of rows of packings and two scales, added column by column to packings of extension values.
-ghost use Rattle.std.specs.Prelude.{◌≡◌};
-
 use crate::cases::{Call, Case};
 use crate::numbered::{Numbered, all_hold, value, values};
 use p3_packings::columnwise::{
@@ -44,8 +42,13 @@ where
     }
 }
 
-/// Whether the accumulators are the answer once the products are added.
-pub(crate) fn columnwise_agree<P, EF, PE>(alloc: Global, case: &Case) -> Result<bool, AllocError>
+/// Whether the accumulators are the answer once the products are added. That scales are named tells that they have
+/// room; nothing is read of them.
+pub(crate) fn columnwise_agree<P, EF, PE>(
+    alloc: Global,
+    _scales: Option<[EF; 2]>,
+    case: &Case,
+) -> Result<bool, AllocError>
 where
     P: PrimeCharacteristicRing + Numbered,
     EF: PrimeCharacteristicRing + Numbered,

@@ -33,8 +33,13 @@ where
     }
 }
 
-/// Whether an operation of the ring, or one on a value of the algebra and one of P or of EF, has its answer.
-fn algebra_calls_agree<EF, P, PE>(alloc: Global, case: &Case) -> Result<bool, AllocError>
+/// Whether an operation of the ring, or one on a value of the algebra and one of P or of EF, has its answer. Nothing is
+/// read of `scales`.
+fn algebra_calls_agree<EF, P, PE>(
+    alloc: Global,
+    scales: Option<[EF; 2]>,
+    case: &Case,
+) -> Result<bool, AllocError>
 where
     EF: Field + Numbered,
     P: PrimeCharacteristicRing + Numbered,
@@ -50,7 +55,9 @@ where
         Call::Operation(operation) => Ok(operation_agrees::<PE>(operation, case)),
         Call::DotProduct => dot_product_agrees::<PE>(alloc, case),
         Call::Halve => Ok(half_agrees::<PE, EF>(case)),
-        Call::Columnwise | Call::GenericColumnwise => columnwise_agree::<P, EF, PE>(alloc, case),
+        Call::Columnwise | Call::GenericColumnwise => columnwise_agree::<P, EF, PE>(
+            alloc, scales, case,
+        ),
         _ => Ok(false),
     }
 }
@@ -74,6 +81,6 @@ where
         Call::Powers | Call::CappedPowers | Call::Values => {
             sequences_agree::<F, EF, PE>(alloc, case.call, case)
         }
-        _ => algebra_calls_agree::<EF, PE::Base, PE>(alloc, case),
+        _ => algebra_calls_agree::<EF, PE::Base, PE>(alloc, None, case),
     }
 }
