@@ -49,7 +49,7 @@ const GENERATORS: [[u32; 2]; 33] = [
 #[inline]
 fn generator_coefficient(bits: usize, i: usize) -> Mersenne31
     requires bits { bits ≤ 32 }
-    requires place { i < 2 }
+    requires index { i < 2 }
     ensures { result ≡ of (entry generator_table bits i) }
 {
     let number = GENERATORS[bits][i];

@@ -29,7 +29,7 @@ pub trait PolynomialConstants<const D: usize, S: IntegerPolynomial<D>>: Order {
     /// The coefficient at `X^k` of power j of the image of X.
     fn power_of_image(j: usize, k: usize) -> u32
         requires power { j < D }
-        requires place { k < D }
+        requires index { k < D }
         ensures { result ≡ get_or (get_or powers j []) k 0 };
 
     /// The coefficient at `X^i` of a generator candidate; no law says that it generates.

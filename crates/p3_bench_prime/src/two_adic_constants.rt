@@ -29,7 +29,7 @@ pub trait TwoAdicBinomialConstants<const D: usize>: BinomialConstants<D> {
     /// The coefficient at `X^i` of the generator for so many bits.
     fn ext_two_adic_generator(bits: usize, i: usize) -> u32
         requires bits { bits ≤ EXT_TWO_ADICITY }
-        requires place { i < D }
+        requires index { i < D }
         ensures { result ≡ entry generator_table bits i };
 
     /// The equations that the table owes, computed on numbers.
@@ -86,7 +86,7 @@ pub trait TwoAdicPolynomialConstants<const D: usize, S: IntegerPolynomial<D>>: P
     /// The coefficient at `X^i` of the generator for so many bits.
     fn ext_two_adic_generator(bits: usize, i: usize) -> u32
         requires bits { bits ≤ EXT_TWO_ADICITY }
-        requires place { i < D }
+        requires index { i < D }
         ensures { result ≡ entry generator_table bits i };
 
     /// The equations that the table owes, computed on numbers.

@@ -30,8 +30,8 @@ generator_of (ResiduesModulo n g) = g % n ∷ []
 generator_of (PolynomialsModulo n D f g) = g
 
 -- operations on lists of one entry
-abbrev pub on_one_place : {A : Type 0} → Ops A → Ops (List A)
-on_one_place O = record {
+abbrev pub on_one_entry : {A : Type 0} → Ops A → Ops (List A)
+on_one_entry O = record {
   zero = O.zero ∷ [];
   one = O.one ∷ [];
   add = λ a b. O.add (at O a 0) (at O b 0) ∷ [];
@@ -41,7 +41,7 @@ on_one_place O = record {
 
 -- a field's operations on coefficient lists
 abbrev pub ops : FieldSpec → Ops (List ℕ)
-ops (ResiduesModulo n g) = on_one_place (residues n)
+ops (ResiduesModulo n g) = on_one_entry (residues n)
 ops (PolynomialsModulo n D f g) = quotient_ops (residues n) D f
 
 -- every entry is below n

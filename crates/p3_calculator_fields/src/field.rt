@@ -41,7 +41,7 @@ pub trait CalculatorField: Copy {
 
     /// The value with one coefficient changed.
     fn with_coefficient(self, i: usize, c: u64) -> Self
-        requires place { i < dimension spec }
+        requires index { i < dimension spec }
         requires below { c < order spec }
         ensures { coefficients result ≡ slice_set (coefficients self) i c };
 

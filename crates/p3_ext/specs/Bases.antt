@@ -34,8 +34,8 @@ multiple_of_one {F = F} {S = S} R D h f m r x n e k =
     same_value r (constant R.ops x) e ∙ ap (constant R.ops) k ∙ map-of_nat (embedding {F = F} {S = S} R D h f m) n
 
 -- a degree of two or more has an index 0
-pub some_place : {D : ℕ} → 2 ≤ D → 0 < D
-some_place h = omega arith
+pub some_index : {D : ℕ} → 2 ≤ D → 0 < D
+some_index h = omega arith
 
 -- the value with some D coefficients
 pub with_coefficients : {F S A : Type 0} {D : ℕ} (xs : List A) → length xs ≡ D → (x : ExtField F D S A) × (x.value ≡ xs)

@@ -27,7 +27,7 @@ module _ {A : Type 0} (R : Ring A) where
   places : (D : ℕ) → 2 ≤ D → (w c : A) → power R.ops c D ≡ R.one → (a : List A) → length a ≡ D
       → scale_powers R.ops D c a ≡ frobenius_list R.ops D (P.binomial R.ops D w) (binomial_image R.ops D w c) a
   places zero h w c root a l = absurd (omega arith)
-  places (suc d) h w c root a l = sym (T.turned_places R d w c root (a, l))
+  places (suc d) h w c root a l = sym (T.turned_coefficients R d w c root (a, l))
 
   -- one factor for each index is the Frobenius map's sum
   pub scaled_is_frobenius : (D : ℕ) → 2 ≤ D → (f : List A) (w c : A) → f ≡ P.binomial R.ops D w → power R.ops c D ≡ R.one → (a : List A) → length a ≡ D

@@ -6,7 +6,7 @@ use Rattle.p3_theory.specs.Polynomials.Polynomial.{IsMonic, at}
 use Rattle.p3_theory.specs.Rings.Powers.{power}
 use Rattle.p3_theory.specs.Rings.PowerProducts.{twice}
 use Rattle.p3_theory.specs.Rings.Multiples.{two}
-use Rattle.p3_theory.specs.Lists.Places.{get-tabulate, to-tabulate}
+use Rattle.p3_theory.specs.Lists.ByIndex.{get-tabulate, to-tabulate}
 use Rattle.p3_theory.specs.Rings.AdditiveMaps.{additive-power_of_two}
 use Rattle.p3_ext.specs.Values.{ext_ops, ext_laws, same_value}
 use Rattle.p3_ext.specs.declared.extension.ext_field.ExtField.{ExtField}

@@ -15,4 +15,4 @@ pub mod ComplexTowers
 pub mod Domains
 pub mod Shapes
 pub mod EntryOperators
-pub mod WrittenPlaces
+pub mod WrittenEntries

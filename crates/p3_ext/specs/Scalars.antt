@@ -3,7 +3,7 @@ use Rattle.std.specs.Prelude.{◌≡◌, ◌<◌, ◌≤◌, ℕ, List, get_or}
 use Rattle.std.proofs.Common.{arith, ◌∙◌}
 use Rattle.p3_theory.specs.Rings.Ring.{Ring, subtract}
 use Rattle.p3_theory.specs.Polynomials.Polynomial.{IsMonic, at}
-use Rattle.p3_theory.specs.Lists.Places.{to-tabulate}
+use Rattle.p3_theory.specs.Lists.ByIndex.{to-tabulate}
 use Rattle.p3_theory.specs.Polynomials.ScalarSums.{SameAfterFirst, scalar-sum, scalar-difference}
 use Rattle.p3_theory.specs.Polynomials.BaseProduct.{base_product}
 use Rattle.p3_ext.specs.Values.{constant, ext_ops, same_value}

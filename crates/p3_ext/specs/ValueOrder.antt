@@ -4,7 +4,7 @@ use Rattle.std.specs.Cmp.{IsPartialOrder, IsTotalOrder, on_po, on_total}
 use Rattle.std.specs.Cmp.Lexicographic.{pointwise, slice_cmp, slice_partial_cmp, lists_po, lists_total}
 use Rattle.std.specs.declared.cmp.Ordering.{Ordering}
 use Rattle.p3_theory.specs.Rings.Ring.{Ops}
-use Rattle.p3_theory.specs.Lists.Places.{zero-list}
+use Rattle.p3_theory.specs.Lists.ByIndex.{zero-list}
 use Rattle.std.proofs.Common.{refl, ◌∙◌}
 use Rattle.p3_ext.specs.declared.extension.ext_field.ExtField.{ExtField}
 use Rattle.p3_ext.specs.Values.{ext_ops, same_value}

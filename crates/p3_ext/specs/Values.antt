@@ -11,7 +11,7 @@ use Rattle.p3_theory.specs.Polynomials.Coefficients.{length-tabulate}
 use Rattle.p3_theory.specs.Polynomials.QuotientRing.{Ext, extension}
 use Rattle.std.specs.Cmp.{IsPartialEquivalence, IsEquivalence, on_per, on_equiv}
 use Rattle.std.specs.Cmp.Lexicographic.{pointwise, lists_per}
-use Rattle.p3_theory.specs.Lists.Places.{length-remainder, to-tabulate, get-tabulate}
+use Rattle.p3_theory.specs.Lists.ByIndex.{length-remainder, to-tabulate, get-tabulate}
 use Rattle.p3_ext.specs.declared.extension.ext_field.ExtField.{ExtField}
 
 module _ {F : Type 0} {D : ℕ} {S A : Type 0} where

@@ -60,8 +60,8 @@ pub use Rattle.p3_theory.specs.Lanes.VectorLanes
 pub use Rattle.p3_theory.specs.Lists.ListItems
 pub use Rattle.p3_theory.specs.Lists.ListOrder
 pub use Rattle.p3_theory.specs.Lists.PairedLists
-pub use Rattle.p3_theory.specs.Lists.Places
-pub use Rattle.p3_theory.specs.Lists.TabulatedPlaces
+pub use Rattle.p3_theory.specs.Lists.ByIndex
+pub use Rattle.p3_theory.specs.Lists.TabulatedEntries
 pub use Rattle.p3_theory.specs.Lists.WrittenItems
 pub use Rattle.p3_theory.specs.Polynomials.BaseProduct
 pub use Rattle.p3_theory.specs.Polynomials.Coefficients

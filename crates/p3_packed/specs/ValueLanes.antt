@@ -9,7 +9,7 @@ use Rattle.p3_theory.specs.Rings.Ring.{Ops, Hom}
 use Rattle.p3_theory.specs.Rings.Homomorphism as H
 use Rattle.p3_theory.specs.Polynomials.Polynomial.{tabulate, quotient_mul}
 use Rattle.p3_theory.specs.Polynomials.Coefficients.{length-tabulate}
-use Rattle.p3_theory.specs.Lists.Places.{get-tabulate, to-tabulate}
+use Rattle.p3_theory.specs.Lists.ByIndex.{get-tabulate, to-tabulate}
 use Rattle.p3_theory.specs.Lanes.Lanes.{lane, KeepsLanes, at_replicate}
 use Rattle.p3_theory.specs.Lanes.RowRing.{tabulated}
 use Rattle.p3_ext.specs.Values.{ext_ops, value_of, same_value}

@@ -116,7 +116,7 @@ impl<
     ghost use Rattle.std.specs.Prelude.{refl, []};
     ghost use Rattle.std.proofs.Common.{lit<};
     ghost use Rattle.p3_theory.specs.Rings.Ring.{ring_of};
-    ghost use Rattle.p3_ext.specs.Bases.{some_place};
+    ghost use Rattle.p3_ext.specs.Bases.{some_index};
     ghost use Rattle.p3_packed.specs.PackedValues.{packed_constant, packed_embedding, same_packed, packed_scalar_sum, packed_scalar_difference, packed_scalar_product};
 
     ghost embed = { packed_constant P.ops };
@@ -131,13 +131,13 @@ impl<
 
     ghost froms = { λ p r h. same_packed P.ops [] r (packed_constant P.ops p) h };
 
-    ghost mixed_adds = { record { called = λ _ _. (some_place F.at_least_two, λ _. P.PrimeCharacteristicRing.adds.called _ _); answer = λ x c r h. packed_scalar_sum (ring_of P.PrimeCharacteristicRing.ring) P.Algebra.embeds F.at_least_two F.modulus F.monic _ P.PrimeCharacteristicRing.adds.answer x r c h } };
+    ghost mixed_adds = { record { called = λ _ _. (some_index F.at_least_two, λ _. P.PrimeCharacteristicRing.adds.called _ _); answer = λ x c r h. packed_scalar_sum (ring_of P.PrimeCharacteristicRing.ring) P.Algebra.embeds F.at_least_two F.modulus F.monic _ P.PrimeCharacteristicRing.adds.answer x r c h } };
 
-    ghost mixed_add_assigns = { record { called = λ _ _. (some_place F.at_least_two, λ _. P.PrimeCharacteristicRing.adds.called _ _); answer = λ x c r h. packed_scalar_sum (ring_of P.PrimeCharacteristicRing.ring) P.Algebra.embeds F.at_least_two F.modulus F.monic _ P.PrimeCharacteristicRing.adds.answer x r c h } };
+    ghost mixed_add_assigns = { record { called = λ _ _. (some_index F.at_least_two, λ _. P.PrimeCharacteristicRing.adds.called _ _); answer = λ x c r h. packed_scalar_sum (ring_of P.PrimeCharacteristicRing.ring) P.Algebra.embeds F.at_least_two F.modulus F.monic _ P.PrimeCharacteristicRing.adds.answer x r c h } };
 
-    ghost mixed_subs = { record { called = λ _ _. (some_place F.at_least_two, λ _. P.PrimeCharacteristicRing.subs.called _ _); answer = λ x c r h. packed_scalar_difference (ring_of P.PrimeCharacteristicRing.ring) P.Algebra.embeds F.at_least_two F.modulus F.monic _ P.PrimeCharacteristicRing.subs.answer x r c h } };
+    ghost mixed_subs = { record { called = λ _ _. (some_index F.at_least_two, λ _. P.PrimeCharacteristicRing.subs.called _ _); answer = λ x c r h. packed_scalar_difference (ring_of P.PrimeCharacteristicRing.ring) P.Algebra.embeds F.at_least_two F.modulus F.monic _ P.PrimeCharacteristicRing.subs.answer x r c h } };
 
-    ghost mixed_sub_assigns = { record { called = λ _ _. (some_place F.at_least_two, λ _. P.PrimeCharacteristicRing.subs.called _ _); answer = λ x c r h. packed_scalar_difference (ring_of P.PrimeCharacteristicRing.ring) P.Algebra.embeds F.at_least_two F.modulus F.monic _ P.PrimeCharacteristicRing.subs.answer x r c h } };
+    ghost mixed_sub_assigns = { record { called = λ _ _. (some_index F.at_least_two, λ _. P.PrimeCharacteristicRing.subs.called _ _); answer = λ x c r h. packed_scalar_difference (ring_of P.PrimeCharacteristicRing.ring) P.Algebra.embeds F.at_least_two F.modulus F.monic _ P.PrimeCharacteristicRing.subs.answer x r c h } };
 
     ghost mixed_muls = { record { called = λ _ _ _ _ _. P.PrimeCharacteristicRing.muls.called _ _; answer = λ x c r h. packed_scalar_product (ring_of P.PrimeCharacteristicRing.ring) P.Algebra.embeds F.at_least_two F.modulus F.monic _ P.PrimeCharacteristicRing.muls.answer x r c h } };
 

@@ -12,7 +12,7 @@ impl<
     P: PrimeCharacteristicRing,
 > BasedVectorSpace<P> for PackedExtField<F, D, S, P> {
     ghost use Rattle.std.specs.Prelude.{[]};
-    ghost use Rattle.p3_ext.specs.Bases.{some_place};
+    ghost use Rattle.p3_ext.specs.Bases.{some_index};
     ghost use Rattle.p3_packed.specs.PackedValues.{same_packed, packed_with};
 
     const DIMENSION: usize = D;
@@ -45,5 +45,5 @@ impl<
 
     ghost onto = { packed_with };
 
-    ghost positive = { some_place F.at_least_two };
+    ghost positive = { some_index F.at_least_two };
 }

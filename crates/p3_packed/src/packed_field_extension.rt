@@ -17,7 +17,7 @@ fn packed_coefficient<F: PrimeCharacteristicRing, P: PackedRing<F>, const D: usi
     i: usize,
 ) -> P
     requires whole { length slice.now ≡ P.WIDTH }
-    requires place { i < D }
+    requires index { i < D }
     ensures { (d : _) (k : ℕ) → k < P.WIDTH → get_or (P.lanes result) k F.ops.zero ≡ get_or (get_or slice.now k d).value i F.ops.zero }
 {
     let mut part = P::zero();

@@ -12,8 +12,8 @@ use Rattle.p3_theory.specs.Rings.DotProduct.{sum_list-append}
 use Rattle.p3_theory.specs.Polynomials.Sequences.{zero-mul}
 use Rattle.p3_theory.specs.Polynomials.Polynomial.{tabulate, at}
 use Rattle.p3_theory.specs.Polynomials.Coefficients.{length-tabulate}
-use Rattle.p3_theory.specs.Lists.Places.{to-tabulate, get-tabulate, read_at}
-use Rattle.p3_theory.specs.Lists.TabulatedPlaces.{UpdatedBelow, updated-more, updated-all}
+use Rattle.p3_theory.specs.Lists.ByIndex.{to-tabulate, get-tabulate, read_at}
+use Rattle.p3_theory.specs.Lists.TabulatedEntries.{UpdatedBelow, updated-more, updated-all}
 
 module _ {A : Type 0} (O : Ops A) (d : ℕ) where
   -- coefficient i times the scale below d, and zero from d on

@@ -7,7 +7,7 @@ use borrow.Author.Count.{below_more}
 use Rattle.std.specs.Array.{IsFromFnResult}
 use Rattle.std.specs.Fn.{Called}
 use Rattle.p3_theory.specs.Lists.IndexCalls.{answers-tabulate}
-use Rattle.p3_theory.specs.Lists.Places.{to-tabulate}
+use Rattle.p3_theory.specs.Lists.ByIndex.{to-tabulate}
 use Rattle.p3_theory.specs.Rings.Homomorphism.{length-map}
 use denote.Param.Members.{Mut}
 

@@ -6,7 +6,7 @@ use Rattle.std.proofs.lemmas.List.{length-map}
 use Rattle.std.proofs.lemmas.List.Elements.{All-append}
 use Rattle.p3_theory.specs.Polynomials.Polynomial.{tabulate}
 use Rattle.p3_theory.specs.Polynomials.Coefficients.{length-tabulate}
-use Rattle.p3_theory.specs.Lists.Places.{to-tabulate}
+use Rattle.p3_theory.specs.Lists.ByIndex.{to-tabulate}
 use Rattle.p3_theory.specs.Rings.Homomorphism.{map-tabulate}
 use Rattle.p3_spaces.specs.Streams.{column, AllOfLength, AreParallel, row_bytes, row_words, byte_stream, word_stream, little_endian, groups, group, group_count}
 use Rattle.std.proofs.lemmas.List.{drop_all, length-replicate}
@@ -207,12 +207,12 @@ pub left_past : {B : Type 0} (n : ℕ) (s : ℕ → B) (i : ℕ) → n ≤ i →
 left_past n s i h = drop_all i (tabulate n s) (omega (arith, length-tabulate n s))
 
 -- a list whose entries are f of another's
-pub map-by_places : {A : Type 0} (f : A → ℕ) (xs : List A) (ys : List ℕ) → length ys ≡ length xs
+pub map-by_indices : {A : Type 0} (f : A → ℕ) (xs : List A) (ys : List ℕ) → length ys ≡ length xs
     → ((k : ℕ) (d : A) → k < length xs → slice_index ys k ≡ f (slice_index_or xs k d)) → ys ≡ map f xs
-map-by_places f [] [] l h = refl
-map-by_places f [] (y ∷ ys) l h = absurd (omega (arith, l))
-map-by_places f (x ∷ xs) [] l h = absurd (omega (arith, l))
-map-by_places f (x ∷ xs) (y ∷ ys) l h = ap₂ (λ z zs. z ∷ zs) (h 0 x (omega arith)) (map-by_places f xs ys (omega (arith, l)) (λ k d b. h (suc k) d (omega arith)))
+map-by_indices f [] [] l h = refl
+map-by_indices f [] (y ∷ ys) l h = absurd (omega (arith, l))
+map-by_indices f (x ∷ xs) [] l h = absurd (omega (arith, l))
+map-by_indices f (x ∷ xs) (y ∷ ys) l h = ap₂ (λ z zs. z ∷ zs) (h 0 x (omega arith)) (map-by_indices f xs ys (omega (arith, l)) (λ k d b. h (suc k) d (omega arith)))
 
 -- one more entry, written at its index
 pub wrote_entry : (s : ℕ → ℕ) (i : ℕ) (ws : List ℕ) (v : ℕ) → i < length ws → ((k : ℕ) → k < i → slice_index ws k ≡ s k) → v ≡ s i

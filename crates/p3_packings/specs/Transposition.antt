@@ -7,7 +7,7 @@ use Rattle.std.proofs.lemmas.Option.{get_or_from_slice_get}
 use Rattle.std.proofs.Math.ListN.{set}
 use Rattle.std.proofs.Math.Nat.{suc-mul, mul-le-mul_right}
 use Rattle.p3_theory.specs.Rings.Ring.{Ops}
-use Rattle.p3_theory.specs.Lists.TabulatedPlaces.{HoldsBelow, holds-more}
+use Rattle.p3_theory.specs.Lists.TabulatedEntries.{HoldsBelow, holds-more}
 
 -- value i of a list of packings of w lanes, from lane 0 upward, packing after packing
 abbrev pub value_at : {P F : Type 0} → P → Ops F → (P → List F) → ℕ → List P → ℕ → F

@@ -65,12 +65,12 @@ fn add_scaled_row<P: PrimeCharacteristicRing, PE: Algebra<P>, const N: usize>(
     ensures { acc.new ≡ add_scaled_row PE.ops PE.embed N acc.old row.now scales }
 {
     let groups = (acc.len() / N).min(row.len());
-    let mut place = 0;
+    let mut index = 0;
     for c in 0..groups {
         for j in 0..N {
             let product = scales[j] * row[c];
-            acc[place] += product;
-            place += 1;
+            acc[index] += product;
+            index += 1;
         }
     }
 }

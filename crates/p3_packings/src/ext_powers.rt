@@ -1,7 +1,7 @@
 //! The powers of an extension value as packings.
 ghost use Rattle.std.specs.Prelude.{◌≡◌, ◌<◌, length, replicate};
 ghost use Rattle.std.specs.Int.{div_ceil};
-ghost use Rattle.p3_theory.specs.Lists.TabulatedPlaces.{HoldsBelow};
+ghost use Rattle.p3_theory.specs.Lists.TabulatedEntries.{HoldsBelow};
 ghost use Rattle.p3_theory.specs.Rings.GeometricSequence.{geometric_term};
 ghost use Rattle.p3_ring.specs.BoundedSequence.{terms};
 ghost use Rattle.p3_ring.specs.PackedPowers.{PacksTerms};

@@ -4,12 +4,12 @@ use Rattle.std.proofs.lemmas.List.{ext_get_or, get_or-take, get_or-drop, get_or-
 use Rattle.p3_theory.specs.Rings.Ring.{Ops, RingLaws, ring_of}
 use Rattle.p3_theory.specs.Rings.Powers.{sum_of}
 use Rattle.p3_theory.specs.Rings.DotProduct.{dot, dot-chunk}
-use Rattle.p3_theory.specs.Lists.Places.{get-tabulate}
+use Rattle.p3_theory.specs.Lists.ByIndex.{get-tabulate}
 use Rattle.p3_theory.specs.Polynomials.BaseProduct.{scaled}
 use Rattle.p3_theory.specs.Polynomials.Coefficients.{length-tabulate}
 use Rattle.p3_theory.specs.Polynomials.ConvolutionSums.{first_sum, first-sum}
 use Rattle.p3_theory.specs.Polynomials.Sequences.{zero-mul}
-use Rattle.p3_theory.specs.Products.ProductPlaces.{product_place}
+use Rattle.p3_theory.specs.Products.ProductCoefficients.{product_coefficient}
 
 module _ {A : Type 0} (o : Ops A) where
   -- the first k coefficients from the last of them to the first, and behind them those from the last one down, times w
@@ -98,8 +98,8 @@ module _ {A : Type 0} (o : Ops A) where
           back i lt = omega (arith, lt)
 
       -- the dot product with the row after coefficient k is that of X^k
-      pub row-place : (s : A) → s ≡ dot o a row → s ≡ product_place o D w a b k
-      row-place s e = e ∙ dot-chunk l a row 0 (k + 1) (la ∙ sym r.0)
+      pub row-coefficient : (s : A) → s ≡ dot o a row → s ≡ product_coefficient o D w a b k
+      row-coefficient s e = e ∙ dot-chunk l a row 0 (k + 1) (la ∙ sym r.0)
           ∙ ap₂ o.add low (ap (λ j. dot o (drop j a) (drop j row)) plain ∙ high)
         where
           plain : 0 + (k + 1) ≡ k + 1

@@ -6,7 +6,7 @@ ghost use Rattle.p3_theory.specs.Polynomials.BaseProduct.{scaled};
 ghost use Rattle.p3_theory.specs.Polynomials.ConvolutionSums.{first_sum};
 ghost use Rattle.p3_theory.specs.Rings.DotProduct.{dot};
 ghost use Rattle.p3_theory.specs.Rings.Ring.{subtract, IsInverse};
-ghost use Rattle.p3_theory.specs.Products.ProductPlaces.{product_place};
+ghost use Rattle.p3_theory.specs.Products.ProductCoefficients.{product_coefficient};
 ghost use Rattle.p3_theory.specs.Rings.Multiples.{two};
 ghost use Rattle.p3_theory.specs.Inverses.EvenOdd.{interleave, norm_by_halves};
 ghost use Rattle.p3_theory.specs.Inverses.InversesByHalves.{less_shifted};
@@ -29,7 +29,7 @@ pub fn products_at<A: PrimeCharacteristicRing>(
     requires some { 1 ≤ count }
     requires first { skip + count ≤ length a.now }
     requires second { top < length b.now }
-    requires places { count ≤ top + 1 }
+    requires indices { count ≤ top + 1 }
     ensures { result ≡ first_sum A.ops.zero A.ops.add count (λ i. A.ops.mul (get_or a.now (skip + i) A.ops.zero) (get_or b.now (top - i) A.ops.zero)) }
 {
     let mut sum = a[skip] * b[top];
@@ -50,10 +50,10 @@ pub fn compute_coefficient<F: PrimeCharacteristicRing, A: Algebra<F>>(
     k: usize,
     w: F,
 ) -> A
-    requires place { k < degree }
+    requires index { k < degree }
     requires left { length a.now ≡ degree }
     requires right { length b.now ≡ degree }
-    ensures { result ≡ product_place A.ops degree (A.embed w) a.now b.now k }
+    ensures { result ≡ product_coefficient A.ops degree (A.embed w) a.now b.now k }
 {
     let low = products_at(a, b, 0, k, k + 1);
     let above = degree - 1 - k;
@@ -112,8 +112,8 @@ fn general_mul<F: PrimeCharacteristicRing, A: Algebra<F>, const D: usize>(
     write_reversed_scaled(b, w, &mut row);
     for k in 0..D {
         shift_in(&mut row, b[k]);
-        let place = A::dot_product(a, &row);
-        let sum = res[k] + place;
+        let coefficient = A::dot_product(a, &row);
+        let sum = res[k] + coefficient;
         res[k] = sum;
     }
 }
@@ -210,7 +210,7 @@ fn fixed_square<F: PrimeCharacteristicRing, A: Algebra<F>, const D: usize>(
     true
 }
 
-/// The square of a list of D coefficients modulo `X^D - W`, in the place of `binomial_mul` with
+/// The square of a list of D coefficients modulo `X^D - W`, in the coefficient of `binomial_mul` with
 /// itself. Upstream's `binomial_square`.
 #[inline]
 pub fn binomial_square<F: PrimeCharacteristicRing, A: Algebra<F>, const D: usize>(
@@ -260,7 +260,7 @@ pub fn binomial_product<F: PrimeCharacteristicRing, A: Algebra<F>, const D: usiz
     }
 }
 
-/// `binomial_product` by an element W of the ring itself: one bound in place of two, since each
+/// `binomial_product` by an element W of the ring itself: one bound in coefficient of two, since each
 /// bound costs a check at the type of an extension. This project's own.
 #[inline]
 pub fn ring_product<R: PrimeCharacteristicRing, const D: usize>(

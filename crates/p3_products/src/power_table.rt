@@ -15,7 +15,7 @@ pub trait PowerTable<F: Field, const D: usize> {
     fn coefficient(i: usize, k: usize) -> F
         requires some { 1 ≤ i }
         requires power { i < D }
-        requires place { k < D }
+        requires index { k < D }
         ensures { result ≡ Polynomial.at F.ops (powers i) k };
 
     ghost first_is_one: { powers 0 ≡ Polynomial.embed F.ops D F.ops.one };
@@ -26,7 +26,7 @@ pub trait PowerTable<F: Field, const D: usize> {
 fn image_of_rest<F: Field, T: PowerTable<F, D>, const D: usize>(a: &[F], k: usize) -> F
     requires degree { 2 ≤ D }
     requires input { length a.now ≡ D }
-    requires place { k < D }
+    requires index { k < D }
     ensures { result ≡ rest_of_image F.ops D T.powers a.now k }
 {
     let mut sum = a[1] * T::coefficient(1, k);

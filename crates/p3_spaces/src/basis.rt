@@ -80,7 +80,7 @@ pub trait BasedVectorSpace<F: PrimeCharacteristicRing>: Copy {
     where
         F: InMemory,
         ensures all { IfOk result (λ v. v.items ≡ flattened coefficients vec.items) }
-        ensures places { IfOk result (λ v. HasCoefficientsOf coefficients DIMENSION vec.items v.items) }
+        ensures coefficients { IfOk result (λ v. HasCoefficientsOf coefficients DIMENSION vec.items v.items) }
         ensures empty { vec_len vec ≡ 0 → IsOk result }
     {
         Self::flatten_to_base_in(alloc, vec)
@@ -94,7 +94,7 @@ pub trait BasedVectorSpace<F: PrimeCharacteristicRing>: Copy {
     where
         F: InMemory,
         ensures all { IfOk result (λ v. v.items ≡ flattened coefficients vec.items) }
-        ensures places { IfOk result (λ v. HasCoefficientsOf coefficients DIMENSION vec.items v.items) }
+        ensures coefficients { IfOk result (λ v. HasCoefficientsOf coefficients DIMENSION vec.items v.items) }
         ensures empty { vec_len vec ≡ 0 → IsOk result }
     {
         let mut flat = Vec::with_capacity(alloc, vec.len().saturating_mul(Self::DIMENSION))?;
@@ -111,7 +111,7 @@ pub trait BasedVectorSpace<F: PrimeCharacteristicRing>: Copy {
     final fn reconstitute_from_base(alloc: Global, vec: Vec<F>) -> Result<Vec<Self>, AllocError>
         requires { vec_len vec % DIMENSION ≡ 0 }
         ensures all { IfOk result (λ v. flattened coefficients v.items ≡ vec.items) }
-        ensures places { IfOk result (λ v. HasCoefficientsOf coefficients DIMENSION v.items vec.items) }
+        ensures coefficients { IfOk result (λ v. HasCoefficientsOf coefficients DIMENSION v.items vec.items) }
         ensures empty { vec_len vec ≡ 0 → IsOk result }
     {
         Self::reconstitute_from_base_in(alloc, vec)
@@ -124,7 +124,7 @@ pub trait BasedVectorSpace<F: PrimeCharacteristicRing>: Copy {
     ) -> Result<Vec<Self, A>, AllocError>
         requires { vec_len vec % DIMENSION ≡ 0 }
         ensures all { IfOk result (λ v. flattened coefficients v.items ≡ vec.items) }
-        ensures places { IfOk result (λ v. HasCoefficientsOf coefficients DIMENSION v.items vec.items) }
+        ensures coefficients { IfOk result (λ v. HasCoefficientsOf coefficients DIMENSION v.items vec.items) }
         ensures empty { vec_len vec ≡ 0 → IsOk result }
     {
         let mut values = Vec::with_capacity(alloc, vec.len() / Self::DIMENSION)?;

@@ -20,7 +20,7 @@ pub trait ExtensionField<Base: Field>: Field
     /// the value doesn't lie in the base.
     fn as_base(&self) -> Option<Base>
         ensures exact { IsSome result ↔ IsScalar Base.ops (Self.coefficients self.now) }
-        ensures place { IfSome result (λ x. x ≡ Polynomial.at Base.ops (Self.coefficients self.now) 0) }
+        ensures coefficient { IfSome result (λ x. x ≡ Polynomial.at Base.ops (Self.coefficients self.now) 0) }
         ensures embedded { IfSome result (λ x. Self.embed x ≡ self.now) };
 
     /// The sum of basis element j times entry j, and `None` exactly where the count of the entries is

@@ -1,3 +1,3 @@
-mod PlaceLaws
+mod EntryLaws
 mod RoundLaws
-mod WrittenPlaces
+mod WrittenEntries

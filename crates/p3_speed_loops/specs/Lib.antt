@@ -1,5 +1,5 @@
 pub mod Answers
 pub mod Loops
 pub mod Overwriting
-pub mod Places
+pub mod ByIndex
 pub mod Steps

@@ -1,6 +1,6 @@
 -- Lists by index.
-pub mod Places
-pub mod TabulatedPlaces
+pub mod ByIndex
+pub mod TabulatedEntries
 pub mod PairedLists
 pub mod IndexCalls
 pub mod ListItems

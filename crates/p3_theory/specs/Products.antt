@@ -1,6 +1,6 @@
 -- Products and squares of remainders, by shape and degree.
 pub mod BinomialProduct
-pub mod ProductPlaces
-pub mod PlaceProducts
+pub mod ProductCoefficients
+pub mod CoefficientProducts
 pub mod ZeroedProducts
 pub mod ComplexExtensions

@@ -9,7 +9,7 @@ use Rattle.p3_theory.specs.Rings.Multiples.{of_nat}
 use Rattle.p3_theory.specs.Rings.Powers.{eval}
 use Rattle.p3_theory.specs.ResidueRings.Residues.{AreResidues}
 use Rattle.p3_theory.specs.Polynomials.Polynomial.{tabulate}
-use Rattle.p3_theory.specs.Lists.Places.{tabulate-same}
+use Rattle.p3_theory.specs.Lists.ByIndex.{tabulate-same}
 use Rattle.p3_tools.specs.Digits.{num, digits}
 use Rattle.p3_tools.specs.Multiples.{eval-digits, residue-multiple}
 use Rattle.p3_tools.proofs.Sizes.{pow-mul}

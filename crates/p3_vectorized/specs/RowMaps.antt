@@ -3,7 +3,7 @@ use Rattle.std.specs.Prelude.{◌≡◌, ◌<◌, ℕ, List, get_or, length, map
 use Rattle.std.proofs.Common.{ap, ap₂, ◌∙◌, sym}
 use Rattle.p3_theory.specs.Rings.Ring.{Ops, Hom, subtract}
 use Rattle.p3_theory.specs.Polynomials.Polynomial.{tabulate}
-use Rattle.p3_theory.specs.Lists.Places.{to-tabulate}
+use Rattle.p3_theory.specs.Lists.ByIndex.{to-tabulate}
 use Rattle.p3_theory.specs.Lists.IndexCalls.{answers-tabulate}
 use Rattle.std.specs.Array.{IsFromFnResult}
 use Rattle.std.specs.Fn.{Called}

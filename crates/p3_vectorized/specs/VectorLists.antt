@@ -9,8 +9,8 @@ use Rattle.std.proofs.Math.Nat.{mod-lt, mul_comm, suc-mul, mul-le-mul_right, div
 use borrow.Author.Count.{below_more}
 use Rattle.p3_theory.specs.Polynomials.Polynomial.{at, tabulate}
 use Rattle.p3_theory.specs.Polynomials.Coefficients.{length-tabulate}
-use Rattle.p3_theory.specs.Lists.Places.{get-tabulate, to-tabulate, read_at}
-use Rattle.p3_theory.specs.Lists.TabulatedPlaces.{HoldsBelow, holds-more, holds-all}
+use Rattle.p3_theory.specs.Lists.ByIndex.{get-tabulate, to-tabulate, read_at}
+use Rattle.p3_theory.specs.Lists.TabulatedEntries.{HoldsBelow, holds-more, holds-all}
 use Rattle.p3_theory.specs.Rings.Ring.{Ops}
 use Rattle.p3_theory.specs.Lanes.Lanes.{at_replicate}
 use Rattle.p3_theory.specs.Lanes.Rows.{Row}

@@ -119,7 +119,7 @@ impl<F: ExtensionAlgebra<F, D, S>, const D: usize, S: ExtensionShape> Algebra<F>
     ghost use Rattle.std.proofs.Common.{lit<};
     ghost use Rattle.p3_theory.specs.Rings.Ring.{ring_of};
     ghost use Rattle.p3_ext.specs.Values.{constant};
-    ghost use Rattle.p3_ext.specs.Bases.{embedding, some_place};
+    ghost use Rattle.p3_ext.specs.Bases.{embedding, some_index};
     ghost use Rattle.p3_ext.specs.Scalars.{is_scalar_sum, is_scalar_difference, is_scalar_product};
 
     ghost embed = { constant F.ops };
@@ -140,13 +140,13 @@ impl<F: ExtensionAlgebra<F, D, S>, const D: usize, S: ExtensionShape> Algebra<F>
 
     ghost froms = { λ f r h. h };
 
-    ghost mixed_adds = { record { called = λ _ _. (some_place F.at_least_two, λ _. F.adds.called _ _); answer = λ x c r h. is_scalar_sum (ring_of F.ring) D F.at_least_two F.modulus F.add_gives F.adds.answer x r c h } };
+    ghost mixed_adds = { record { called = λ _ _. (some_index F.at_least_two, λ _. F.adds.called _ _); answer = λ x c r h. is_scalar_sum (ring_of F.ring) D F.at_least_two F.modulus F.add_gives F.adds.answer x r c h } };
 
-    ghost mixed_add_assigns = { record { called = λ _ _. (some_place F.at_least_two, λ _. F.adds.called _ _); answer = λ x c r h. is_scalar_sum (ring_of F.ring) D F.at_least_two F.modulus F.add_gives F.adds.answer x r c h } };
+    ghost mixed_add_assigns = { record { called = λ _ _. (some_index F.at_least_two, λ _. F.adds.called _ _); answer = λ x c r h. is_scalar_sum (ring_of F.ring) D F.at_least_two F.modulus F.add_gives F.adds.answer x r c h } };
 
-    ghost mixed_subs = { record { called = λ _ _. (some_place F.at_least_two, λ _. F.subs.called _ _); answer = λ x c r h. is_scalar_difference (ring_of F.ring) D F.at_least_two F.modulus F.sub_gives F.subs.answer x r c h } };
+    ghost mixed_subs = { record { called = λ _ _. (some_index F.at_least_two, λ _. F.subs.called _ _); answer = λ x c r h. is_scalar_difference (ring_of F.ring) D F.at_least_two F.modulus F.sub_gives F.subs.answer x r c h } };
 
-    ghost mixed_sub_assigns = { record { called = λ _ _. (some_place F.at_least_two, λ _. F.subs.called _ _); answer = λ x c r h. is_scalar_difference (ring_of F.ring) D F.at_least_two F.modulus F.sub_gives F.subs.answer x r c h } };
+    ghost mixed_sub_assigns = { record { called = λ _ _. (some_index F.at_least_two, λ _. F.subs.called _ _); answer = λ x c r h. is_scalar_difference (ring_of F.ring) D F.at_least_two F.modulus F.sub_gives F.subs.answer x r c h } };
 
     ghost mixed_muls = { record { called = λ _ _ _ _ _. F.muls.called _ _; answer = λ x c r h. is_scalar_product (ring_of F.ring) D F.at_least_two F.modulus F.mul_gives F.monic F.muls.answer x r c h } };
 

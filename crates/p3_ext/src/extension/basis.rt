@@ -13,7 +13,7 @@ use std::alloc::{AllocError, Allocator};
 impl<F: Copy, const D: usize, S: ExtensionShape, A: ExtensionAlgebra<F, D, S>> BasedVectorSpace<A>
     for ExtField<F, D, S, A> {
     ghost use Rattle.p3_ext.specs.Values.{same_value, value_of};
-    ghost use Rattle.p3_ext.specs.Bases.{some_place, with_coefficients};
+    ghost use Rattle.p3_ext.specs.Bases.{some_index, with_coefficients};
 
     const DIMENSION: usize = D;
 
@@ -45,7 +45,7 @@ impl<F: Copy, const D: usize, S: ExtensionShape, A: ExtensionAlgebra<F, D, S>> B
 
     ghost onto = { with_coefficients };
 
-    ghost positive = { some_place A.at_least_two };
+    ghost positive = { some_index A.at_least_two };
 }
 
 impl<F: FrobeniusExtendable<D, S>, const D: usize, S: ExtensionShape> AlgebraIdentity<F>

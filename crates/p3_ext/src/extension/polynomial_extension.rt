@@ -85,7 +85,7 @@ pub trait ExtendableModulo<const D: usize, S: IntegerPolynomial<D>>: Field
     /// The coefficient at `X^k` of power i of the image of X.
     fn power_of_image(i: usize, k: usize) -> Self
         requires power { i < D }
-        requires place { k < D }
+        requires index { k < D }
         ensures { result ≡ at Self.ops (power (quotient_ops Self.ops D Self.modulus) image i) k };
 
     /// The coefficient at `X^i` of a generator candidate; no law says that it generates.
@@ -97,7 +97,7 @@ pub trait ExtendableModulo<const D: usize, S: IntegerPolynomial<D>>: Field
     #[inline]
     final fn frobenius_coeffs(i: usize, k: usize) -> Self
         requires power { i + 1 < D }
-        requires place { k < D }
+        requires index { k < D }
         ensures { result ≡ at Self.ops (power (quotient_ops Self.ops D Self.modulus) image (i + 1)) k }
     {
         Self::power_of_image(i + 1, k)

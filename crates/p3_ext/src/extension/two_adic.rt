@@ -27,7 +27,7 @@ pub trait HasTwoAdicBinomialExtension<const D: usize>: BinomiallyExtendable<D> {
     /// The coefficient at `X^i` of a root of unity of order `2^bits` in the extension.
     fn ext_two_adic_generator(bits: usize, i: usize) -> Self
         requires bits { bits ≤ EXT_TWO_ADICITY }
-        requires place { i < D }
+        requires index { i < D }
         ensures { result ≡ ext_two_adic bits i };
 
     /// The generator for no bits is one, each one's square is the one before it, and the one for
@@ -55,7 +55,7 @@ pub trait HasTwoAdicComplexBinomialExtension<const D: usize>: HasComplexBinomial
     /// The coefficient at `Y^i` of a root of unity of order `2^bits` in the extension.
     fn complex_ext_two_adic_generator(bits: usize, i: usize) -> Complex<Self>
         requires bits { bits ≤ COMPLEX_EXT_TWO_ADICITY }
-        requires place { i < D }
+        requires index { i < D }
         ensures { result ≡ complex_ext_two_adic bits i };
 
     /// The generator for no bits is one, each one's square is the one before it, and the one for
@@ -98,7 +98,7 @@ pub trait TwoAdicExtendable<const D: usize, S: ExtensionShape>: FrobeniusExtenda
     /// The coefficient at `X^i` of a root of unity of order `2^bits` in the extension.
     fn ext_two_adic_generator(bits: usize, i: usize) -> Self
         requires bits { bits ≤ EXT_TWO_ADICITY }
-        requires place { i < D }
+        requires index { i < D }
         ensures { result ≡ two_adic_coefficients bits i };
 
     /// The generator for no bits is one, each one's square is the one before it, and the one for

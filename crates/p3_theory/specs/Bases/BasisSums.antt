@@ -3,7 +3,7 @@ use Rattle.std.proofs.Common.{◌≡◌, ◌<◌, ◌≤◌, ◌+◌, ℕ, zero,
 use Rattle.p3_theory.specs.Rings.Ring.{Ops, RingLaws, ring_of}
 use Rattle.p3_theory.specs.Polynomials.Polynomial.{tabulate, at, embed}
 use Rattle.p3_theory.specs.Polynomials.Coefficients.{length-tabulate}
-use Rattle.p3_theory.specs.Lists.Places.{get-tabulate, to-tabulate, read_at}
+use Rattle.p3_theory.specs.Lists.ByIndex.{get-tabulate, to-tabulate, read_at}
 use Rattle.std.proofs.lemmas.List.{get_or_past}
 use Rattle.std.proofs.Math.Decide.{dec_le}
 use mathlib.Core.Logic.{dite}

@@ -20,16 +20,16 @@ module _ {A : Type 0} where
   slice_get-back (x ∷ xs) ys j = let e : suc (length xs) + j ≡ suc (length xs + j) = omega arith in ap (slice_get ((x ∷ xs) ++ ys)) e ∙ slice_get-back xs ys j
 
 -- coefficient j of value i stands at index i * n + j
-pub flattened-place : {V A : Type 0} (coefficients : V → List A) (n : ℕ) → ((x : V) → length (coefficients x) ≡ n)
+pub flattened-entry : {V A : Type 0} (coefficients : V → List A) (n : ℕ) → ((x : V) → length (coefficients x) ≡ n)
     → (xs : List V) (i j : ℕ) (x : V) → slice_get xs i ≡ Some x → j < n → slice_get (flattened coefficients xs) (i * n + j) ≡ slice_get (coefficients x) j
-flattened-place coefficients n l [] i j x e h = absurd (cc e)
-flattened-place coefficients n l (y ∷ ys) zero j x e h =
+flattened-entry coefficients n l [] i j x e h = absurd (cc e)
+flattened-entry coefficients n l (y ∷ ys) zero j x e h =
     let k : 0 * n + j ≡ j = omega arith in
     ap (slice_get (flattened coefficients (y ∷ ys))) k ∙ slice_get-front (coefficients y) (flattened coefficients ys) j (omega (arith, l y)) ∙ ap (λ z. slice_get (coefficients z) j) (cc e)
-flattened-place coefficients n l (y ∷ ys) (suc i) j x e h =
+flattened-entry coefficients n l (y ∷ ys) (suc i) j x e h =
     let more : suc i * n ≡ n + i * n = omega arith in
     let k : suc i * n + j ≡ length (coefficients y) + (i * n + j) = omega (arith, more, l y) in
-    ap (slice_get (flattened coefficients (y ∷ ys))) k ∙ slice_get-back (coefficients y) (flattened coefficients ys) (i * n + j) ∙ flattened-place coefficients n l ys i j x e h
+    ap (slice_get (flattened coefficients (y ∷ ys))) k ∙ slice_get-back (coefficients y) (flattened coefficients ys) (i * n + j) ∙ flattened-entry coefficients n l ys i j x e h
 
 -- the coefficients of one more value, taken from the front of what is left
 pub flattened-push : {V A : Type 0} (coefficients : V → List A) (n : ℕ) (xs : List V) (x : V) (rest all : List A) → coefficients x ≡ take n rest

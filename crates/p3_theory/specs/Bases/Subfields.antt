@@ -8,7 +8,7 @@ use mathlib.Core.Logic.{dite}
 use Rattle.p3_theory.specs.Rings.Ring.{Ops}
 use Rattle.p3_theory.specs.Polynomials.Polynomial.{at, embed}
 use Rattle.p3_theory.specs.Polynomials.Coefficients.{length-tabulate}
-use Rattle.p3_theory.specs.Lists.Places.{get-tabulate}
+use Rattle.p3_theory.specs.Lists.ByIndex.{get-tabulate}
 use Rattle.p3_theory.specs.Bases.BasisSums.{IsScalar}
 
 -- e takes some element to x

@@ -111,8 +111,8 @@ module _ {A : Type 0} (R : Ring A) (d : ℕ) (w c : A) (root : power R.ops c (su
       ∙ X.Ext-path R d f m _ _ (Sg.at_var R d f m f ∙ Sg.remainder-modulus R d f m)
 
   -- index k is multiplied by c^k
-  pub sigma_places : (a : Ext R d f m) → at R.ops (sigma a).0 ≡ (λ k. power R.ops c k ⊗ at R.ops a.0 k)
-  sigma_places a = ap (λ b. at R.ops b.0) (Sg.sigma-horner R d f m image a
+  pub sigma_coefficients : (a : Ext R d f m) → at R.ops (sigma a).0 ≡ (λ k. power R.ops c k ⊗ at R.ops a.0 k)
+  sigma_coefficients a = ap (λ b. at R.ops b.0) (Sg.sigma-horner R d f m image a
       ∙ V.horner-twist R E (emb R d f m) (Sg.hom R d f m) c (Sg.var R d f m) (suc d) (at R.ops a.0)
       ∙ ap₂ (horner R E (emb R d f m) (Sg.hom R d f m) (Sg.var R d f m)) (sym (F.length-tabulate (suc d) s)) (sym tab))
       ∙ ap (at R.ops) (Sg.at_var R d f m (tabulate (suc d) s) ∙ Sg.remainder-small R d f m (tabulate (suc d) s) (F.length-tabulate (suc d) s)) ∙ tab
@@ -123,19 +123,19 @@ module _ {A : Type 0} (R : Ring A) (d : ℕ) (w c : A) (root : power R.ops c (su
       tab : at R.ops (tabulate (suc d) s) ≡ s
       tab = F.at-tabulate R (suc d) s (λ k le. ap (λ v. power R.ops c k ⊗ v) (Q.small R d f m a.0 a.1 k le) ∙ Basics.mul-zero R _)
 
-  iterate_places : (n : ℕ) (a : Ext R d f m) (k : ℕ) → at R.ops (iterate sigma n a).0 k ≡ power R.ops (power R.ops c k) n ⊗ at R.ops a.0 k
-  iterate_places zero a k = sym (Basics.one-mul R _)
-  iterate_places (suc n) a k = iterate_places n (sigma a) k ∙ ap (λ v. power R.ops (power R.ops c k) n ⊗ v) (ap (λ s. s k) (sigma_places a))
+  iterate_coefficients : (n : ℕ) (a : Ext R d f m) (k : ℕ) → at R.ops (iterate sigma n a).0 k ≡ power R.ops (power R.ops c k) n ⊗ at R.ops a.0 k
+  iterate_coefficients zero a k = sym (Basics.one-mul R _)
+  iterate_coefficients (suc n) a k = iterate_coefficients n (sigma a) k ∙ ap (λ v. power R.ops (power R.ops c k) n ⊗ v) (ap (λ s. s k) (sigma_coefficients a))
       ∙ sym (R.mul_assoc _ _ _) ∙ ap (λ v. v ⊗ at R.ops a.0 k) (R.mul_comm _ _)
 
   pub frobenius : ((k : ℕ) → 1 ≤ k → k < suc d → Invertible R.ops (power R.ops c k ⊕ neg 𝟏))
       → IsFrobenius R.ops E.ops (emb R d f m) (suc d) sigma
   frobenius apart = record {
     mul = Sg.sigma_mul R d f m image image_root;
-    embedded = λ x. X.by_place R d f m _ _ (sigma_places (emb R d f m x) ∙ fun_ext (constant x));
-    order = λ b. X.by_place R d f m _ _ (fun_ext (λ k. iterate_places (suc d) b k
+    embedded = λ x. X.by_coefficients R d f m _ _ (sigma_coefficients (emb R d f m x) ∙ fun_ext (constant x));
+    order = λ b. X.by_coefficients R d f m _ _ (fun_ext (λ k. iterate_coefficients (suc d) b k
         ∙ ap (λ v. v ⊗ at R.ops b.0 k) (power-root R c (suc d) root k) ∙ Basics.one-mul R _));
-    fixed = λ b e. (at R.ops b.0 zero, X.by_place R d f m _ _ (fun_ext (places b e) ∙ sym (X.at-embed R d f m (at R.ops b.0 zero))));
+    fixed = λ b e. (at R.ops b.0 zero, X.by_coefficients R d f m _ _ (fun_ext (places b e) ∙ sym (X.at-embed R d f m (at R.ops b.0 zero))));
   }
     where
       constant : (x : A) (k : ℕ) → power R.ops c k ⊗ at R.ops (embed R.ops (suc d) x) k ≡ at R.ops (embed R.ops (suc d) x) k
@@ -146,7 +146,7 @@ module _ {A : Type 0} (R : Ring A) (d : ℕ) (w c : A) (root : power R.ops c (su
       places : (b : Ext R d f m) → sigma b ≡ b → (k : ℕ) → at R.ops b.0 k ≡ at R.ops (at R.ops b.0 zero ∷ []) k
       places b e zero = refl
       places b e (suc k) = elim (cases_lt (suc k) (suc d)) [
-        | inl lt ↦ cancels R (power R.ops c (suc k)) (at R.ops b.0 (suc k)) (sym (ap (λ s. s (suc k)) (sigma_places b)) ∙ ap (λ v. at R.ops v.0 (suc k)) e) (apart (suc k) (omega arith) lt)
+        | inl lt ↦ cancels R (power R.ops c (suc k)) (at R.ops b.0 (suc k)) (sym (ap (λ s. s (suc k)) (sigma_coefficients b)) ∙ ap (λ v. at R.ops v.0 (suc k)) e) (apart (suc k) (omega arith) lt)
         | inr ge ↦ Q.small R d f m b.0 b.1 (suc k) ge
       ]
 

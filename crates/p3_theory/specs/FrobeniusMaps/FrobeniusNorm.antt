@@ -66,10 +66,10 @@ module _ {A : Type 0} (R : Ring A) (d : ℕ) (w c : A) (root : power R.ops c (su
   turned = quotient_mul R.ops (suc d) f (embed R.ops (suc d) c) (unknown R.ops (suc d) f)
 
   -- the map is one factor for each index
-  pub turned_places : (a : Ext R d f m) → frobenius_list R.ops (suc d) f turned a.0 ≡ scale_powers R.ops (suc d) c a.0
-  turned_places a = sym (T.frobenius-list R d f m (Bi.image R d w c root) a)
+  pub turned_coefficients : (a : Ext R d f m) → frobenius_list R.ops (suc d) f turned a.0 ≡ scale_powers R.ops (suc d) c a.0
+  turned_coefficients a = sym (T.frobenius-list R d f m (Bi.image R d w c root) a)
       ∙ F.ext R _ _ ((Bi.sigma R d w c root a).1 ∙ sym (F.length-tabulate (suc d) (λ k. R.mul (power R.ops c k) (at R.ops a.0 k))))
-      (Bi.sigma_places R d w c root a ∙ sym (F.at-tabulate R (suc d) (λ k. R.mul (power R.ops c k) (at R.ops a.0 k))
+      (Bi.sigma_coefficients R d w c root a ∙ sym (F.at-tabulate R (suc d) (λ k. R.mul (power R.ops c k) (at R.ops a.0 k))
       (λ k le. ap (R.mul (power R.ops c k)) (Q.small R d f m a.0 a.1 k le) ∙ Basics.mul-zero R _)))
 
   iterate-list : (n : ℕ) (a : Ext R d f m) → (iterate (Bi.sigma R d w c root) n a).0 ≡ iterate (frobenius_list R.ops (suc d) f turned) n a.0

@@ -6,7 +6,7 @@ use Rattle.std.proofs.lemmas.Bool.{cases_lt}
 use Rattle.p3_theory.specs.Rings.Ring.{Ops, Ring}
 use Rattle.p3_theory.specs.Polynomials.Polynomial.{tabulate, at, IsMonic, quotient_ops, quotient_add, quotient_mul, embed, monomial}
 use Rattle.p3_theory.specs.Rings.Powers.{power, sum_of, eval}
-use Rattle.p3_theory.specs.Lists.Places.{get-tabulate, tabulate-entry, tabulate-same}
+use Rattle.p3_theory.specs.Lists.ByIndex.{get-tabulate, tabulate-entry, tabulate-same}
 use Rattle.p3_theory.specs.FrobeniusMaps.Frobenius.{iterate}
 use Rattle.p3_theory.specs.Polynomials.Sequences as Basics
 use Rattle.p3_theory.specs.Polynomials.Sequences.{add_sequences, scale, tail, zero_sequence}
@@ -105,11 +105,11 @@ module _ {A : Type 0} (R : Ring A) (d : ℕ) (f : List A) (m : IsMonic R.ops (su
       (X.chain R d f m (X.flip R d f m (X.mul~ R d f m (embed R.ops D x) v.0))
       (X.same R d f m (ap (λ s. Rattle.p3_theory.specs.Polynomials.Polynomial.convolve R.ops s (at R.ops v.0)) (X.at-embed R d f m x) ∙ fun_ext (X.const-scale R d f m x (at R.ops v.0)))))
 
-  sum-places : (n : ℕ) (x : ℕ → A) (v : ℕ → Ext R d f m) (k : ℕ)
+  sum-coefficients : (n : ℕ) (x : ℕ → A) (v : ℕ → Ext R d f m) (k : ℕ)
       → at R.ops (sum_of E.ops n (λ i. E.mul (emb R d f m (x i)) (v i))).0 k ≡ sum_of R.ops n (λ i. x i ⊗ at R.ops (v i).0 k)
-  sum-places zero x v k = ap (λ s. s k) (X.at-embed R d f m 𝟎 ∙ X.zeros R d f m)
-  sum-places (suc n) x v k = ap (λ s. s k) (X.at-add R d f m (E.mul (emb R d f m (x zero)) (v zero)).0 rest.0 (X.length-mul R d f m (embed R.ops D (x zero)) (v zero).0) rest.1)
-      ∙ ap₂ (λ y z. y ⊕ z) (ap (λ s. s k) (scaled (x zero) (v zero))) (sum-places n (λ i. x (suc i)) (λ i. v (suc i)) k)
+  sum-coefficients zero x v k = ap (λ s. s k) (X.at-embed R d f m 𝟎 ∙ X.zeros R d f m)
+  sum-coefficients (suc n) x v k = ap (λ s. s k) (X.at-add R d f m (E.mul (emb R d f m (x zero)) (v zero)).0 rest.0 (X.length-mul R d f m (embed R.ops D (x zero)) (v zero).0) rest.1)
+      ∙ ap₂ (λ y z. y ⊕ z) (ap (λ s. s k) (scaled (x zero) (v zero))) (sum-coefficients n (λ i. x (suc i)) (λ i. v (suc i)) k)
     where
       rest : Ext R d f m
       rest = sum_of E.ops n (λ i. E.mul (emb R d f m (x (suc i))) (v (suc i)))
@@ -123,7 +123,7 @@ module _ {A : Type 0} (R : Ring A) (d : ℕ) (f : List A) (m : IsMonic R.ops (su
       s k = sum_of R.ops D (λ i. at R.ops a.0 i ⊗ at R.ops (power (quotient_ops R.ops D f) phi.0 i) k)
 
       same : (k : ℕ) → at R.ops (sigma_of R d f m phi a).0 k ≡ s k
-      same k = sum-places (length a.0) (at R.ops a.0) (power E.ops phi) k
+      same k = sum-coefficients (length a.0) (at R.ops a.0) (power E.ops phi) k
           ∙ ap (λ n. sum_of R.ops n (λ i. at R.ops a.0 i ⊗ at R.ops (power E.ops phi i).0 k)) a.1
           ∙ sum-same R D _ _ (λ i lt. ap (λ v. at R.ops a.0 i ⊗ at R.ops v k) (power-list phi i))
 

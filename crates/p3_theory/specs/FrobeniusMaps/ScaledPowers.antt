@@ -6,7 +6,7 @@ use Rattle.p3_theory.specs.Rings.Powers.{power, scale_powers}
 use Rattle.p3_theory.specs.FrobeniusMaps.Frobenius.{iterate}
 use Rattle.p3_theory.specs.Polynomials.Sequences.{one-mul}
 use Rattle.p3_theory.specs.Polynomials.Coefficients.{length-tabulate}
-use Rattle.p3_theory.specs.Lists.Places.{get-tabulate, to-tabulate}
+use Rattle.p3_theory.specs.Lists.ByIndex.{get-tabulate, to-tabulate}
 
 -- two maps that agree on the values of a kind, which the first one keeps, agree taken n times
 pub iterate-same : {B : Type 0} (P : B → Type 0) (s t : B → B) → ((b : B) → P b → P (s b)) → ((b : B) → P b → s b ≡ t b)

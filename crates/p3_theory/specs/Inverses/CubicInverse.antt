@@ -2,7 +2,7 @@
 use Rattle.std.proofs.Common.{◌≡◌, ◌≢◌, List, [], ◌∷◌, refl, sym, ap, ◌∙◌}
 use Rattle.p3_theory.specs.Rings.Ring.{Ring}
 use Rattle.p3_theory.specs.Polynomials.Polynomial.{at, quotient_mul, binomial, embed}
-use Rattle.p3_theory.specs.Lists.Places.{to-tabulate}
+use Rattle.p3_theory.specs.Lists.ByIndex.{to-tabulate}
 use Rattle.p3_theory.specs.Inverses.CubicNorm.{cubic_norm, cubic_rest, cubic_found, cubic_exact}
 use Rattle.p3_theory.specs.Inverses.ListInverses.{HasNoInverse}
 

@@ -1,7 +1,7 @@
 -- Values modulo X^(2h) = w as pairs of values modulo Y^h = w, with X * X = Y: h of 2 and of 4.
 use Rattle.std.proofs.Common.{◌≡◌, ◌+◌, ℕ, zero, suc, List, [], ◌∷◌, length, refl, sym, ap, ap₂, ◌∙◌, arith}
 use Rattle.p3_theory.specs.Rings.Ring.{Ops, Ring}
-use Rattle.p3_theory.specs.Lists.Places.{to-tabulate}
+use Rattle.p3_theory.specs.Lists.ByIndex.{to-tabulate}
 use Rattle.p3_theory.specs.Polynomials.Polynomial.{tabulate, at, quotient_mul, quotient_add, quotient_neg, binomial, embed, IsMonic}
 use Rattle.p3_theory.specs.RingSolver.Solver.{V, free}
 use Rattle.p3_theory.specs.RingSolver.Formula.{by_ring}

@@ -3,7 +3,7 @@ use Rattle.std.specs.Prelude.{◌≡◌, ◌<◌, ◌≤◌, ◌+◌, ◌*◌, �
 use Rattle.std.proofs.Common.{arith, ap, ◌∙◌, sym, subst}
 use Rattle.std.proofs.Math.ListN.{set, length-set}
 use Rattle.std.proofs.lemmas.List.{ext_get_or}
-use Rattle.p3_theory.specs.Lists.TabulatedPlaces.{HoldsBelow, holds-more}
+use Rattle.p3_theory.specs.Lists.TabulatedEntries.{HoldsBelow, holds-more}
 use Rattle.p3_theory.specs.Inverses.EvenOdd.{interleave}
 
 module _ {A : Type 0} where

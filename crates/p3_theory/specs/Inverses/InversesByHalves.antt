@@ -2,7 +2,7 @@
 use Rattle.std.proofs.Common.{◌≡◌, ◌+◌, ℕ, suc, List, [], ◌∷◌, length, refl, sym, ap, ap₂, ◌∙◌}
 use Rattle.p3_theory.specs.Rings.Ring.{Ops, Ring, subtract}
 use Rattle.p3_theory.specs.Polynomials.Polynomial.{at, convolution, quotient_mul, quotient_add, quotient_neg, binomial, embed}
-use Rattle.p3_theory.specs.Lists.Places.{to-tabulate, length-remainder}
+use Rattle.p3_theory.specs.Lists.ByIndex.{to-tabulate, length-remainder}
 use Rattle.p3_theory.specs.RingSolver.Solver.{Expr, V, free}
 use Rattle.p3_theory.specs.RingSolver.Formula.{by_ring}
 use Rattle.p3_theory.specs.Inverses.EvenOdd.{interleave, HalvesAt, norm_by_halves, halves_at_two, halves_at_four, halves_found, halves_exact}

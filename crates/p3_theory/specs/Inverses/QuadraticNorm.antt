@@ -3,7 +3,7 @@ use Rattle.std.proofs.Common.{◌≡◌, ◌≢◌, List, [], ◌∷◌, refl, s
 use Rattle.p3_theory.specs.Rings.Ring.{Ops, Ring}
 use Rattle.p3_theory.specs.Polynomials.Polynomial.{at, quotient_mul, binomial, embed}
 use Rattle.p3_theory.specs.Rings.DotProduct.{dot}
-use Rattle.p3_theory.specs.Lists.Places.{to-tabulate}
+use Rattle.p3_theory.specs.Lists.ByIndex.{to-tabulate}
 use Rattle.p3_theory.specs.RingSolver.Solver.{Expr, V, free}
 use Rattle.p3_theory.specs.RingSolver.Formula.{by_ring}
 use Rattle.p3_theory.specs.Inverses.ListInverses.{HasNoInverse}

@@ -7,7 +7,7 @@ use Rattle.p3_theory.specs.Rings.Multiples.{of_nat, two}
 use Rattle.p3_theory.specs.Rings.Homomorphism.{map-of_nat}
 use Rattle.p3_theory.specs.Polynomials.Polynomial.{tabulate}
 use Rattle.p3_theory.specs.Polynomials.Coefficients.{length-tabulate}
-use Rattle.p3_theory.specs.Lists.Places.{get-tabulate, to-tabulate}
+use Rattle.p3_theory.specs.Lists.ByIndex.{get-tabulate, to-tabulate}
 use Rattle.p3_theory.specs.Lanes.Lanes.{KeepsLanes}
 use Rattle.p3_theory.specs.Lanes.Rows.{Rows}
 use Rattle.p3_theory.specs.Lanes.LaneLaws.{laws_by_lanes}

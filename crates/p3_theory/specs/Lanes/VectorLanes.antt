@@ -3,7 +3,7 @@ use Rattle.std.specs.Prelude.{◌≡◌, ◌<◌, ◌*◌, ◌/◌, ◌%◌, ℕ
 use Rattle.std.proofs.Common.{arith, sym, ap, ◌∙◌}
 use Rattle.std.proofs.lemmas.Option.{get_or_from_slice_get}
 use Rattle.std.proofs.Math.Nat.{div-lt_iff_lt-mul, mod-lt, mul_comm}
-use Rattle.p3_theory.specs.Lists.Places.{read_at}
+use Rattle.p3_theory.specs.Lists.ByIndex.{read_at}
 use Rattle.p3_theory.specs.Rings.Ring.{Ops, Hom}
 use Rattle.p3_theory.specs.Rings.Homomorphism.{compose}
 use Rattle.p3_theory.specs.Lanes.Lanes.{lane, KeepsLanes}

@@ -6,7 +6,7 @@ use Rattle.std.specs.Fn.{Called, Takes}
 use Rattle.p3_theory.specs.Bases.Coordinates.{CallableBelow}
 use denote.Param.Members.{Mut}
 use Rattle.p3_theory.specs.Polynomials.Polynomial.{tabulate}
-use Rattle.p3_theory.specs.Lists.Places.{to-tabulate}
+use Rattle.p3_theory.specs.Lists.ByIndex.{to-tabulate}
 
 -- I holds of the function as the calls leave it, and then the call at i answers s i
 module _ {F B : Type 0} (g : Mut F (ℕ × Unit {0}) B) (I : F → Type 0) (s : ℕ → B)

@@ -3,8 +3,8 @@ use Rattle.std.specs.Prelude.{◌≡◌, ◌<◌, ◌+◌, ◌∷◌, ℕ, List,
 use Rattle.std.proofs.Common.{arith, ap, ap₂, sym, subst, ◌∙◌}
 use Rattle.std.proofs.Math.ListN.{set}
 use Rattle.std.proofs.lemmas.List.{map-set, length-map}
-use Rattle.p3_theory.specs.Lists.Places.{to-tabulate}
-use Rattle.p3_theory.specs.Lists.TabulatedPlaces.{HoldsBelow, holds-more, holds-all}
+use Rattle.p3_theory.specs.Lists.ByIndex.{to-tabulate}
+use Rattle.p3_theory.specs.Lists.TabulatedEntries.{HoldsBelow, holds-more, holds-all}
 
 module _ {A : Type 0} where
   -- the items of ys stand in xs from index i on

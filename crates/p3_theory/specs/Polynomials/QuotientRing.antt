@@ -151,8 +151,8 @@ module _ {A : Type 0} (R : Ring A) (d : ℕ) (f : List A) (m : IsMonic R.ops (su
       go zero = refl
       go (suc k) = refl
 
-  pub by_place : (a b : Ext) → at R.ops a.0 ≡ at R.ops b.0 → a ≡ b
-  by_place a b e = Ext-path a b (F.ext R a.0 b.0 (a.1 ∙ sym b.1) e)
+  pub by_coefficients : (a b : Ext) → at R.ops a.0 ≡ at R.ops b.0 → a ≡ b
+  by_coefficients a b e = Ext-path a b (F.ext R a.0 b.0 (a.1 ∙ sym b.1) e)
 
   -- the quotient ring modulo the polynomial, on lists with their length
   abbrev pub extension : Ring Ext
@@ -165,12 +165,12 @@ module _ {A : Type 0} (R : Ring A) (d : ℕ) (f : List A) (m : IsMonic R.ops (su
       mul = λ a b. (quotient_mul R.ops D f a.0 b.0, length-mul a.0 b.0);
     };
     laws = record {
-      add_comm = λ a b. by_place _ _ (at-add a.0 b.0 a.1 b.1 ∙ S.add_comm (at R.ops a.0) (at R.ops b.0) ∙ sym (at-add b.0 a.0 b.1 a.1));
-      add_assoc = λ a b c. by_place _ _ (at-add (quotient_add R.ops D a.0 b.0) c.0 (length-add a.0 b.0) c.1
+      add_comm = λ a b. by_coefficients _ _ (at-add a.0 b.0 a.1 b.1 ∙ S.add_comm (at R.ops a.0) (at R.ops b.0) ∙ sym (at-add b.0 a.0 b.1 a.1));
+      add_assoc = λ a b c. by_coefficients _ _ (at-add (quotient_add R.ops D a.0 b.0) c.0 (length-add a.0 b.0) c.1
           ∙ ap (λ s. add_sequences R s (at R.ops c.0)) (at-add a.0 b.0 a.1 b.1) ∙ S.add_assoc (at R.ops a.0) (at R.ops b.0) (at R.ops c.0)
           ∙ ap (add_sequences R (at R.ops a.0)) (sym (at-add b.0 c.0 b.1 c.1)) ∙ sym (at-add a.0 (quotient_add R.ops D b.0 c.0) a.1 (length-add b.0 c.0)));
-      add_zero = λ a. by_place _ _ (at-add a.0 (embed R.ops D 𝟎) a.1 (length-embed 𝟎) ∙ ap (add_sequences R (at R.ops a.0)) (at-embed 𝟎 ∙ zeros) ∙ S.add_zero (at R.ops a.0));
-      add_neg = λ a. by_place _ _ (at-add a.0 (quotient_neg R.ops D a.0) a.1 (length-neg a.0) ∙ ap (add_sequences R (at R.ops a.0)) (at-neg a.0 a.1)
+      add_zero = λ a. by_coefficients _ _ (at-add a.0 (embed R.ops D 𝟎) a.1 (length-embed 𝟎) ∙ ap (add_sequences R (at R.ops a.0)) (at-embed 𝟎 ∙ zeros) ∙ S.add_zero (at R.ops a.0));
+      add_neg = λ a. by_coefficients _ _ (at-add a.0 (quotient_neg R.ops D a.0) a.1 (length-neg a.0) ∙ ap (add_sequences R (at R.ops a.0)) (at-neg a.0 a.1)
           ∙ S.add_neg (at R.ops a.0) ∙ sym (at-embed 𝟎 ∙ zeros));
       mul_comm = λ a b. Ext-path _ _ (quotient_mul_comm a.0 b.0);
       mul_assoc = λ a b c. Ext-path _ _ (quotient_mul_assoc a.0 b.0 c.0);

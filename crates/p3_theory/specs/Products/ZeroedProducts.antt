@@ -2,7 +2,7 @@
 use Rattle.std.specs.Prelude.{◌≡◌, ℕ, List, Bool, true, false, IsTrue, IsFalse, replicate, refl}
 use Rattle.p3_theory.specs.Rings.Ring.{Ring}
 use Rattle.p3_theory.specs.Polynomials.Polynomial.{quotient_mul, quotient_add}
-use Rattle.p3_theory.specs.Products.PlaceProducts.{product_onto_zeros}
+use Rattle.p3_theory.specs.Products.CoefficientProducts.{product_onto_zeros}
 
 -- either way the product is there
 pub product_is_there : {A : Type 0} (R : Ring A) (D : ℕ) (f a b zeros r : List A) {written : Bool} → zeros ≡ replicate D R.zero

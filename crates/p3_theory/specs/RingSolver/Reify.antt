@@ -30,9 +30,9 @@ abbrev pub place : {A : Type 0} {d : A} {env : List A} {t : A} → Stands d env 
 place here = zero
 place (there s) = suc (place s)
 
-pub at-place : {A : Type 0} (d : A) {env : List A} {t : A} (s : Stands d env t) → at d env (place s) ≡ t
-at-place d here = refl
-at-place d (there s) = at-place d s
+pub at-index : {A : Type 0} (d : A) {env : List A} {t : A} (s : Stands d env t) → at d env (place s) ≡ t
+at-index d here = refl
+at-index d (there s) = at-index d s
 
 -- the expression that a value was read as
 abbrev pub expr : {A : Type 0} {o : Ops A} {env : List A} {t : A} → Reads o (Stands o.zero env) t → Expr
@@ -45,7 +45,7 @@ expr (reads_neg r) = ⊝ expr r
 expr (reads_by e r) = expr r
 
 pub eval-expr : {A : Type 0} (o : Ops A) (env : List A) {t : A} (r : Reads o (Stands o.zero env) t) → eval o env (expr r) ≡ t
-eval-expr o env (reads_var s) = at-place o.zero s
+eval-expr o env (reads_var s) = at-index o.zero s
 eval-expr o env reads_zero = refl
 eval-expr o env reads_one = refl
 eval-expr o env (reads_add r s) = ap₂ o.add (eval-expr o env r) (eval-expr o env s)

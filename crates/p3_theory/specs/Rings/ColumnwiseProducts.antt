@@ -10,9 +10,9 @@ use Rattle.p3_theory.specs.Rings.Ring.{Ops, RingLaws}
 use Rattle.p3_theory.specs.Rings.Operators.{sum_list}
 use Rattle.p3_theory.specs.Polynomials.Polynomial.{tabulate, at}
 use Rattle.p3_theory.specs.Polynomials.Coefficients.{length-tabulate}
-use Rattle.p3_theory.specs.Lists.Places.{to-tabulate, get-tabulate, read_at}
+use Rattle.p3_theory.specs.Lists.ByIndex.{to-tabulate, get-tabulate, read_at}
 use Rattle.p3_theory.specs.Rings.Homomorphism.{length-map}
-use Rattle.p3_theory.specs.Lists.TabulatedPlaces.{UpdatedBelow, updated-more, updated-all}
+use Rattle.p3_theory.specs.Lists.TabulatedEntries.{UpdatedBelow, updated-more, updated-all}
 use Rattle.p3_theory.specs.Rings.DotProduct.{sum_list-append}
 
 module _ {A F : Type 0} (O : Ops A) (e : F → A) (N : ℕ) where
@@ -22,12 +22,12 @@ module _ {A F : Type 0} (O : Ops A) (e : F → A) (N : ℕ) where
       (if nat_lt (p / N) (min groups (length row)) then O.mul (get_or scales (p % N) O.zero) (get_or (map e row) (p / N) O.zero) else O.zero)
 
   -- accumulator p after one row with its scales
-  abbrev pub place_after_row : List A → List F → List A → ℕ → A
-  place_after_row acc row scales p = O.add (at O acc p) (column_product (length acc / N) row scales p)
+  abbrev pub entry_after_row : List A → List F → List A → ℕ → A
+  entry_after_row acc row scales p = O.add (at O acc p) (column_product (length acc / N) row scales p)
 
   -- all accumulators after it
   abbrev pub add_scaled_row : List A → List F → List A → List A
-  add_scaled_row acc row scales = tabulate (length acc) (place_after_row acc row scales)
+  add_scaled_row acc row scales = tabulate (length acc) (entry_after_row acc row scales)
 
   -- the accumulators after all rows, each with its scales
   abbrev pub add_scaled_rows : List A → List (List F × List A) → List A
@@ -37,9 +37,9 @@ module _ {A F : Type 0} (O : Ops A) (e : F → A) (N : ℕ) where
   pub column-inside : (groups : ℕ) (row : List F) (scales : List A) (c j : ℕ) → c < min groups (length row) → j < N
       → column_product groups row scales (c * N + j) ≡ O.mul (get_or scales j O.zero) (get_or (map e row) c O.zero)
   column-inside groups row scales c j h k =
-      let row_place : (c * N + j) / N ≡ c = div-mul-add c N j k in
-      let scale_place : (c * N + j) % N ≡ j = mod-mul-add c N j k in
-      ap₂ (λ q r. if nat_lt q (min groups (length row)) then O.mul (get_or scales r O.zero) (get_or (map e row) q O.zero) else O.zero) row_place scale_place
+      let row_entry : (c * N + j) / N ≡ c = div-mul-add c N j k in
+      let scale_entry : (c * N + j) % N ≡ j = mod-mul-add c N j k in
+      ap₂ (λ q r. if nat_lt q (min groups (length row)) then O.mul (get_or scales r O.zero) (get_or (map e row) q O.zero) else O.zero) row_entry scale_entry
       ∙ inside c h
     where
       inside : (c : ℕ) → c < min groups (length row)
@@ -68,14 +68,14 @@ module _ {A F : Type 0} {O : Ops A} (l : RingLaws O) (e : F → A) (N : ℕ) whe
   -- a loop that adds the products index by index, from the first on, adds the row
   pub column-update : (acc now scales : List A) (row : List F) (c j place : ℕ) (x : A) (y : F) (old product new : A) → place ≡ c * N + j
       → c < min (length acc / N) (length row) → j < N → length scales ≡ N → place < length now
-      → UpdatedBelow (place_after_row O e N acc row scales) O.zero acc now place
+      → UpdatedBelow (entry_after_row O e N acc row scales) O.zero acc now place
       → x ≡ get_or scales j x → y ≡ get_or row c y → old ≡ get_or now place old → product ≡ O.mul x (e y) → new ≡ O.add old product
-      → UpdatedBelow (place_after_row O e N acc row scales) O.zero acc (set now place new) (place + 1)
-  column-update acc now scales row c j place x y old product new at_place in_row in_group all inside updated is_scale is_entry is_old is_product is_new =
-      updated-more (place_after_row O e N acc row scales) O.zero acc now place new inside updated
+      → UpdatedBelow (entry_after_row O e N acc row scales) O.zero acc (set now place new) (place + 1)
+  column-update acc now scales row c j place x y old product new at_index in_row in_group all inside updated is_scale is_entry is_old is_product is_new =
+      updated-more (entry_after_row O e N acc row scales) O.zero acc now place new inside updated
       (is_new ∙ ap₂ O.add (sym (read_at now place old O.zero inside is_old) ∙ updated.1 place (le_refl place))
       (is_product ∙ ap₂ O.mul (sym scale) (sym entry)
-      ∙ sym (ap (column_product O e N (length acc / N) row scales) at_place ∙ column-inside O e N (length acc / N) row scales c j in_row in_group)))
+      ∙ sym (ap (column_product O e N (length acc / N) row scales) at_index ∙ column-inside O e N (length acc / N) row scales c j in_row in_group)))
     where
       scale : get_or scales j O.zero ≡ x
       scale = read_at scales j x O.zero (omega (arith, all)) is_scale
@@ -84,9 +84,9 @@ module _ {A F : Type 0} {O : Ops A} (l : RingLaws O) (e : F → A) (N : ℕ) whe
       entry = read_at (map e row) c (e y) O.zero (omega (arith, length-map e row)) (ap e is_entry ∙ sym (get_or-map e row c y))
 
   pub column-end : (acc now scales : List A) (row : List F) (place : ℕ) → 0 < N → place ≡ min (length acc / N) (length row) * N → length now ≡ length acc
-      → UpdatedBelow (place_after_row O e N acc row scales) O.zero acc now place → now ≡ add_scaled_row O e N acc row scales
-  column-end acc now scales row place h at_place same updated =
-      updated-all (place_after_row O e N acc row scales) O.zero acc now (length acc) place same updated
+      → UpdatedBelow (entry_after_row O e N acc row scales) O.zero acc now place → now ≡ add_scaled_row O e N acc row scales
+  column-end acc now scales row place h at_index same updated =
+      updated-all (entry_after_row O e N acc row scales) O.zero acc now (length acc) place same updated
       (λ k w. sym (ap (O.add (at O acc k)) (column-outside O e N (length acc / N) row scales k h (omega arith)) ∙ l.add_zero _))
 
   -- no rows

@@ -86,15 +86,15 @@ module _ {A B : Type 0} (O : Ops A) (P : Ops B) (h : A → B) (H : Hom O P h) wh
   row-map (x ∷ t) zero = refl
   row-map (x ∷ t) (suc i) = row-map t i
 
-  place-map : (l : List A) (k : ℕ) → h (at O l k) ≡ at P (map h l) k
-  place-map l k = ap (λ s. s k) (sym (at-map l))
+  coefficient-map : (l : List A) (k : ℕ) → h (at O l k) ≡ at P (map h l) k
+  coefficient-map l k = ap (λ s. s k) (sym (at-map l))
 
-  row-place : (t : List (List A)) (i k : ℕ) → h (at O (row t i) k) ≡ at P (row (map (map h) t) i) k
-  row-place t i k = place-map (row t i) k ∙ ap (λ l. at P l k) (row-map t i)
+  row-coefficient : (t : List (List A)) (i k : ℕ) → h (at O (row t i) k) ≡ at P (row (map (map h) t) i) k
+  row-coefficient t i k = coefficient-map (row t i) k ∙ ap (λ l. at P l k) (row-map t i)
 
   rows-map : (D : ℕ) (t : List (List A)) (a : List A) → map h (row_sum O D (row t) a) ≡ row_sum P D (row (map (map h) t)) (map h a)
   rows-map D t a = map-tabulate h D _
-      ∙ ap (tabulate D) (fun_ext (λ k. sum-map D _ ∙ ap (sum_of P D) (fun_ext (λ i. H.mul _ _ ∙ ap₂ P.mul (place-map a i) (row-place t i k)))))
+      ∙ ap (tabulate D) (fun_ext (λ k. sum-map D _ ∙ ap (sum_of P D) (fun_ext (λ i. H.mul _ _ ∙ ap₂ P.mul (coefficient-map a i) (row-coefficient t i k)))))
 
   iterate-rows : (D : ℕ) (t : List (List A)) (n : ℕ) (a : List A)
       → map h (iterate (row_sum O D (row t)) n a) ≡ iterate (row_sum P D (row (map (map h) t))) n (map h a)
@@ -126,7 +126,7 @@ module _ {A B : Type 0} (O : Ops A) (P : Ops B) (h : A → B) (H : Hom O P h) wh
   grid-map n m s = map-tabulate (map h) n _ ∙ ap (tabulate n) (fun_ext (λ k. map-tabulate h m (s k)))
 
   dot-map : (D : ℕ) (t u : List (List A)) (k i : ℕ) → h (dot O D (row t k) (row u i)) ≡ dot P D (row (map (map h) t) k) (row (map (map h) u) i)
-  dot-map D t u k i = sum-map D _ ∙ ap (sum_of P D) (fun_ext (λ j. H.mul _ _ ∙ ap₂ P.mul (row-place u i j) (row-place t k j)))
+  dot-map D t u k i = sum-map D _ ∙ ap (sum_of P D) (fun_ext (λ j. H.mul _ _ ∙ ap₂ P.mul (row-coefficient u i j) (row-coefficient t k j)))
 
   -- a table proved on residues is proved of every ring that they map to
   pub table-map : (D : ℕ) (f phi : List A) (table dual : List (List A)) → TableProof O D f phi table dual
@@ -140,5 +140,5 @@ module _ {A B : Type 0} (O : Ops A) (P : Ops B) (h : A → B) (H : Hom O P h) wh
     apart = ap (tabulate (pred D)) (fun_ext (λ k. ap (tabulate D) (fun_ext (λ i. sym (dot-map D dual table k i)))))
         ∙ sym (grid-map (pred D) D _) ∙ ap (map (map h)) T.apart ∙ grid-map (pred D) D _
         ∙ ap (tabulate (pred D)) (fun_ext (λ k. ap (tabulate D) (fun_ext (λ i. H.add _ _
-        ∙ ap₂ P.add (row-place dual k i) (place-map (monomial O (suc k)) i ∙ ap (λ l. at P l i) (monomial-map (suc k)))))));
+        ∙ ap₂ P.add (row-coefficient dual k i) (coefficient-map (monomial O (suc k)) i ∙ ap (λ l. at P l i) (monomial-map (suc k)))))));
   }

@@ -5,7 +5,7 @@ use Rattle.std.proofs.Math.Nat.{pow-suc, mul_comm}
 use Rattle.p3_theory.specs.Rings.Ring.{Ops, RingLaws, Ring, ring_of}
 use Rattle.p3_theory.specs.Polynomials.Sequences.{cancel}
 use Rattle.p3_theory.specs.Polynomials.Coefficients.{length-tabulate}
-use Rattle.p3_theory.specs.Lists.Places.{get-tabulate}
+use Rattle.p3_theory.specs.Lists.ByIndex.{get-tabulate}
 use Rattle.p3_theory.specs.Rings.Powers.{power}
 use Rattle.p3_theory.specs.Rings.PowerLaws.{power-add, power-one, power-square, power-odd, power-even}
 use Rattle.p3_theory.specs.Rings.PowerChains.{power-power}

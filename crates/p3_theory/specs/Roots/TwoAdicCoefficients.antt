@@ -3,7 +3,7 @@ use Rattle.std.specs.Prelude.{◌≡◌, ◌<◌, ℕ, suc, List, [], ◌∷◌,
 use Rattle.std.proofs.Common.{ap, ap₂, sym, ◌∙◌, subst, drop}
 use Rattle.p3_theory.specs.Rings.Ring.{Ops, Hom}
 use Rattle.p3_theory.specs.Polynomials.Polynomial.{tabulate, embed, quotient_neg, quotient_mul, quotient_ops}
-use Rattle.p3_theory.specs.Lists.Places.{get-tabulate}
+use Rattle.p3_theory.specs.Lists.ByIndex.{get-tabulate}
 use Rattle.p3_theory.specs.Rings.Homomorphism.{map-tabulate, quotient-map}
 use Rattle.p3_theory.specs.Roots.TwoAdic.{AreTwoAdicGenerators}
 

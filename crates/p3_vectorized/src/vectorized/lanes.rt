@@ -2,7 +2,7 @@
 ghost use Rattle.std.specs.Prelude.{◌≡◌, ◌<◌, ◌*◌, ◌/◌, Some, length, get_or, slice_get, slice_set};
 ghost use Rattle.std.specs.Array.{IsFromFnResult};
 ghost use Rattle.p3_theory.specs.Bases.Coordinates.{CallableBelow};
-ghost use Rattle.p3_theory.specs.Lists.TabulatedPlaces.{HoldsBelow};
+ghost use Rattle.p3_theory.specs.Lists.TabulatedEntries.{HoldsBelow};
 ghost use Rattle.p3_theory.specs.Polynomials.Polynomial.{at};
 ghost use Rattle.p3_vectorized.specs.VectorLists.{lane_at, lane_count, vector_lanes};
 

@@ -1,8 +1,8 @@
 use Rattle.std.proofs.Common.{◌≡◌, ◌+◌, ◌-◌, ◌*◌, ◌<◌, ◌≤◌, ℕ, length, get_or, take, drop, arith, rules, ap, ap₂, sym, subst, ◌∙◌}
 use Rattle.std.proofs.lemmas.List.{get_or-take, get_or-drop}
 use Rattle.p3_theory.specs.Lists.PairedLists.{zip_with, length-zip, get-zip}
-use Rattle.p3_theory.specs.Lists.Places.{read_at, to-tabulate}
-use Rattle.p3_theory.specs.Lists.TabulatedPlaces.{UpdatedBelow, updated-more, updated-part}
+use Rattle.p3_theory.specs.Lists.ByIndex.{read_at, to-tabulate}
+use Rattle.p3_theory.specs.Lists.TabulatedEntries.{UpdatedBelow, updated-more, updated-part}
 use Rattle.p3_theory.specs.ResidueRings.Residues.{is_of}
 use Rattle.p3_bench_prime.specs.Elements.{is, of, ops}
 use borrow.Rule.Slice.PartMut.{put_mid}

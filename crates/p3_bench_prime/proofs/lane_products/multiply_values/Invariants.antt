@@ -1,5 +1,5 @@
 use Rattle.std.proofs.Common.{◌≡◌, ◌*◌, length, get_or}
-use Rattle.p3_theory.specs.Lists.TabulatedPlaces.{UpdatedBelow}
+use Rattle.p3_theory.specs.Lists.TabulatedEntries.{UpdatedBelow}
 use Rattle.p3_bench_prime.specs.Elements.{of, ops}
 use Rattle.p3_bench_prime.proofs.lane_products.multiply_values.Given as goal
 

@@ -1,6 +1,6 @@
 use Rattle.std.proofs.Common.{◌<◌, ◌≤◌, min, length, rules, ap, sym, ◌∙◌, arith}
 use Rattle.std.proofs.lemmas.List.{length-set}
-use Rattle.p3_theory.specs.Lists.TabulatedPlaces.{updated-none}
+use Rattle.p3_theory.specs.Lists.TabulatedEntries.{updated-none}
 use Rattle.p3_packings.specs.CoefficientSums.{entry_after, product-added, products-added}
 use Rattle.p3_packings.proofs.columnwise.add_scaled_coefficients.Goals as goal
 

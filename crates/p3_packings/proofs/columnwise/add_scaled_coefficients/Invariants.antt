@@ -1,5 +1,5 @@
 use Rattle.std.proofs.Common.{◌≡◌, length}
-use Rattle.p3_theory.specs.Lists.TabulatedPlaces.{UpdatedBelow}
+use Rattle.p3_theory.specs.Lists.TabulatedEntries.{UpdatedBelow}
 use Rattle.p3_packings.specs.CoefficientSums.{entry_after}
 use Rattle.p3_packings.proofs.columnwise.add_scaled_coefficients.Given as goal
 

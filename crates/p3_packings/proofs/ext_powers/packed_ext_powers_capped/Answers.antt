@@ -1,7 +1,7 @@
 use Rattle.std.proofs.Common.{length, get_or, ap, ◌∙◌, arith}
 use Rattle.std.specs.Int.{div_ceil}
 use Rattle.p3_theory.specs.Lanes.Lanes.{lane}
-use Rattle.p3_theory.specs.Lists.Places.{get-tabulate}
+use Rattle.p3_theory.specs.Lists.ByIndex.{get-tabulate}
 use Rattle.p3_theory.specs.Polynomials.Coefficients.{length-tabulate}
 use Rattle.p3_packings.proofs.ext_powers.packed_ext_powers_capped.Goals as goal
 

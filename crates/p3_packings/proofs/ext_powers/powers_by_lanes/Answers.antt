@@ -1,6 +1,6 @@
 use Rattle.std.proofs.Common.{◌≡◌, ◌<◌, ◌+◌, length, subst, sym, ◌∙◌, arith}
 use Rattle.p3_theory.specs.Rings.GeometricSequence.{geometric_term, next_term, first_term}
-use Rattle.p3_theory.specs.Lists.TabulatedPlaces.{HoldsBelow, holds-none, holds-more}
+use Rattle.p3_theory.specs.Lists.TabulatedEntries.{HoldsBelow, holds-none, holds-more}
 use Rattle.p3_packings.proofs.ext_powers.powers_by_lanes.Goals as goal
 
 pub loop-lane-init : goal.loop-lane-init

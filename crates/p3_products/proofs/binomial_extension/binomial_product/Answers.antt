@@ -1,7 +1,7 @@
 use Rattle.std.proofs.Common.{◌≡◌, ◌∙◌, ap, length, replicate, rules}
 use Rattle.p3_theory.specs.Rings.Ring.{ring_of}
 use Rattle.p3_theory.specs.Polynomials.Polynomial.{binomial}
-use Rattle.p3_theory.specs.Products.PlaceProducts.{product_onto_zeros}
+use Rattle.p3_theory.specs.Products.CoefficientProducts.{product_onto_zeros}
 use Rattle.p3_products.proofs.binomial_extension.binomial_product.Goals as goal
 
 pub returns-then-not-fixed_mul : goal.returns-then-not-fixed_mul

@@ -1,5 +1,5 @@
 use Rattle.std.proofs.Common.{arith}
-use Rattle.p3_theory.specs.Products.ProductPlaces.{all_zero}
+use Rattle.p3_theory.specs.Products.ProductCoefficients.{all_zero}
 use Rattle.p3_products.proofs.binomial_extension.clear.Goals as goal
 
 pub returns : goal.returns

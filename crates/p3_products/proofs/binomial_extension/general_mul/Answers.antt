@@ -1,8 +1,8 @@
 use Rattle.std.proofs.Common.{ap₂, ◌∙◌, refl, arith}
 use Rattle.std.proofs.lemmas.List.{get_or_default}
 use Rattle.p3_theory.specs.Rings.Ring.{ring_of}
-use Rattle.p3_theory.specs.Products.ProductPlaces.{product_by_places, product_place, place_more}
-use Rattle.p3_products.proofs.ProductRows.{row-begin, row-next, row-place}
+use Rattle.p3_theory.specs.Products.ProductCoefficients.{product_by_each_coefficient, product_coefficient, entry_more}
+use Rattle.p3_products.proofs.ProductRows.{row-begin, row-next, row-coefficient}
 use Rattle.p3_products.proofs.binomial_extension.general_mul.Goals as goal
 
 pub loop-k-init : goal.loop-k-init
@@ -22,15 +22,15 @@ loop-k-preserved g c =
     let k = c.loop-k.k in
     let read = c.index-b-k.is ∙ get_or_default c.args.b.now k c.index-b-k.result o.zero (omega (arith, c.requires.right, c.loop-k-test.true)) in
     let row = row-next o g.row.D w c.args.b.now k c.loop-k.row c.shift_in.new.row c.index-b-k.result c.loop-k-test.true v.3 read c.shift_in.ensures in
-    let place = row-place o m.ring g.row.D w c.args.a.now c.args.b.now k c.shift_in.new.row c.loop-k-test.true c.requires.left row c.dot_product-place.result c.dot_product-place.ensures in
+    let coefficient = row-coefficient o m.ring g.row.D w c.args.a.now c.args.b.now k c.shift_in.new.row c.loop-k-test.true c.requires.left row c.dot_product-coefficient.result c.dot_product-coefficient.ensures in
     let more =
-    place_more (ring_of m.ring) (product_place o g.row.D w c.args.a.now c.args.b.now) c.args.res.now c.loop-k.res k g.row.D c.add-sum.result
+    entry_more (ring_of m.ring) (product_coefficient o g.row.D w c.args.a.now c.args.b.now) c.args.res.now c.loop-k.res k g.row.D c.add-sum.result
     v.0 c.loop-k-test.true v.1 v.2
     (m.adds.answer _ _ _ c.add-sum.ensures
-    ∙ ap₂ o.add (c.index-res-k.is ∙ get_or_default c.loop-k.res k c.index-res-k.result o.zero (omega (arith, v.0, c.loop-k-test.true)) ∙ v.2 k (omega arith)) place) in
+    ∙ ap₂ o.add (c.index-res-k.is ∙ get_or_default c.loop-k.res k c.index-res-k.result o.zero (omega (arith, v.0, c.loop-k-test.true)) ∙ v.2 k (omega arith)) coefficient) in
     (more.0, more.1, more.2, row)
 
 pub returns : goal.returns
 returns g c =
-    product_by_places (ring_of g.met.A.PrimeCharacteristicRing.ring) g.row.D c.requires.degree (g.A.Algebra.embed c.args.w) c.args.a.now c.args.b.now c.args.res.now c.loop-k.res
+    product_by_each_coefficient (ring_of g.met.A.PrimeCharacteristicRing.ring) g.row.D c.requires.degree (g.A.Algebra.embed c.args.w) c.args.a.now c.args.b.now c.args.res.now c.loop-k.res
     c.requires.left c.requires.right c.loop-k.invariant.0 (λ k h. c.loop-k.invariant.1 k (omega arith))

@@ -2,7 +2,7 @@ use Rattle.std.proofs.Common.{◌++◌, ◌∙◌, [], ◌∷◌, refl, ap₂, s
 use Rattle.p3_theory.specs.Rings.DotProduct.{dot}
 use Rattle.p3_theory.specs.Polynomials.Polynomial.{tabulate, at, quotient_mul, binomial}
 use Rattle.p3_theory.specs.Lists.ListItems.{items_are}
-use Rattle.p3_theory.specs.Lists.Places.{to-tabulate}
+use Rattle.p3_theory.specs.Lists.ByIndex.{to-tabulate}
 use Rattle.p3_theory.specs.RingSolver.Solver.{V, free}
 use Rattle.p3_theory.specs.RingSolver.Reify.{yes}
 use Rattle.p3_theory.specs.RingSolver.StraightLine.{reads_list, scaled_read, answer_read, formula, variables}

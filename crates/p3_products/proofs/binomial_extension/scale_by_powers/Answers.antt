@@ -1,6 +1,6 @@
 use Rattle.std.proofs.Common.{arith, length, get_or}
 use Rattle.p3_theory.specs.Rings.Powers.{power}
-use Rattle.p3_theory.specs.Lists.Places.{to-tabulate}
+use Rattle.p3_theory.specs.Lists.ByIndex.{to-tabulate}
 use Rattle.p3_products.proofs.binomial_extension.scale_by_powers.Goals as goal
 
 pub returns : goal.returns

@@ -1,5 +1,5 @@
 use Rattle.std.proofs.Common.{◌≡◌, ◌∷◌, length, get_or}
-use Rattle.p3_theory.specs.Lists.TabulatedPlaces.{UpdatedBelow}
+use Rattle.p3_theory.specs.Lists.TabulatedEntries.{UpdatedBelow}
 use Rattle.p3_products.proofs.binomial_extension.shift_in.Given as goal
 
 abbrev pub invariant-loop-i : goal.invariant-loop-i

@@ -1,7 +1,7 @@
 use Rattle.std.proofs.Common.{List, length, get_or, arith, sym, ap, ◌∙◌}
 use Rattle.p3_theory.specs.Polynomials.Polynomial.{quotient_neg}
 use Rattle.p3_theory.specs.Polynomials.Coefficients.{length-tabulate}
-use Rattle.p3_theory.specs.Lists.Places.{read_at, get-tabulate}
+use Rattle.p3_theory.specs.Lists.ByIndex.{read_at, get-tabulate}
 use Rattle.p3_theory.specs.Inverses.Interleaving.{in_turn-more, in_turn-all}
 use Rattle.p3_products.proofs.binomial_extension.write_conjugate.Goals as goal
 

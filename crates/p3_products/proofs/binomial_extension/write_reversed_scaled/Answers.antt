@@ -1,6 +1,6 @@
 use Rattle.std.proofs.Common.{◌≡◌, ◌-◌, length, get_or, reverse, arith, ap, sym, ◌∙◌}
 use Rattle.std.proofs.lemmas.List.{get_or_default, get_or-reverse, length-set}
-use Rattle.p3_theory.specs.Lists.TabulatedPlaces.{holds-more, holds-all}
+use Rattle.p3_theory.specs.Lists.TabulatedEntries.{holds-more, holds-all}
 use Rattle.p3_products.proofs.binomial_extension.write_reversed_scaled.Goals as goal
 
 pub loop-i-preserved : goal.loop-i-preserved

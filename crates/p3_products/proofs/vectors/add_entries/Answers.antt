@@ -1,7 +1,7 @@
 use Rattle.std.proofs.Common.{get_or, map, length, arith, sym, ap₂, ◌∙◌}
-use Rattle.p3_theory.specs.Lists.Places.{read_at}
+use Rattle.p3_theory.specs.Lists.ByIndex.{read_at}
 use Rattle.p3_theory.specs.Lists.ListItems.{mapped_at}
-use Rattle.p3_theory.specs.Lists.TabulatedPlaces.{holds-none, holds-more, holds-all}
+use Rattle.p3_theory.specs.Lists.TabulatedEntries.{holds-none, holds-more, holds-all}
 use Rattle.p3_products.proofs.vectors.add_entries.Goals as goal
 
 pub loop-i-init : goal.loop-i-init

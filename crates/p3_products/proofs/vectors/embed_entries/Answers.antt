@@ -1,8 +1,8 @@
 use Rattle.std.proofs.Common.{get_or, map, length, arith, refl, sym, ◌∙◌}
 use Rattle.std.proofs.lemmas.List.{length-map}
-use Rattle.p3_theory.specs.Lists.Places.{to-tabulate}
+use Rattle.p3_theory.specs.Lists.ByIndex.{to-tabulate}
 use Rattle.p3_theory.specs.Lists.ListItems.{mapped_at}
-use Rattle.p3_theory.specs.Lists.TabulatedPlaces.{holds-none, holds-more, holds-all}
+use Rattle.p3_theory.specs.Lists.TabulatedEntries.{holds-none, holds-more, holds-all}
 use Rattle.p3_products.proofs.vectors.embed_entries.Goals as goal
 
 pub loop-i-init : goal.loop-i-init

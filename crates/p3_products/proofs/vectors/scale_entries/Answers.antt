@@ -1,6 +1,6 @@
 use Rattle.std.proofs.Common.{get_or, length, arith, sym, ap, ◌∙◌}
-use Rattle.p3_theory.specs.Lists.Places.{read_at}
-use Rattle.p3_theory.specs.Lists.TabulatedPlaces.{holds-none, holds-more, holds-all}
+use Rattle.p3_theory.specs.Lists.ByIndex.{read_at}
+use Rattle.p3_theory.specs.Lists.TabulatedEntries.{holds-none, holds-more, holds-all}
 use Rattle.p3_products.proofs.vectors.scale_entries.Goals as goal
 
 pub loop-i-init : goal.loop-i-init

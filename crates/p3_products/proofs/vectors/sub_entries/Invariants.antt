@@ -1,6 +1,6 @@
 use Rattle.std.proofs.Common.{get_or, map}
 use Rattle.p3_theory.specs.Rings.Ring.{subtract}
-use Rattle.p3_theory.specs.Lists.TabulatedPlaces.{HoldsBelow}
+use Rattle.p3_theory.specs.Lists.TabulatedEntries.{HoldsBelow}
 use Rattle.p3_products.proofs.vectors.sub_entries.Given as goal
 
 abbrev pub invariant-loop-i : goal.invariant-loop-i

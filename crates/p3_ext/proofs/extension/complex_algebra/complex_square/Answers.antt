@@ -12,9 +12,9 @@ returns g c =
     let o = g.A.PrimeCharacteristicRing.ops in
     let m = g.met.A.PrimeCharacteristicRing in
     let a = c.index-a-0.result ∷ c.index-a-1.result ∷ [] in
-    let places = c.sub-real.result ∷ c.double-imag.result ∷ [] in
-    all_written c.args.res.now places c.requires.room
-    ∙ formula o a places m.ring
+    let coefficients = c.sub-real.result ∷ c.double-imag.result ∷ [] in
+    all_written c.args.res.now coefficients c.requires.room
+    ∙ formula o a coefficients m.ring
     (λ P a0 a1. search (reads_list, sum_read o P m.adds, difference_read o P m.subs, product_read o P m.muls, c.sub-real.ensures, c.mul-a0_a1.ensures, answer_read o P c.square-a0_a0.ensures, answer_read o P c.square-a1_a1.ensures, answer_read o P c.double-imag.ensures) depth 99 fits 99999)
     (quotient_mul free 2 (binomial free 2 (free.neg free.one)) (variables 0 2) (variables 0 2)) yes
     ∙ ap (λ l. quotient_mul o 2 (binomial o 2 (o.neg o.one)) l l) (sym (items_are c.args.a.now a c.requires.input search))

@@ -1,7 +1,7 @@
 use Rattle.std.proofs.Common.{get_or}
 use Rattle.p3_theory.specs.Rings.Ring.{Ops}
 use Rattle.p3_theory.specs.Rings.Operators.{Gives}
-use Rattle.p3_theory.specs.Lists.TabulatedPlaces.{HoldsBelow}
+use Rattle.p3_theory.specs.Lists.TabulatedEntries.{HoldsBelow}
 use Rattle.p3_ext.proofs.extension.entries.scale_each.Given as goal
 
 abbrev pub invariant-loop-i : goal.invariant-loop-i

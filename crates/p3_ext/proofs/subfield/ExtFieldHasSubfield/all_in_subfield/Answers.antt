@@ -1,7 +1,7 @@
 use Rattle.std.specs.Prelude.{refl, None}
 use Rattle.std.proofs.Common.{◌∙◌, sym, get_or}
 use borrow.Author.Count.{below_more}
-use Rattle.p3_theory.specs.Lists.Places.{read_at}
+use Rattle.p3_theory.specs.Lists.ByIndex.{read_at}
 use Rattle.p3_theory.specs.Bases.Subfields.{IsEmbedded, told_embedded}
 use Rattle.p3_ext.specs.Values.{constant}
 use Rattle.p3_ext.proofs.subfield.ExtFieldHasSubfield.all_in_subfield.Goals as goal

@@ -1,6 +1,6 @@
 use Rattle.std.proofs.Common.{◌∙◌, sym, get_or}
 use borrow.Author.Count.{below_more}
-use Rattle.p3_theory.specs.Lists.Places.{read_at}
+use Rattle.p3_theory.specs.Lists.ByIndex.{read_at}
 use Rattle.p3_theory.specs.Bases.Subfields.{IsEmbedded}
 use Rattle.p3_ext.proofs.subfield.HasSubfield.all_in_subfield.Goals as goal
 

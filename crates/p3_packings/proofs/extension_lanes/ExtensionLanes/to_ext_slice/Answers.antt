@@ -1,8 +1,8 @@
 use Rattle.std.proofs.Common.{◌≡◌, length, sym, ◌∙◌, refl, arith}
 use Rattle.std.proofs.lemmas.Option.{get_or_from_slice_get}
 use Rattle.p3_theory.specs.Polynomials.Polynomial.{at}
-use Rattle.p3_theory.specs.Lists.Places.{to-tabulate}
-use Rattle.p3_theory.specs.Lists.TabulatedPlaces.{holds-none, holds-more, holds-all}
+use Rattle.p3_theory.specs.Lists.ByIndex.{to-tabulate}
+use Rattle.p3_theory.specs.Lists.TabulatedEntries.{holds-none, holds-more, holds-all}
 use Rattle.p3_packings.proofs.extension_lanes.ExtensionLanes.to_ext_slice.Goals as goal
 
 pub loop-lane-init : goal.loop-lane-init

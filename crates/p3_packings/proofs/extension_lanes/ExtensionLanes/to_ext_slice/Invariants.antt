@@ -1,4 +1,4 @@
-use Rattle.p3_theory.specs.Lists.TabulatedPlaces.{HoldsBelow}
+use Rattle.p3_theory.specs.Lists.TabulatedEntries.{HoldsBelow}
 use Rattle.p3_theory.specs.Polynomials.Polynomial.{at}
 use Rattle.p3_packings.proofs.extension_lanes.ExtensionLanes.to_ext_slice.Given as goal
 

@@ -2,7 +2,7 @@ use prog.Memory.{size as bytes}
 use denote.Param.{layout}
 use Rattle.std.proofs.Common.{◌≡◌, ◌<◌, ◌≤◌, ◌+◌, ◌*◌, ◌/◌, length, subst, refl, arith}
 use Rattle.std.proofs.Math.Nat.{mul_comm, mul-le-mul_right}
-use Rattle.p3_theory.specs.Lists.TabulatedPlaces.{HoldsBelow}
+use Rattle.p3_theory.specs.Lists.TabulatedEntries.{HoldsBelow}
 use Rattle.p3_packings.specs.Transposition.{value_at, value_read, transposed_entry, index-inside, whole-size, transposed-more, transposed-all}
 use Rattle.p3_packings.proofs.extension_lanes.ExtensionLanes.unpack_transpose_into.Goals as goal
 

@@ -1,5 +1,5 @@
 use Rattle.std.proofs.Common.{◌+◌, ◌*◌}
-use Rattle.p3_theory.specs.Lists.TabulatedPlaces.{HoldsBelow}
+use Rattle.p3_theory.specs.Lists.TabulatedEntries.{HoldsBelow}
 use Rattle.p3_packings.specs.Transposition.{value_at, transposed_entry}
 use Rattle.p3_packings.proofs.extension_lanes.ExtensionLanes.unpack_transpose_into.Given as goal
 

@@ -1,5 +1,5 @@
 use Rattle.std.proofs.Common.{◌≡◌, length, map, slice_index, rules, arith, ap, ◌∙◌}
-use Rattle.p3_theory.specs.Lists.Places.{to-tabulate}
+use Rattle.p3_theory.specs.Lists.ByIndex.{to-tabulate}
 use Rattle.p3_spaces.specs.Streams.{little_endian}
 use Rattle.p3_spaces.specs.StreamLemmas.{from_bytes}
 use Rattle.p3_packings.specs.ParallelStreams.{wrote_entry}

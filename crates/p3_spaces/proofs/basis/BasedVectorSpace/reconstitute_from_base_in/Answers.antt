@@ -2,7 +2,7 @@ use Rattle.std.proofs.Common.{◌≡◌, ◌+◌, ◌*◌, ◌<◌, ◌%◌, len
 use Rattle.std.specs.Prelude.{slice_get}
 use Rattle.std.proofs.lemmas.Grind.{common_steps}
 use Rattle.p3_theory.specs.Bases.Coordinates.{flattened}
-use Rattle.p3_theory.specs.Bases.CoordinateLemmas.{flattened-place, flattened-push, divided_front}
+use Rattle.p3_theory.specs.Bases.CoordinateLemmas.{flattened-entry, flattened-push, divided_front}
 use Rattle.p3_spaces.proofs.basis.BasedVectorSpace.reconstitute_from_base_in.Goals as goal
 
 pub loop-rest-preserved : goal.loop-rest-preserved
@@ -19,8 +19,8 @@ loop-rest-preserved g c =
       read = rw (c.in_ok-push.ensures.items, back) (flattened-push v.coefficients n c.loop-rest.values.items c.value_of_group.result rest c.args.vec.items (c.value_of_group.ensures ∙ front) c.loop-rest.invariant.read);
     }
 
-pub returns-clause-places : goal.returns-clause-places
-returns-clause-places g c = λ i j x e h.
+pub returns-clause-coefficients : goal.returns-clause-coefficients
+returns-clause-coefficients g c = λ i j x e h.
     let v = g.Self.BasedVectorSpace in
     let whole : flattened v.coefficients c.loop-rest.values.items ≡ c.args.vec.items = grind (arith, common_steps) in
-    ap (λ l. slice_get l (i * v.DIMENSION + j)) (sym whole) ∙ flattened-place v.coefficients v.DIMENSION g.met.Self.BasedVectorSpace.lengths c.loop-rest.values.items i j x e h
+    ap (λ l. slice_get l (i * v.DIMENSION + j)) (sym whole) ∙ flattened-entry v.coefficients v.DIMENSION g.met.Self.BasedVectorSpace.lengths c.loop-rest.values.items i j x e h

@@ -1,4 +1,4 @@
-use Rattle.p3_ext.specs.WrittenPlaces.{written-from_one}
+use Rattle.p3_ext.specs.WrittenEntries.{written-from_one}
 use Rattle.p3_ext.proofs.extension.algebra.ExtFieldMul.mul.Goals as goal
 
 pub loop-i-preserved : goal.loop-i-preserved

@@ -1,5 +1,5 @@
 use Rattle.std.proofs.Common.{◌∙◌, ap, replicate, slice_set}
-use Rattle.p3_theory.specs.Lists.Places.{constant-list}
+use Rattle.p3_theory.specs.Lists.ByIndex.{constant-list}
 use Rattle.p3_ext.proofs.extension.ext_field.ExtField.constant.Goals as goal
 
 pub returns : goal.returns

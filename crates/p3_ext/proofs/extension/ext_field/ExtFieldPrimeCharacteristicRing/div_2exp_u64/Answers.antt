@@ -3,7 +3,7 @@ use Rattle.p3_theory.specs.Rings.Ring.{ring_of}
 use Rattle.p3_theory.specs.Rings.Powers.{power}
 use Rattle.p3_theory.specs.Rings.Multiples.{two}
 use Rattle.p3_ext.specs.Doublings.{half_of_base, of_written, quotient_by_coefficients}
-use Rattle.p3_ext.specs.WrittenPlaces.{written-from_one}
+use Rattle.p3_ext.specs.WrittenEntries.{written-from_one}
 use Rattle.p3_ext.proofs.extension.ext_field.ExtFieldPrimeCharacteristicRing.div_2exp_u64.Goals as goal
 
 pub div_2exp_u64-requires : goal.div_2exp_u64-requires

@@ -1,7 +1,7 @@
 use Rattle.std.proofs.Common.{◌≡◌}
 use Rattle.p3_theory.specs.Rings.Ring.{ring_of}
 use Rattle.p3_ext.specs.Doublings.{half_of_base, of_written, half_by_coefficients}
-use Rattle.p3_ext.specs.WrittenPlaces.{written-from_one}
+use Rattle.p3_ext.specs.WrittenEntries.{written-from_one}
 use Rattle.p3_ext.proofs.extension.ext_field.ExtFieldPrimeCharacteristicRing.halve.Goals as goal
 
 pub halve-requires : goal.halve-requires

@@ -1,4 +1,4 @@
-use Rattle.p3_ext.specs.WrittenPlaces.{written-from_two}
+use Rattle.p3_ext.specs.WrittenEntries.{written-from_two}
 use Rattle.p3_ext.proofs.extension.ext_field.ExtFieldSub.sub.Goals as goal
 
 pub loop-i-preserved : goal.loop-i-preserved

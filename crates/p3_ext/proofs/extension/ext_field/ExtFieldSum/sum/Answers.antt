@@ -1,7 +1,7 @@
 use Rattle.std.proofs.Common.{◌∙◌}
 use Rattle.p3_theory.specs.Rings.Ring.{ring_of}
 use Rattle.p3_theory.specs.Rings.Accumulation.{sum_from_zero}
-use Rattle.p3_theory.specs.Lists.Places.{zero-list}
+use Rattle.p3_theory.specs.Lists.ByIndex.{zero-list}
 use Rattle.p3_ext.specs.Values.{ext_laws, is_sum, same_value, constant}
 use Rattle.p3_ext.proofs.extension.ext_field.ExtFieldSum.sum.Goals as goal
 

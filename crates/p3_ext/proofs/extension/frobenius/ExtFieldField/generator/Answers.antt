@@ -2,7 +2,7 @@ use Rattle.std.proofs.Common.{◌≡◌, ◌∙◌, arith, subst}
 use Rattle.std.proofs.lemmas.List.{length-set}
 use Rattle.p3_theory.specs.Polynomials.Polynomial.{tabulate}
 use Rattle.p3_theory.specs.Polynomials.Coefficients.{length-tabulate}
-use Rattle.p3_theory.specs.Lists.TabulatedPlaces.{HoldsBelow, holds-all, holds-more}
+use Rattle.p3_theory.specs.Lists.TabulatedEntries.{HoldsBelow, holds-all, holds-more}
 use Rattle.p3_ext.specs.Values.{value_of, same_value}
 use Rattle.p3_ext.proofs.extension.frobenius.ExtFieldField.generator.Goals as goal
 

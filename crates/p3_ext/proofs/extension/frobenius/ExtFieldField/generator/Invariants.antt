@@ -1,5 +1,5 @@
 use Rattle.std.proofs.Common.{◌≡◌, length}
-use Rattle.p3_theory.specs.Lists.TabulatedPlaces.{HoldsBelow}
+use Rattle.p3_theory.specs.Lists.TabulatedEntries.{HoldsBelow}
 use Rattle.p3_ext.proofs.extension.frobenius.ExtFieldField.generator.Given as goal
 
 abbrev pub invariant-loop-i : goal.invariant-loop-i

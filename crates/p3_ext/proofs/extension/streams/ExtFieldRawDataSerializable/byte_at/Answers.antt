@@ -12,15 +12,15 @@ positive (suc m) i k h = omega arith
 some_width : (w m i k : ℕ) → w ≡ m → i < m * k → 0 < w
 some_width w m i k e h = subst (λ n. 0 < n) (sym e) (positive m i k h)
 
-place_below : (w m i k : ℕ) → w ≡ m → i < m * k → i / w < k
-place_below w m i k e h = div_below i w k (some_width w m i k e h) (subst (λ n. i < k * n) (sym e) (subst (λ n. i < n) (mul_comm m k) h))
+index_below : (w m i k : ℕ) → w ≡ m → i < m * k → i / w < k
+index_below w m i k e h = div_below i w k (some_width w m i k e h) (subst (λ n. i < k * n) (sym e) (subst (λ n. i < n) (mul_comm m k) h))
 
 pub bounds-self-i : goal.bounds-self-i
-bounds-self-i g c = place_below c.NUM_BYTES-width.result g.F.RawDataSerializable.NUM_BYTES c.args.i g.row.D c.NUM_BYTES-width.ensures c.requires
+bounds-self-i g c = index_below c.NUM_BYTES-width.result g.F.RawDataSerializable.NUM_BYTES c.args.i g.row.D c.NUM_BYTES-width.ensures c.requires
 
 pub offset_bounds-self-i : goal.offset_bounds-self-i
 offset_bounds-self-i g c =
-    let below = place_below c.NUM_BYTES-width.result g.F.RawDataSerializable.NUM_BYTES c.args.i g.row.D c.NUM_BYTES-width.ensures c.requires in
+    let below = index_below c.NUM_BYTES-width.result g.F.RawDataSerializable.NUM_BYTES c.args.i g.row.D c.NUM_BYTES-width.ensures c.requires in
     omega (arith, below)
 
 pub nonzero_rem-i : goal.nonzero_rem-i

@@ -1,6 +1,6 @@
 use Rattle.std.proofs.Common.{◌≡◌, ◌∙◌, arith, subst}
 use Rattle.std.proofs.lemmas.List.{length-set}
-use Rattle.p3_theory.specs.Lists.TabulatedPlaces.{HoldsBelow, holds-all, holds-more}
+use Rattle.p3_theory.specs.Lists.TabulatedEntries.{HoldsBelow, holds-all, holds-more}
 use Rattle.p3_ext.specs.Values.{same_value}
 use Rattle.p3_ext.specs.ExtensionGenerators.{generator_value}
 use Rattle.p3_ext.proofs.extension.two_adic.ExtFieldTwoAdicField.two_adic_generator.Goals as goal

@@ -1,5 +1,5 @@
 use Rattle.std.proofs.Common.{sym, ◌∙◌}
-use Rattle.p3_theory.specs.Lists.Places.{read_at}
+use Rattle.p3_theory.specs.Lists.ByIndex.{read_at}
 use Rattle.p3_vectorized.specs.VectorLists.{vector_lanes, length-lanes, value-loaded, values-loaded}
 use Rattle.p3_vectorized.proofs.vectorized.lanes.Vectorized+F+P+N.load_from.Goals as goal
 

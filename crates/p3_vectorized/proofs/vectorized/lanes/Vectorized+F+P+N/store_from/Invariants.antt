@@ -1,4 +1,4 @@
-use Rattle.p3_theory.specs.Lists.TabulatedPlaces.{HoldsBelow}
+use Rattle.p3_theory.specs.Lists.TabulatedEntries.{HoldsBelow}
 use Rattle.p3_vectorized.specs.VectorLists.{lane_at}
 use Rattle.p3_vectorized.proofs.vectorized.lanes.Vectorized+F+P+N.store_from.Given as goal
 

@@ -1,5 +1,5 @@
 use Rattle.std.proofs.Common.{◌≡◌, ◌*◌, length}
-use Rattle.p3_theory.specs.Lists.TabulatedPlaces.{HoldsBelow}
+use Rattle.p3_theory.specs.Lists.TabulatedEntries.{HoldsBelow}
 use Rattle.p3_vectorized.specs.VectorLists.{lane_at, lane_count}
 use Rattle.p3_vectorized.proofs.vectorized.lanes.Vectorized+F+P+N.store_groups.Given as goal
 

@@ -7,7 +7,7 @@ use Rattle.std.proofs.lemmas.Slice.{drop-put_mid, take-put_mid}
 use borrow.Author.Count.{below_more}
 use borrow.Rule.Slice.PartMut.{put_mid}
 use Rattle.p3_theory.specs.Polynomials.Polynomial.{tabulate}
-use Rattle.p3_theory.specs.Lists.Places.{to-tabulate}
+use Rattle.p3_theory.specs.Lists.ByIndex.{to-tabulate}
 
 module _ {A : Type 0} (s : ℕ → A) (d : A) where
   -- the indices below i hold s 0 to s (i - 1)

@@ -12,19 +12,19 @@ use Rattle.p3_theory.specs.Polynomials.Coefficients as F
 use Rattle.p3_theory.specs.Polynomials.ConvolutionSums as L
 use Rattle.p3_theory.specs.Polynomials.ConvolutionSums.{first_sum}
 use Rattle.p3_theory.specs.Products.BinomialProduct.{fold, binomial_product}
-use Rattle.p3_theory.specs.Lists.Places.{get-tabulate, to-tabulate, length-remainder}
+use Rattle.p3_theory.specs.Lists.ByIndex.{get-tabulate, to-tabulate, length-remainder}
 
 module _ {A : Type 0} where
-  -- product_place k of the product
-  abbrev pub product_place : Ops A → ℕ → A → List A → List A → ℕ → A
-  product_place o D w a b k =
+  -- product_coefficient k of the product
+  abbrev pub product_coefficient : Ops A → ℕ → A → List A → List A → ℕ → A
+  product_coefficient o D w a b k =
       o.add (first_sum o.zero o.add (k + 1) (λ i. o.mul (get_or a (0 + i) o.zero) (get_or b (k - i) o.zero)))
       (o.mul (first_sum o.zero o.add (D - 1 - k) (λ i. o.mul (get_or a (k + 1 + i) o.zero) (get_or b (D - 1 - i) o.zero))) w)
 
   module _ (R : Ring A) where
-    product_place-fold : (d : ℕ) (w : A) (a b : List A) → length a ≡ suc d → length b ≡ suc d → (k : ℕ) → k < suc d
-        → product_place R.ops (suc d) w a b k ≡ fold R (suc d) w (P.convolve R.ops (at R.ops a) (at R.ops b)) k
-    product_place-fold d w a b la lb k h = ap₂ R.add
+    product_coefficient-fold : (d : ℕ) (w : A) (a b : List A) → length a ≡ suc d → length b ≡ suc d → (k : ℕ) → k < suc d
+        → product_coefficient R.ops (suc d) w a b k ≡ fold R (suc d) w (P.convolve R.ops (at R.ops a) (at R.ops b)) k
+    product_coefficient-fold d w a b la lb k h = ap₂ R.add
         (ap₂ (λ n s. first_sum R.zero R.add n s) one (fun_ext (λ i. ap (λ j. R.mul (at R.ops a j) (at R.ops b (k - i))) (plain i)))
         ∙ L.low R k (at R.ops a) (at R.ops b))
         (R.mul_comm _ w ∙ ap (R.mul w)
@@ -46,23 +46,23 @@ module _ {A : Type 0} where
         ends : (xs : List A) → length xs ≡ suc d → F.Ends R (suc d) (at R.ops xs)
         ends xs l k le = F.at-ends R xs k (rw l le)
 
-    pub product_by_places : (D : ℕ) → 1 ≤ D → (w : A) (a b old out : List A) → length a ≡ D → length b ≡ D → length out ≡ D
-        → ((k : ℕ) → k < D → get_or out k R.zero ≡ R.add (get_or old k R.zero) (product_place R.ops D w a b k))
+    pub product_by_each_coefficient : (D : ℕ) → 1 ≤ D → (w : A) (a b old out : List A) → length a ≡ D → length b ≡ D → length out ≡ D
+        → ((k : ℕ) → k < D → get_or out k R.zero ≡ R.add (get_or old k R.zero) (product_coefficient R.ops D w a b k))
         → out ≡ P.quotient_add R.ops D old (P.quotient_mul R.ops D (P.binomial R.ops D w) a b)
-    product_by_places zero h w a b old out la lb lo p = absurd (omega arith)
-    product_by_places (suc d) h w a b old out la lb lo p = to-tabulate R.zero (suc d) _ out lo (λ k lt. p k lt
-        ∙ ap (R.add (get_or old k R.zero)) (product_place-fold d w a b la lb k lt
+    product_by_each_coefficient zero h w a b old out la lb lo p = absurd (omega arith)
+    product_by_each_coefficient (suc d) h w a b old out la lb lo p = to-tabulate R.zero (suc d) _ out lo (λ k lt. p k lt
+        ∙ ap (R.add (get_or old k R.zero)) (product_coefficient-fold d w a b la lb k lt
         ∙ sym (get-tabulate (suc d) (fold R (suc d) w (P.convolve R.ops (at R.ops a) (at R.ops b))) k R.zero lt)
         ∙ ap (λ l. get_or l k R.zero) (sym (binomial_product R d w a b la lb))))
 
-    -- one more product_place of the loop
-    pub place_more : (f : ℕ → A) (old out : List A) (i n : ℕ) (v : A) → length out ≡ n → i < n
+    -- one more product_coefficient of the loop
+    pub entry_more : (f : ℕ → A) (old out : List A) (i n : ℕ) (v : A) → length out ≡ n → i < n
         → ((k : ℕ) → k < i → get_or out k R.zero ≡ R.add (get_or old k R.zero) (f k))
         → ((k : ℕ) → i ≤ k → get_or out k R.zero ≡ get_or old k R.zero)
         → v ≡ R.add (get_or old i R.zero) (f i)
         → (length (set out i v) ≡ n) × ((k : ℕ) → k < i + 1 → get_or (set out i v) k R.zero ≡ R.add (get_or old k R.zero) (f k))
         × ((k : ℕ) → i + 1 ≤ k → get_or (set out i v) k R.zero ≡ get_or old k R.zero)
-    place_more f old out i n v l b p q e = (
+    entry_more f old out i n v l b p q e = (
       simp length-set l,
       below_more (λ k. get_or (set out i v) k R.zero ≡ R.add (get_or old k R.zero) (f k)) i
           (λ k w. get_or-set_other out i k v R.zero (omega arith) ∙ p k w)
