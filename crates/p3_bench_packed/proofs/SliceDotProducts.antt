@@ -29,7 +29,7 @@ module _ {W T : Type 0} (form : forms.Ghosts W T) {bounds : words.Ghosts T} {N :
   dot_of_sums short s undone us vs x xs e h =
       let rows = packed_rows {F = Fp W T form bounds} {N = N} in
       let whole : (k : ℕ) (y : Packed (Fp W T form bounds) N) → word k y ≡ number form (item rows (ops form) k y) =
-          λ k y. let below = (get_or y.value k (of form {bounds = bounds} 0)).below in omega (arith, below, short) in
+      λ k y. let below = (get_or y.value k (of form {bounds = bounds} 0)).below in omega (arith, below, short) in
       dot_by_items rows (ops form) us vs x xs e
       (λ k l. value_of_products form s undone (map (item rows (ops form) k) us) (map (item rows (ops form) k) vs) (get_or xs k (of form 0))
       (h k l ∙ ap (λ m. m % form.ORDER) (products-along (word k) (number form) (item rows (ops form) k) (whole k) us vs)))

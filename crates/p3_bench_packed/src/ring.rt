@@ -70,7 +70,7 @@ impl<W: Form<T>, T: Word, const N: usize> Product<Fp<W, T>> for Packed<Fp<W, T>,
 impl<W: Form<T>, T: Word, const N: usize> PrimeCharacteristicRing for Packed<Fp<W, T>, N> {
     ghost use Rattle.p3_theory.specs.ResidueRings.Residues.{residue_laws};
     ghost use Rattle.p3_theory.specs.Lanes.RowRing.{row_laws, row_characteristic};
-    ghost use Rattle.p3_bench_residues.specs.ResidueMultiples.{of_nat-order};
+    ghost use Rattle.p3_residues.specs.ResidueMultiples.{of_nat-order};
     ghost use Rattle.p3_bench_prime.specs.Elements.{ops, is};
     ghost use Rattle.p3_bench_packed.specs.Values.{packed_rows};
     ghost use Rattle.p3_bench_packed.specs.PackedResidues.{packed_ops, sum_of_lanes, difference_of_lanes, negation_of_lanes, product_of_lanes};

@@ -6,7 +6,7 @@ use Rattle.std.proofs.lemmas.Bool.{cases_lt}
 use Rattle.std.proofs.lemmas.List.{get_or_default}
 use Rattle.p3_theory.specs.Rings.DotProduct.{dot}
 use Rattle.p3_theory.specs.ResidueRings.SumsOfProducts.{sum_of_products, is_dot}
-use Rattle.p3_bench_residues.specs.Montgomery.{sum_of_words, difference_of_words, product_reduced, sum_reduced}
+use Rattle.p3_residues.specs.Montgomery.{sum_of_words, difference_of_words, product_reduced, sum_reduced}
 use Rattle.p3_kernels.specs.Words.{RowsAreBelow}
 use Rattle.p3_bench_prime.specs.Elements.{canon, is, of, ops}
 use Rattle.p3_bench_prime.specs.declared.fp.Fp.{Fp}

@@ -7,7 +7,7 @@ use Rattle.std.proofs.Math.Nat.{mod-eq_of_lt}
 use Rattle.std.proofs.Math.Bridge.{le_prop}
 use Rattle.p3_theory.specs.Rings.Ring.{Ops}
 use Rattle.p3_theory.specs.ResidueRings.Residues.{IsResidues, residue_ops, same_canon}
-use Rattle.p3_bench_residues.specs.Forms.{remainder_below}
+use Rattle.p3_residues.specs.Forms.{remainder_below}
 use Rattle.p3_bench_prime.specs.declared.fp.Fp.{Fp}
 use Rattle.p3_bench_prime.specs.declared.form.Form as forms
 use Rattle.p3_bench_prime.specs.declared.form.Word as words

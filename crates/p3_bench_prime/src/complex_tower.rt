@@ -8,7 +8,7 @@ ghost use Rattle.p3_ext.specs.ComplexValues.{complex_ops};
 ghost use Rattle.p3_bench_prime.specs.ComplexNumbers.{complex_of};
 ghost use Rattle.p3_bench_prime.specs.ComplexTower.{tower_entry, tower_w, tower_generators};
 ghost use Rattle.p3_bench_prime.specs.Elements.{of, ops, is};
-ghost use Rattle.p3_bench_residues.specs.Halves.{two_has_inverse};
+ghost use Rattle.p3_residues.specs.Halves.{two_has_inverse};
 
 use crate::extensions::{F31c, complex};
 use crate::form::{Form, Plain};

@@ -449,7 +449,7 @@ pub(crate) fn complex(real: u32, imag: u32) -> F31c
 impl ComplexExtendable for F31 {
     ghost use Rattle.std.specs.Prelude.{get_or};
     ghost use Rattle.p3_bench_prime.specs.Elements.{is};
-    ghost use Rattle.p3_bench_residues.specs.Halves.{two_has_inverse};
+    ghost use Rattle.p3_residues.specs.Halves.{two_has_inverse};
 
     ghost complex_generator_coefficient = { λ i. of ⟦<Plain<M31> as Form<u32>>⟧ (get_or (3 ∷ 2 ∷ []) i 0) };
 

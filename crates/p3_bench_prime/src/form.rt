@@ -1,5 +1,5 @@
 ghost use Rattle.std.specs.Prelude.{◌≡◌, ◌≤◌, ◌<◌, ◌+◌, ◌-◌, ◌*◌, ◌%◌, ◌^◌, ℕ, length, get_or, Bool, true, refl, ⊤};
-ghost use Rattle.p3_bench_residues.specs.Forms.{IsForm};
+ghost use Rattle.p3_residues.specs.Forms.{IsForm};
 ghost use Rattle.p3_bench_prime.specs.MontgomeryForms.{IsMontgomery};
 
 use crate::fp::Fp;
@@ -7,8 +7,8 @@ use crate::short_sums::{
     STRIP, ShortWord, sum_products, sum_small_products, sum_strip, sum_strips,
 };
 use crate::word_products::short_product;
-use p3_bench_residues::remainder::remainder_of_sum;
-use p3_bench_residues::short_words::{add_words, halve_word, negate_word, subtract_words};
+use p3_residues::remainder::remainder_of_sum;
+use p3_residues::short_words::{add_words, halve_word, negate_word, subtract_words};
 use std::alloc::AllocError;
 use std::marker::PhantomData;
 
@@ -245,7 +245,7 @@ impl<M> Clone for Plain<M> {
 impl<M> Copy for Plain<M> {}
 
 impl<M: Modulus> Form<u32> for Plain<M> {
-    ghost use Rattle.p3_bench_residues.specs.Forms.{plain, order_below};
+    ghost use Rattle.p3_residues.specs.Forms.{plain, order_below};
     ghost use Rattle.p3_bench_prime.specs.MontgomeryForms.{no_inverse};
     ghost use Rattle.p3_bench_prime.specs.WordSums.{scaled_by_one};
 

@@ -1,6 +1,6 @@
 //! The residues modulo 2^64 - 2^32 + 1, with all that the field owes as numbers.
 ghost use Rattle.std.specs.Prelude.{◌≡◌, ◌≤◌, ◌<◌, ◌+◌, ◌*◌, ◌%◌, ◌^◌, ℕ, length, true, refl};
-ghost use Rattle.p3_bench_residues.specs.declared.goldilocks_words.TheConstants.{P};
+ghost use Rattle.p3_residues.specs.declared.goldilocks_words.TheConstants.{P};
 ghost use Rattle.p3_theory.specs.ResidueRings.SumsOfProducts.{sum_of_products};
 ghost use Rattle.p3_bench_prime.specs.Elements.{canon, word_number};
 
@@ -8,10 +8,8 @@ use crate::form::{Form, Order, OverModulus};
 use crate::fp::Fp;
 use crate::monomials::MonomialConstants;
 use crate::two_adic::{TopPowerConstants, TwoAdicConstants};
-use p3_bench_residues::goldilocks_words::{
-    P, add_residues, reduce_halves, reduce128, subtract_residues,
-};
 use p3_integers::halves::halve_u64;
+use p3_residues::goldilocks_words::{P, add_residues, reduce_halves, reduce128, subtract_residues};
 use p3_ring::exponentiation::exp_10540996611094048183;
 use p3_ring::ring::PrimeCharacteristicRing;
 
@@ -103,8 +101,8 @@ pub fn dot_of_words(u: &[u64], v: &[u64]) -> Goldilocks
 
 impl Form<u64> for GoldilocksForm {
     ghost use Rattle.std.proofs.Common.{lit<};
-    ghost use Rattle.p3_bench_residues.specs.Forms.{plain};
-    ghost use Rattle.p3_bench_residues.specs.declared.goldilocks_words.TheConstants.{P};
+    ghost use Rattle.p3_residues.specs.Forms.{plain};
+    ghost use Rattle.p3_residues.specs.declared.goldilocks_words.TheConstants.{P};
     ghost use Rattle.p3_bench_prime.specs.MontgomeryForms.{no_inverse};
     ghost use Rattle.p3_bench_prime.specs.WordSums.{scaled_by_one};
 
@@ -210,7 +208,7 @@ impl Form<u64> for GoldilocksForm {
 }
 
 impl Order for GoldilocksForm {
-    ghost use Rattle.p3_bench_residues.specs.declared.goldilocks_words.TheConstants.{P};
+    ghost use Rattle.p3_residues.specs.declared.goldilocks_words.TheConstants.{P};
 
     ghost order = { P };
 

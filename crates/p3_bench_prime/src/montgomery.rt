@@ -6,12 +6,12 @@ ghost use Rattle.p3_bench_prime.specs.Elements.{canon};
 use crate::form::{Form, Order, OverModulus, ShortForm, add_short};
 use crate::fp::Fp;
 use crate::short_sums::{ShortWord, sum_last_products, sum_products};
-use p3_bench_residues::montgomery::{
+use p3_residues::montgomery::{
     montgomery_product, montgomery_reduce_word, montgomery_residue, montgomery_short_sum,
     montgomery_sum,
 };
-use p3_bench_residues::remainder::remainder_of_sum;
-use p3_bench_residues::short_words::{add_words, halve_word, negate_word, subtract_words};
+use p3_residues::remainder::remainder_of_sum;
+use p3_residues::short_words::{add_words, halve_word, negate_word, subtract_words};
 use std::alloc::AllocError;
 use std::marker::PhantomData;
 
@@ -116,8 +116,8 @@ impl<M> Clone for Montgomery<M> {
 impl<M> Copy for Montgomery<M> {}
 
 impl<M: MontgomeryModulus> Form<u32> for Montgomery<M> {
-    ghost use Rattle.p3_bench_residues.specs.Forms.{order_below};
-    ghost use Rattle.p3_bench_residues.specs.Montgomery.{montgomery, montgomery_canon, montgomery_word};
+    ghost use Rattle.p3_residues.specs.Forms.{order_below};
+    ghost use Rattle.p3_residues.specs.Montgomery.{montgomery, montgomery_canon, montgomery_word};
     ghost use Rattle.p3_bench_prime.specs.MontgomeryForms.{not_plain};
 
     ghost ORDER = { M.ORDER };

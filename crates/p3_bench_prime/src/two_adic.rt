@@ -8,7 +8,7 @@ use crate::fp::Fp;
 use crate::koala_bear::KoalaBearModulus;
 use crate::small::{M2, M15, M17, M17b, M31};
 use p3_base::field::TwoAdicField;
-pub use p3_bench_residues::two_adic_powers::TwoAdicPowers;
+pub use p3_residues::two_adic_powers::TwoAdicPowers;
 use p3_ring::ring::PrimeCharacteristicRing;
 
 /// The two-adicity and the top generator, as numbers, for the marker of an order. It stands for what

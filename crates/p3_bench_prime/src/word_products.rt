@@ -1,7 +1,7 @@
 //! Products of residues that are their own words.
 ghost use Rattle.std.specs.Prelude.{◌≡◌, ◌<◌, ◌*◌, ◌%◌, ◌^◌};
 
-use p3_bench_residues::remainder::remainder_by_reciprocal;
+use p3_residues::remainder::remainder_by_reciprocal;
 
 /// The product of two residues modulo an order below 2^31. Where products fit 32 bits, their remainder there
 /// is the cheapest.

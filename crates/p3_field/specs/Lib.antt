@@ -5,9 +5,9 @@ pub use Rattle.p3_array.specs.ArraySizes
 pub use Rattle.p3_batch_inverse.specs.BatchProducts
 pub use Rattle.p3_batch_inverse.specs.Chains
 pub use Rattle.p3_batch_inverse.specs.Inverses
-pub use Rattle.p3_bench_residues.specs.Halves
-pub use Rattle.p3_bench_residues.specs.Inverses as ResidueInverses
-pub use Rattle.p3_bench_residues.specs.ResidueMultiples
+pub use Rattle.p3_residues.specs.Halves
+pub use Rattle.p3_residues.specs.Inverses as ResidueInverses
+pub use Rattle.p3_residues.specs.ResidueMultiples
 pub use Rattle.p3_ext.specs.Bases
 pub use Rattle.p3_ext.specs.BinomialShape
 pub use Rattle.p3_ext.specs.ComplexValues

@@ -3,7 +3,7 @@
 use Rattle.std.proofs.Common.{◌≡◌, ◌<◌, ◌≤◌, ◌+◌, ◌-◌, ◌*◌, ◌/◌, ◌%◌, ◌^◌, ℕ, ap, arith, ◌∙◌, sym, zero, suc}
 use Rattle.std.proofs.Math.Nat.{add-mul-mod_self_left, mod-add-div, mod-lt, mul-le-mul, mul-zero, zero-mod}
 use Rattle.std.proofs.lemmas.Nat.{mul-mod_first, mul-mod_second}
-use Rattle.p3_bench_residues.proofs.Reductions.{high_reduced, multiple_below, reduced as reduced_difference}
+use Rattle.p3_residues.proofs.Reductions.{high_reduced, multiple_below, reduced as reduced_difference}
 use Rattle.p3_kernels.specs.Pairs.{multiple}
 
 negated_by : (p i k : ℕ) → (p * i) % 2 ^ 32 ≡ 1 → k + i ≡ 2 ^ 32 → (1 + p * (k % 2 ^ 32)) % 2 ^ 32 ≡ 0

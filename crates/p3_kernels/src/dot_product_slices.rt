@@ -4,7 +4,7 @@ ghost use Rattle.std.specs.Prelude.{◌≡◌, ◌+◌, ◌*◌, ◌%◌, ◌^�
 ghost use Rattle.p3_kernels.specs.Words.{AreBelow, AreReduced, RowsAreBelow, block_at, dot_at, product_at, rows_of};
 
 use crate::dot_product_blocks::{montgomery_dot_products_4, montgomery_dot_products_8};
-use p3_bench_residues::montgomery::montgomery_short_sum;
+use p3_residues::montgomery::montgomery_short_sum;
 use std::simd::prelude::*;
 
 /// The four words of a row from an index on.

@@ -7,7 +7,7 @@ ghost use Rattle.p3_theory.specs.ResidueRings.SumsOfProducts.{sum_of_products};
 
 use crate::product_sums::{add_high_words, add_low_words};
 use crate::wide_products::{high_products, low_products, sums_of_four};
-use p3_bench_residues::montgomery::montgomery_sum;
+use p3_residues::montgomery::montgomery_sum;
 use std::simd::prelude::*;
 
 /// A row of N words.

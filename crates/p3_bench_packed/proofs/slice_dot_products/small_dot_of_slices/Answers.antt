@@ -22,5 +22,5 @@ returns g c =
     let right = c.args.right.now in
     dot_of_sums w short 1 (own_scale w c.requires.plain) left right c.new.result c.values_of-values.result c.new.ensures
     (λ k l.
-        let residue = c.in_ok-words.ensures.value k l ∙ (λ ι. sum_of_products (word w k) left right % order ι) in
-        ap (λ n. n % w.ORDER) (mul-one _ ∙ c.values_of-values.ensures.words 0 (of w 0) k l ∙ residue) ∙ mod-mod _ w.ORDER)
+    let residue = c.in_ok-words.ensures.value k l ∙ (λ ι. sum_of_products (word w k) left right % order ι) in
+    ap (λ n. n % w.ORDER) (mul-one _ ∙ c.values_of-values.ensures.words 0 (of w 0) k l ∙ residue) ∙ mod-mod _ w.ORDER)

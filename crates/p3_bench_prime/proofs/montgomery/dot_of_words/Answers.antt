@@ -1,5 +1,5 @@
 use Rattle.std.proofs.Common.{◌<◌, ◌%◌, ◌^◌, ap, arith, ◌∙◌}
-use Rattle.p3_bench_residues.specs.Montgomery.{montgomery_canon, sum_reduced}
+use Rattle.p3_residues.specs.Montgomery.{montgomery_canon, sum_reduced}
 use Rattle.p3_bench_prime.proofs.montgomery.dot_of_words.Goals as goal
 
 pub sum_products-products-requires-clause-left : goal.sum_products-products-requires-clause-left

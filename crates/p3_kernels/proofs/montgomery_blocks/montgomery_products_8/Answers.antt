@@ -1,6 +1,6 @@
 use Rattle.std.proofs.Common.{get_or, arith, ◌≡◌, ◌+◌, ◌*◌, ◌%◌, ◌^◌, ◌<◌, ◌∙◌, ap, subst, sym, w32}
 use Rattle.std.proofs.lemmas.Simd.{below_from_Fits}
-use Rattle.p3_bench_residues.proofs.Reductions.{product_below}
+use Rattle.p3_residues.proofs.Reductions.{product_below}
 use Rattle.p3_kernels.proofs.HalfLanes.{by_halves}
 use Rattle.p3_kernels.proofs.LaneOperations.{all_below}
 use Rattle.p3_kernels.specs.Words.{product_at}

@@ -1,6 +1,6 @@
 use Rattle.std.proofs.Common.{◌∙◌}
 use Rattle.p3_theory.specs.Lanes.RowRing.{filled, constant-of_nat}
-use Rattle.p3_bench_residues.specs.ResidueMultiples.{of_nat-canon}
+use Rattle.p3_residues.specs.ResidueMultiples.{of_nat-canon}
 use Rattle.p3_bench_prime.specs.Elements.{ops, is}
 use Rattle.p3_bench_packed.specs.Values.{packed_rows}
 use Rattle.p3_bench_packed.proofs.ring.PackedFpPrimeCharacteristicRing.from_prime_subfield.Goals as goal

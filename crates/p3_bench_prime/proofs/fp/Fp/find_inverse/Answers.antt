@@ -1,5 +1,5 @@
 use Rattle.p3_bench_prime.specs.Elements.{canon, is}
-use Rattle.p3_bench_residues.specs.Inverses.{inverse_of_modulo, modulo_of_inverse}
+use Rattle.p3_residues.specs.Inverses.{inverse_of_modulo, modulo_of_inverse}
 use Rattle.p3_bench_prime.proofs.fp.Fp.find_inverse.Goals as goal
 
 pub returns-in-Some : goal.returns-in-Some

@@ -1,5 +1,5 @@
 use Rattle.p3_bench_prime.specs.Elements.{is}
-use Rattle.p3_bench_residues.specs.Inverses.{divided}
+use Rattle.p3_residues.specs.Inverses.{divided}
 use Rattle.p3_bench_prime.proofs.fp.FpDiv.div.Goals as goal
 
 pub returns : goal.returns

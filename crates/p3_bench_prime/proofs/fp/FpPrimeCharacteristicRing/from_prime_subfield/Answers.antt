@@ -1,5 +1,5 @@
 use Rattle.p3_bench_prime.specs.Elements.{is}
-use Rattle.p3_bench_residues.specs.ResidueMultiples.{of_nat-canon}
+use Rattle.p3_residues.specs.ResidueMultiples.{of_nat-canon}
 use Rattle.p3_bench_prime.proofs.fp.FpPrimeCharacteristicRing.from_prime_subfield.Goals as goal
 
 pub returns : goal.returns

@@ -1,7 +1,7 @@
 use Rattle.std.proofs.Common.{sym}
 use Rattle.p3_theory.specs.ResidueRings.Residues.{is_of}
 use Rattle.p3_bench_prime.specs.Elements.{is}
-use Rattle.p3_bench_residues.specs.Halves.{odd_order}
+use Rattle.p3_residues.specs.Halves.{odd_order}
 use Rattle.p3_bench_prime.proofs.fp.FpPrimeCharacteristicRing.halve.Goals as goal
 
 pub half-requires-clause-odd : goal.half-requires-clause-odd

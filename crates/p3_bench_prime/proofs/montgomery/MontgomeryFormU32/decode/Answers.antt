@@ -1,5 +1,5 @@
 use Rattle.std.proofs.Common.{◌<◌, ◌*◌, ◌%◌, ◌^◌, ap₂, arith, ◌∙◌}
-use Rattle.p3_bench_residues.specs.Montgomery.{residue_reduced}
+use Rattle.p3_residues.specs.Montgomery.{residue_reduced}
 use Rattle.p3_bench_prime.proofs.montgomery.MontgomeryFormU32.decode.Goals as goal
 
 pub montgomery_residue-requires-clause-inverse : goal.montgomery_residue-requires-clause-inverse

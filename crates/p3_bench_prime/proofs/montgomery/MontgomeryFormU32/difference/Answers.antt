@@ -1,5 +1,5 @@
 use Rattle.std.proofs.Common.{◌^◌}
-use Rattle.p3_bench_residues.specs.Montgomery.{difference_of_words}
+use Rattle.p3_residues.specs.Montgomery.{difference_of_words}
 use Rattle.p3_bench_prime.proofs.montgomery.MontgomeryFormU32.difference.Goals as goal
 
 pub returns-clause-value : goal.returns-clause-value

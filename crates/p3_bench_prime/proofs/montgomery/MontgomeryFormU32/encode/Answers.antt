@@ -1,5 +1,5 @@
 use Rattle.std.proofs.Common.{◌^◌, ◌∙◌}
-use Rattle.p3_bench_residues.specs.Montgomery.{square_below, word_reduced}
+use Rattle.p3_residues.specs.Montgomery.{square_below, word_reduced}
 use Rattle.p3_bench_prime.proofs.montgomery.MontgomeryFormU32.encode.Goals as goal
 
 pub reduced_product-requires : goal.reduced_product-requires

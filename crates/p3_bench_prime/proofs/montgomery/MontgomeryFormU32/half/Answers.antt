@@ -1,5 +1,5 @@
 use Rattle.std.proofs.Common.{◌^◌}
-use Rattle.p3_bench_residues.specs.Montgomery.{half_of_word}
+use Rattle.p3_residues.specs.Montgomery.{half_of_word}
 use Rattle.p3_bench_prime.proofs.montgomery.MontgomeryFormU32.half.Goals as goal
 
 pub returns-clause-half : goal.returns-clause-half
