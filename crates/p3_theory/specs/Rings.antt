@@ -16,3 +16,4 @@ pub mod PowerChains
 pub mod ColumnwiseProducts
 pub mod ZeroDivisors
 pub mod BinaryPowers
+pub mod ProductLists

@@ -4,7 +4,8 @@ use Rattle.std.proofs.lemmas.List.{take_all, get_or_default, ext_get_or}
 use Rattle.std.proofs.lemmas.Option.{get_or_from_slice_get}
 use Rattle.p3_theory.specs.Rings.Ring.{Invertible}
 use Rattle.p3_theory.specs.Rings.Operators.{product_list}
-use Rattle.p3_batch_inverse.specs.BatchProducts.{prefix-more, prefixes-kept, inverses-none, inverses-more, inverses-exact, product-invertible}
+use Rattle.p3_theory.specs.Rings.ProductLists.{product-invertible}
+use Rattle.p3_batch_inverse.specs.BatchProducts.{prefix-more, prefixes-kept, inverses-none, inverses-more, inverses-exact}
 use Rattle.p3_batch_inverse.proofs.packed_inverse.invert_packed_extension.Goals as goal
 
 pub loop-lane-init : goal.loop-lane-init
