@@ -1,6 +1,0 @@
-use Rattle.std.proofs.Common.{◌∙◌}
-use Rattle.p3_depth_testing.specs.Pairs.{pair-canon}
-use Rattle.p3_depth_testing.proofs.deep.DeepPrimeCharacteristicRing.from_prime_subfield.Goals as goal
-
-pub returns : goal.returns
-returns g c = c.alike.ensures ∙ pair-canon g.P.Place c.args.f

@@ -1,6 +1,0 @@
-use Rattle.std.proofs.Common.{ap, ◌∙◌}
-use Rattle.p3_depth_testing.specs.Pairs.{pair_ops}
-use Rattle.p3_depth_testing.proofs.deep.DeepSub.sub.Goals as goal
-
-pub returns : goal.returns
-returns g c = c.add.ensures ∙ ap ((pair_ops g.P.Place).add c.args.self) c.neg.ensures
