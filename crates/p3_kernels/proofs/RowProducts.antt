@@ -1,5 +1,5 @@
 -- Sums of products of rows of words, at a lane.
-use Rattle.std.proofs.Common.{get_or, ◌≡◌, ℕ, ◌+◌, ◌*◌, ◌<◌, ◌≤◌, ◌^◌, List, length, drop, arith, ap}
+use Rattle.std.proofs.Common.{get_or, ◌≡◌, ℕ, ◌+◌, ◌*◌, ◌/◌, ◌%◌, ◌<◌, ◌≤◌, ◌^◌, List, length, drop, arith, ap}
 use Rattle.std.proofs.Math.Nat.{mul-le-mul}
 use Rattle.std.proofs.lemmas.List.{drop_all}
 use Rattle.p3_theory.specs.ResidueRings.SumsOfProducts.{sum_of_products, products-drop}
@@ -30,3 +30,8 @@ module _ {A : Type 0} (word : A → ℕ) (us vs : List A) (same : length us ≡ 
 -- past the end of a list there is nothing to sum up
 pub none-left : {A : Type 0} (word : A → ℕ) (i : ℕ) (xs ys : List A) → length xs ≤ i → sum_of_products word (drop i xs) ys ≡ 0
 none-left word i xs ys past = ap (λ zs. sum_of_products word zs ys) (drop_all i xs past)
+
+-- a product that is added to the sums of low and of high words
+pub added : (n low high old_low old_high product rest before whole : ℕ) → low ≡ old_low + n % 2 ^ 32 → high ≡ old_high + n / 2 ^ 32 → n ≡ product → before ≡ product + rest
+    → old_low + 2 ^ 32 * old_high + before ≡ whole → low + 2 ^ 32 * high + rest ≡ whole
+added n low high old_low old_high product rest before whole a b c d e = omega (arith, a, b, c, d, e)

@@ -1,12 +1,14 @@
 //! Sums of the products of rows of words below 2^31, lane by lane of two lists of rows: four products are summed up
 //! in 64 bits, and of these sums the low and the high words apart.
 ghost use Rattle.std.specs.Prelude.{◌≡◌, ℕ, ◌+◌, ◌-◌, ◌*◌, ◌/◌, ◌%◌, ◌^◌, ◌<◌, ◌≤◌, IfSome, drop, get_or, length, slice_index};
+ghost use Rattle.p3_kernels.specs.Pairs.{ArePairs};
 ghost use Rattle.p3_kernels.specs.ProductSums.{sum_at};
 ghost use Rattle.p3_kernels.specs.Words.{AreBelow, AreReduced};
 ghost use Rattle.p3_theory.specs.ResidueRings.SumsOfProducts.{sum_of_products};
 
 use crate::product_sums::{add_high_words, add_low_words};
 use crate::wide_products::{high_products, low_products, sums_of_four};
+use crate::word_pairs::{pairs_of_4, pairs_of_8};
 use p3_residues::montgomery::montgomery_sum;
 use std::simd::prelude::*;
 
@@ -21,38 +23,94 @@ pub trait WordRow<const N: usize> {
         ensures { result ≡ word lane self.now };
 }
 
-/// The words of 2 H lanes from one on, two by two: the first of a pair low, the second one high.
+/// Vectors of L words, which are 2 H.
+trait WordVectors<const L: usize, const H: usize> {
+    /// The pairs of the words.
+    fn pairs(words: Simd<u32, L>) -> Simd<u64, H>
+        ensures width { length result ≡ H }
+        ensures pairs { ArePairs H words.entry result };
+}
+
+/// Vectors of four words.
+struct FourWords;
+
+impl WordVectors<4, 2> for FourWords {
+    #[inline(always)]
+    fn pairs(words: u32x4) -> u64x2
+        ensures width { length result ≡ 2 }
+        ensures pairs { ArePairs 2 words result }
+    {
+        pairs_of_4(words)
+    }
+}
+
+/// Vectors of eight words.
+struct EightWords;
+
+impl WordVectors<8, 4> for EightWords {
+    #[inline(always)]
+    fn pairs(words: u32x8) -> u64x4
+        ensures width { length result ≡ 4 }
+        ensures pairs { ArePairs 4 words result }
+    {
+        pairs_of_8(words)
+    }
+}
+
+/// The words of L lanes of a row from one on.
 #[inline(always)]
-fn word_pairs<R: WordRow<N>, const N: usize, const H: usize>(row: &R, lane: usize) -> Simd<u64, H>
-    requires { lane + 2 * H ≤ N }
+pub(crate) fn lane_words<R: WordRow<N>, const N: usize, const L: usize>(
+    row: &R,
+    lane: usize,
+) -> Simd<u32, L>
+    requires { lane + L ≤ N }
+    ensures width { length result ≡ L }
+    ensures below { AreBelow L (2 ^ 32) result }
+    ensures lanes { (k : ℕ) → k < L → slice_index result k ≡ R.word (lane + k) row.now }
+{
+    let mut words = [0u32; L];
+    for k in 0..L {
+        let word = row.word_at(lane + k);
+        words[k] = word;
+    }
+    Simd::from_array(words)
+}
+
+/// The words of L lanes of a row from one on, as pairs: the first of a pair low, the second one high.
+#[inline(always)]
+fn word_pairs<R: WordRow<N>, V: WordVectors<L, H>, const N: usize, const L: usize, const H: usize>(
+    row: &R,
+    lane: usize,
+) -> Simd<u64, H>
+    requires inside { lane + L ≤ N }
+    requires pairs { L ≡ 2 * H }
     ensures width { length result ≡ H }
     ensures low { (k : ℕ) → k < H → slice_index result k % 2 ^ 32 ≡ R.word (lane + 2 * k) row.now }
     ensures high { (k : ℕ) → k < H → slice_index result k / 2 ^ 32 ≡ R.word (lane + 2 * k + 1) row.now }
 {
-    let mut pairs = [0u64; H];
-    for k in 0..H {
-        let low = row.word_at(lane + 2 * k);
-        let high = row.word_at(lane + 2 * k + 1);
-        pairs[k] = low as u64 + 0x1_0000_0000 * high as u64;
-    }
-    Simd::from_array(pairs)
+    let words = lane_words::<R, N, L>(row, lane);
+    V::pairs(words)
 }
 
 /// The products of the words of two rows at every second of 2 H lanes, from the first or, with `ODD` at 1, from the
 /// second of them on.
 #[inline(always)]
-fn products_of_rows<R: WordRow<N>, const N: usize, const H: usize, const ODD: usize>(
-    left: &R,
-    right: &R,
-    lane: usize,
-) -> Simd<u64, H>
-    requires inside { lane + 2 * H ≤ N }
+fn products_of_rows<
+    R: WordRow<N>,
+    V: WordVectors<L, H>,
+    const N: usize,
+    const L: usize,
+    const H: usize,
+    const ODD: usize,
+>(left: &R, right: &R, lane: usize) -> Simd<u64, H>
+    requires inside { lane + L ≤ N }
+    requires pairs { L ≡ 2 * H }
     requires odd { ODD ≤ 1 }
     ensures width { length result ≡ H }
     ensures value { (k : ℕ) → k < H → slice_index result k ≡ R.word (lane + 2 * k + ODD) left.now * R.word (lane + 2 * k + ODD) right.now }
 {
-    let x = word_pairs::<R, N, H>(left, lane);
-    let y = word_pairs::<R, N, H>(right, lane);
+    let x = word_pairs::<R, V, N, L, H>(left, lane);
+    let y = word_pairs::<R, V, N, L, H>(right, lane);
     if ODD == 0 {
         low_products::<H>(x, y)
     } else {
@@ -62,25 +120,28 @@ fn products_of_rows<R: WordRow<N>, const N: usize, const H: usize, const ODD: us
 
 /// The same products, summed up over four rows from an index on.
 #[inline(always)]
-fn products_of_four_rows<R: WordRow<N>, const N: usize, const H: usize, const ODD: usize>(
-    u: &[R],
-    v: &[R],
-    start: usize,
-    lane: usize,
-) -> Simd<u64, H>
+fn products_of_four_rows<
+    R: WordRow<N>,
+    V: WordVectors<L, H>,
+    const N: usize,
+    const L: usize,
+    const H: usize,
+    const ODD: usize,
+>(u: &[R], v: &[R], start: usize, lane: usize) -> Simd<u64, H>
     requires lengths { length u.now ≡ length v.now }
     requires room { start + 4 ≤ length u.now }
-    requires inside { lane + 2 * H ≤ N }
+    requires inside { lane + L ≤ N }
+    requires pairs { L ≡ 2 * H }
     requires odd { ODD ≤ 1 }
     requires short { (k : ℕ) (x : R) → k < N → R.word k x < 2 ^ 31 }
     ensures width { length result ≡ H }
     ensures value { (k : ℕ) → k < H → slice_index result k + sum_of_products (R.word (lane + 2 * k + ODD)) (drop (start + 4) u.now) (drop (start + 4) v.now)
         ≡ sum_of_products (R.word (lane + 2 * k + ODD)) (drop start u.now) (drop start v.now) }
 {
-    let first = products_of_rows::<R, N, H, ODD>(&u[start], &v[start], lane);
-    let second = products_of_rows::<R, N, H, ODD>(&u[start + 1], &v[start + 1], lane);
-    let third = products_of_rows::<R, N, H, ODD>(&u[start + 2], &v[start + 2], lane);
-    let fourth = products_of_rows::<R, N, H, ODD>(&u[start + 3], &v[start + 3], lane);
+    let first = products_of_rows::<R, V, N, L, H, ODD>(&u[start], &v[start], lane);
+    let second = products_of_rows::<R, V, N, L, H, ODD>(&u[start + 1], &v[start + 1], lane);
+    let third = products_of_rows::<R, V, N, L, H, ODD>(&u[start + 2], &v[start + 2], lane);
+    let fourth = products_of_rows::<R, V, N, L, H, ODD>(&u[start + 3], &v[start + 3], lane);
     sums_of_four::<H>(first, second, third, fourth)
 }
 
@@ -114,13 +175,14 @@ fn write_sums<const H: usize>(
 
 /// Writes the sums of the products of two lists of rows at 2 H lanes from one on, after those of the lanes before.
 #[inline(always)]
-fn write_lanes<R: WordRow<N>, const N: usize, const H: usize>(
+fn write_lanes<R: WordRow<N>, V: WordVectors<L, H>, const N: usize, const L: usize, const H: usize>(
     totals: &mut [u128],
     u: &[R],
     v: &[R],
     lane: usize,
 )
-    requires inside { lane + 2 * H ≤ N }
+    requires inside { lane + L ≤ N }
+    requires pairs { L ≡ 2 * H }
     requires width { length totals.old ≡ N }
     requires lengths { length u.now ≡ length v.now }
     requires few { length u.now ≤ 2 ^ 16 }
@@ -135,16 +197,16 @@ fn write_lanes<R: WordRow<N>, const N: usize, const H: usize>(
     let mut odd_high = Simd::<u64, H>::splat(0);
     let blocks = u.len() / 4;
     for i in 0..blocks {
-        let even = products_of_four_rows::<R, N, H, 0>(u, v, 4 * i, lane);
-        let odd = products_of_four_rows::<R, N, H, 1>(u, v, 4 * i, lane);
+        let even = products_of_four_rows::<R, V, N, L, H, 0>(u, v, 4 * i, lane);
+        let odd = products_of_four_rows::<R, V, N, L, H, 1>(u, v, 4 * i, lane);
         even_low = add_low_words::<H>(even_low, even);
         even_high = add_high_words::<H>(even_high, even);
         odd_low = add_low_words::<H>(odd_low, odd);
         odd_high = add_high_words::<H>(odd_high, odd);
     }
     for i in 4 * blocks..u.len() {
-        let last_even = products_of_rows::<R, N, H, 0>(&u[i], &v[i], lane);
-        let last_odd = products_of_rows::<R, N, H, 1>(&u[i], &v[i], lane);
+        let last_even = products_of_rows::<R, V, N, L, H, 0>(&u[i], &v[i], lane);
+        let last_odd = products_of_rows::<R, V, N, L, H, 1>(&u[i], &v[i], lane);
         even_low = add_low_words::<H>(even_low, last_even);
         even_high = add_high_words::<H>(even_high, last_even);
         odd_low = add_low_words::<H>(odd_low, last_odd);
@@ -165,14 +227,14 @@ pub fn sums_of_rows<R: WordRow<N>, const N: usize>(u: &[R], v: &[R]) -> Option<[
 {
     let mut totals = [0u128; N];
     if N == 4 {
-        write_lanes::<R, N, 2>(&mut totals[..], u, v, 0);
+        write_lanes::<R, FourWords, N, 4, 2>(&mut totals[..], u, v, 0);
         return Some(totals);
     }
     if N % 8 > 0 {
         return None;
     }
     for block in 0..N / 8 {
-        write_lanes::<R, N, 4>(&mut totals[..], u, v, 8 * block);
+        write_lanes::<R, EightWords, N, 8, 4>(&mut totals[..], u, v, 8 * block);
     }
     Some(totals)
 }

@@ -4,7 +4,7 @@ ghost use Rattle.p3_kernels.specs.Words.{AreBelow, product_at};
 ghost use Rattle.p3_kernels.specs.Residues.{AreResidues};
 ghost use Rattle.p3_theory.specs.ResidueRings.SumsOfProducts.{sum_of_products};
 
-use crate::row_products::WordRow;
+use crate::row_products::{WordRow, lane_words};
 use crate::small_sums::{whole_products_4, whole_products_8};
 use std::simd::prelude::*;
 
@@ -46,21 +46,6 @@ impl SmallLanes<8> for EightLanes {
     {
         whole_products_8(left, right)
     }
-}
-
-/// The words of L lanes of a row from one on.
-#[inline(always)]
-fn lane_words<R: WordRow<N>, const N: usize, const L: usize>(row: &R, lane: usize) -> Simd<u32, L>
-    requires { lane + L ≤ N }
-    ensures width { length result ≡ L }
-    ensures lanes { (k : ℕ) → k < L → slice_index result k ≡ R.word (lane + k) row.now }
-{
-    let mut words = [0u32; L];
-    for k in 0..L {
-        let word = row.word_at(lane + k);
-        words[k] = word;
-    }
-    Simd::from_array(words)
 }
 
 /// The sums of numbers, lane by lane, where 32 bits hold them.
