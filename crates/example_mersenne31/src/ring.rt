@@ -81,19 +81,19 @@ impl PrimeCharacteristicRing for Mersenne31 {
 
     ghost characteristic = { of_nat-order is };
 
-    ghost adds = { record { called = λ _ _. tt; answer = λ x y r h. is_of is r _ h } };
+    ghost adds = { record { callable = λ _ _. tt; exact = λ x y r h. is_of is r _ h } };
 
-    ghost add_assigns = { record { called = λ _ _. tt; answer = λ x y r h. is_of is r _ h } };
+    ghost add_assigns = { record { callable = λ _ _. tt; exact = λ x y r h. is_of is r _ h } };
 
-    ghost subs = { record { called = λ _ _. tt; answer = λ x y r h. is_difference is x y r h } };
+    ghost subs = { record { callable = λ _ _. tt; exact = λ x y r h. is_difference is x y r h } };
 
-    ghost sub_assigns = { record { called = λ _ _. tt; answer = λ x y r h. is_difference is x y r h } };
+    ghost sub_assigns = { record { callable = λ _ _. tt; exact = λ x y r h. is_difference is x y r h } };
 
-    ghost negs = { record { called = λ _. tt; answer = λ x r h. is_of is r _ h } };
+    ghost negs = { record { callable = λ _. tt; exact = λ x r h. is_of is r _ h } };
 
-    ghost muls = { record { called = λ _ _. tt; answer = λ x y r h. is_of is r _ h } };
+    ghost muls = { record { callable = λ _ _. tt; exact = λ x y r h. is_of is r _ h } };
 
-    ghost mul_assigns = { record { called = λ _ _. tt; answer = λ x y r h. is_of is r _ h } };
+    ghost mul_assigns = { record { callable = λ _ _. tt; exact = λ x y r h. is_of is r _ h } };
 }
 
 impl Sum<Mersenne31> for Mersenne31 {
@@ -119,7 +119,7 @@ impl Product<Mersenne31> for Mersenne31 {
 }
 
 impl RingSums for Mersenne31 {
-    ghost sums = { record { called = λ _. tt; answer = λ _ _ h. h; whole = λ _. tt } };
+    ghost sums = { record { callable = λ _. tt; exact = λ _ _ h. h; whole = λ _. tt } };
 
-    ghost products = { record { called = λ _. tt; answer = λ _ _ h. h; whole = λ _. tt } };
+    ghost products = { record { callable = λ _. tt; exact = λ _ _ h. h; whole = λ _. tt } };
 }

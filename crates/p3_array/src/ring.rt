@@ -79,25 +79,25 @@ impl<F: PrimeCharacteristicRing + Inhabited, const N: usize> PrimeCharacteristic
 
     ghost characteristic = { row_characteristic rows F.ops F.PrimeSubfield.order F.characteristic };
 
-    ghost adds = { record { called = λ _ _. tt; answer = written_sum rows F.ops } };
+    ghost adds = { record { callable = λ _ _. tt; exact = written_sum rows F.ops } };
 
-    ghost add_assigns = { record { called = λ _ _. tt; answer = written_sum rows F.ops } };
+    ghost add_assigns = { record { callable = λ _ _. tt; exact = written_sum rows F.ops } };
 
-    ghost subs = { record { called = λ _ _. tt; answer = written_difference rows F.ops } };
+    ghost subs = { record { callable = λ _ _. tt; exact = written_difference rows F.ops } };
 
-    ghost sub_assigns = { record { called = λ _ _. tt; answer = written_difference rows F.ops } };
+    ghost sub_assigns = { record { callable = λ _ _. tt; exact = written_difference rows F.ops } };
 
-    ghost negs = { record { called = λ _. tt; answer = written_negation rows F.ops } };
+    ghost negs = { record { callable = λ _. tt; exact = written_negation rows F.ops } };
 
-    ghost muls = { record { called = λ _ _. tt; answer = written_product rows F.ops } };
+    ghost muls = { record { callable = λ _ _. tt; exact = written_product rows F.ops } };
 
-    ghost mul_assigns = { record { called = λ _ _. tt; answer = written_product rows F.ops } };
+    ghost mul_assigns = { record { callable = λ _ _. tt; exact = written_product rows F.ops } };
 }
 
 impl<F: PrimeCharacteristicRing + Inhabited, const N: usize> RingSums for FieldArray<F, N> {
-    ghost sums = { record { called = λ _. tt; answer = λ _ _ h. h; whole = λ _. tt } };
+    ghost sums = { record { callable = λ _. tt; exact = λ _ _ h. h; whole = λ _. tt } };
 
-    ghost products = { record { called = λ _. tt; answer = λ _ _ h. h; whole = λ _. tt } };
+    ghost products = { record { callable = λ _. tt; exact = λ _ _ h. h; whole = λ _. tt } };
 }
 
 /// A value stands for the array that has it in every entry.
@@ -119,15 +119,15 @@ impl<F: PrimeCharacteristicRing + Inhabited, const N: usize> Algebra<F> for Fiel
 
     ghost froms = { λ f r h. written_constant rows F.ops r f h };
 
-    ghost mixed_adds = { record { called = λ _ _. tt; answer = written_mixed_sum rows F.ops } };
+    ghost mixed_adds = { record { callable = λ _ _. tt; exact = written_mixed_sum rows F.ops } };
 
-    ghost mixed_add_assigns = { record { called = λ _ _. tt; answer = written_mixed_sum rows F.ops } };
+    ghost mixed_add_assigns = { record { callable = λ _ _. tt; exact = written_mixed_sum rows F.ops } };
 
-    ghost mixed_subs = { record { called = λ _ _. tt; answer = written_mixed_difference rows F.ops } };
+    ghost mixed_subs = { record { callable = λ _ _. tt; exact = written_mixed_difference rows F.ops } };
 
-    ghost mixed_sub_assigns = { record { called = λ _ _. tt; answer = written_mixed_difference rows F.ops } };
+    ghost mixed_sub_assigns = { record { callable = λ _ _. tt; exact = written_mixed_difference rows F.ops } };
 
-    ghost mixed_muls = { record { called = λ _ _. tt; answer = written_mixed_product rows F.ops } };
+    ghost mixed_muls = { record { callable = λ _ _. tt; exact = written_mixed_product rows F.ops } };
 
-    ghost mixed_mul_assigns = { record { called = λ _ _. tt; answer = written_mixed_product rows F.ops } };
+    ghost mixed_mul_assigns = { record { callable = λ _ _. tt; exact = written_mixed_product rows F.ops } };
 }

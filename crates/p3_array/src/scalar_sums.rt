@@ -40,7 +40,7 @@ impl<F: PrimeCharacteristicRing + Inhabited, const N: usize> Product<F> for Fiel
 
 /// The sum and the product of values, in each entry.
 impl<F: PrimeCharacteristicRing + Inhabited, const N: usize> ScalarSums<F> for FieldArray<F, N> {
-    ghost scalar_sums = { record { called = λ _. tt; answer = λ _ _ h. h; whole = λ _. tt } };
+    ghost scalar_sums = { record { callable = λ _. tt; exact = λ _ _ h. h; whole = λ _. tt } };
 
-    ghost scalar_products = { record { called = λ _. tt; answer = λ _ _ h. h; whole = λ _. tt } };
+    ghost scalar_products = { record { callable = λ _. tt; exact = λ _ _ h. h; whole = λ _. tt } };
 }

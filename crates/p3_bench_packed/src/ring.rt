@@ -110,25 +110,25 @@ impl<W: Form<T>, T: Word, const N: usize> PrimeCharacteristicRing for Packed<Fp<
 
     ghost characteristic = { row_characteristic packed_rows (ops W.Form) W.ORDER (of_nat-order (is W.Form)) };
 
-    ghost adds = { record { called = λ _ _. tt; answer = sum_of_lanes W.Form } };
+    ghost adds = { record { callable = λ _ _. tt; exact = sum_of_lanes W.Form } };
 
-    ghost add_assigns = { record { called = λ _ _. tt; answer = sum_of_lanes W.Form } };
+    ghost add_assigns = { record { callable = λ _ _. tt; exact = sum_of_lanes W.Form } };
 
-    ghost subs = { record { called = λ _ _. tt; answer = difference_of_lanes W.Form } };
+    ghost subs = { record { callable = λ _ _. tt; exact = difference_of_lanes W.Form } };
 
-    ghost sub_assigns = { record { called = λ _ _. tt; answer = difference_of_lanes W.Form } };
+    ghost sub_assigns = { record { callable = λ _ _. tt; exact = difference_of_lanes W.Form } };
 
-    ghost negs = { record { called = λ _. tt; answer = negation_of_lanes W.Form } };
+    ghost negs = { record { callable = λ _. tt; exact = negation_of_lanes W.Form } };
 
-    ghost muls = { record { called = λ _ _. tt; answer = product_of_lanes W.Form } };
+    ghost muls = { record { callable = λ _ _. tt; exact = product_of_lanes W.Form } };
 
-    ghost mul_assigns = { record { called = λ _ _. tt; answer = product_of_lanes W.Form } };
+    ghost mul_assigns = { record { callable = λ _ _. tt; exact = product_of_lanes W.Form } };
 }
 
 impl<W: Form<T>, T: Word, const N: usize> RingSums for Packed<Fp<W, T>, N> {
-    ghost sums = { record { called = λ _. tt; answer = λ _ _ h. h; whole = λ _. tt } };
+    ghost sums = { record { callable = λ _. tt; exact = λ _ _ h. h; whole = λ _. tt } };
 
-    ghost products = { record { called = λ _. tt; answer = λ _ _ h. h; whole = λ _. tt } };
+    ghost products = { record { callable = λ _. tt; exact = λ _ _ h. h; whole = λ _. tt } };
 }
 
 impl<W: Form<T>, T: Word, const N: usize> Algebra<Fp<W, T>> for Packed<Fp<W, T>, N> {
@@ -151,22 +151,22 @@ impl<W: Form<T>, T: Word, const N: usize> Algebra<Fp<W, T>> for Packed<Fp<W, T>,
 
     ghost froms = { λ f r h. written_constant packed_rows (ops W.Form) r f h };
 
-    ghost mixed_adds = { record { called = λ _ _. tt; answer = mixed_sum_of_lanes W.Form } };
+    ghost mixed_adds = { record { callable = λ _ _. tt; exact = mixed_sum_of_lanes W.Form } };
 
-    ghost mixed_add_assigns = { record { called = λ _ _. tt; answer = mixed_sum_of_lanes W.Form } };
+    ghost mixed_add_assigns = { record { callable = λ _ _. tt; exact = mixed_sum_of_lanes W.Form } };
 
-    ghost mixed_subs = { record { called = λ _ _. tt; answer = mixed_difference_of_lanes W.Form } };
+    ghost mixed_subs = { record { callable = λ _ _. tt; exact = mixed_difference_of_lanes W.Form } };
 
-    ghost mixed_sub_assigns = { record { called = λ _ _. tt; answer = mixed_difference_of_lanes W.Form } };
+    ghost mixed_sub_assigns = { record { callable = λ _ _. tt; exact = mixed_difference_of_lanes W.Form } };
 
-    ghost mixed_muls = { record { called = λ _ _. tt; answer = mixed_product_of_lanes W.Form } };
+    ghost mixed_muls = { record { callable = λ _ _. tt; exact = mixed_product_of_lanes W.Form } };
 
-    ghost mixed_mul_assigns = { record { called = λ _ _. tt; answer = mixed_product_of_lanes W.Form } };
+    ghost mixed_mul_assigns = { record { callable = λ _ _. tt; exact = mixed_product_of_lanes W.Form } };
 }
 
 /// The sum and the product of values, in all lanes.
 impl<W: Form<T>, T: Word, const N: usize> ScalarSums<Fp<W, T>> for Packed<Fp<W, T>, N> {
-    ghost scalar_sums = { record { called = λ _. tt; answer = λ _ _ h. h; whole = λ _. tt } };
+    ghost scalar_sums = { record { callable = λ _. tt; exact = λ _ _ h. h; whole = λ _. tt } };
 
-    ghost scalar_products = { record { called = λ _. tt; answer = λ _ _ h. h; whole = λ _. tt } };
+    ghost scalar_products = { record { callable = λ _. tt; exact = λ _ _ h. h; whole = λ _. tt } };
 }

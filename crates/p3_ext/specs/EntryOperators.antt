@@ -15,7 +15,7 @@ module _ {F : Type 0} {D : ℕ} {S A : Type 0} (o : Ops A) (f : List A) (can : A
   gives_each x y r = (d : A) (k : ℕ) → k < D → gives (get_or x.value k d) (get_or y.value k d) (get_or r.value k d)
 
   pub sums_of_values : Gives can gives o.add → Gives can_each gives_each (ext_ops o f).add
-  sums_of_values h = record { called = λ _ _ _ _ _. h.called _ _; answer = λ x y r g. is_sum o f gives h.answer x y r g }
+  sums_of_values h = record { callable = λ _ _ _ _ _. h.callable _ _; exact = λ x y r g. is_sum o f gives h.exact x y r g }
 
   pub differences_of_values : Gives can gives (subtract o) → Gives can_each gives_each (subtract (ext_ops {F = F} {D = D} {S = S} o f))
-  differences_of_values h = record { called = λ _ _ _ _ _. h.called _ _; answer = λ x y r g. is_difference o f gives h.answer x y r g }
+  differences_of_values h = record { callable = λ _ _ _ _ _. h.callable _ _; exact = λ x y r g. is_difference o f gives h.exact x y r g }

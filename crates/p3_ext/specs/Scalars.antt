@@ -10,17 +10,17 @@ use Rattle.p3_ext.specs.Values.{constant, ext_ops, same_value}
 use Rattle.p3_ext.specs.declared.extension.ext_field.ExtField.{ExtField}
 
 -- r is x with the coefficient at index 0 changed to what the operator gives of it and c
-abbrev pub ChangesFirst : {A : Type 0} → ℕ → (A → A → A → Type 0) → List A → A → List A → Type 0
-ChangesFirst {A} D gives x c r = ((d : A) → gives (get_or x 0 d) c (get_or r 0 d)) × SameAfterFirst D x r
+abbrev pub OnFirstCoefficient : {A : Type 0} → ℕ → (A → A → A → Type 0) → List A → A → List A → Type 0
+OnFirstCoefficient {A} D gives x c r = ((d : A) → gives (get_or x 0 d) c (get_or r 0 d)) × SameAfterFirst D x r
 
 module _ {F S A : Type 0} (R : Ring A) (D : ℕ) (degree : 2 ≤ D) (f : List A) (gives : A → A → A → Type 0) where
-  pub is_scalar_sum : ((a b c : A) → gives a b c → c ≡ R.add a b) → (x r : ExtField F D S A) (c : A) → ChangesFirst D gives x.value c r.value
+  pub is_scalar_sum : ((a b c : A) → gives a b c → c ≡ R.add a b) → (x r : ExtField F D S A) (c : A) → OnFirstCoefficient D gives x.value c r.value
       → r ≡ (ext_ops R.ops f).add x (constant R.ops c)
   is_scalar_sum is x r c h =
       let some : 0 < D = omega arith in
       same_value r ((ext_ops R.ops f).add x (constant R.ops c)) (scalar-sum R D some x.value r.value c r.sized h.1 (is _ _ _ (h.0 R.zero)))
 
-  pub is_scalar_difference : ((a b c : A) → gives a b c → c ≡ subtract R.ops a b) → (x r : ExtField F D S A) (c : A) → ChangesFirst D gives x.value c r.value
+  pub is_scalar_difference : ((a b c : A) → gives a b c → c ≡ subtract R.ops a b) → (x r : ExtField F D S A) (c : A) → OnFirstCoefficient D gives x.value c r.value
       → r ≡ subtract (ext_ops R.ops f) x (constant R.ops c)
   is_scalar_difference is x r c h =
       let some : 0 < D = omega arith in

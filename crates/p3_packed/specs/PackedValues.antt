@@ -11,7 +11,7 @@ use Rattle.p3_theory.specs.FrobeniusMaps.FrobeniusTransfer.{monic_along}
 use Rattle.p3_ext.specs.Values.{constant, ext_ops, ext_laws, value_of, same_value, is_sum, is_difference, is_negation}
 use Rattle.p3_ext.specs.ValueOrder.{zero_value}
 use Rattle.p3_ext.specs.Bases.{characteristic_of, multiple_of_one, embedding}
-use Rattle.p3_ext.specs.Scalars.{ChangesFirst, is_scalar_sum, is_scalar_difference, is_scalar_product}
+use Rattle.p3_ext.specs.Scalars.{OnFirstCoefficient, is_scalar_sum, is_scalar_difference, is_scalar_product}
 use Rattle.p3_ext.specs.Doublings.{half_of_base, half_by_coefficients, of_written, product_by_coefficients, quotient_by_coefficients}
 use Rattle.p3_ext.specs.declared.extension.ext_field.ExtField.{ExtField}
 use Rattle.p3_packed.specs.declared.packed_ext_field.PackedExtField.{PackedExtField}
@@ -165,11 +165,11 @@ module _ {F P S : Type 0} {D : ℕ} (R : Ring P) {Q : Ops F} {e : F → P} (keep
 
   -- what operators between values and packings give
   pub packed_scalar_sum : (gives : P → P → P → Type 0) → ((a b c : P) → gives a b c → c ≡ R.add a b) → (x r : PackedExtField F D S P) (c : P)
-      → ChangesFirst D gives x.value.value c r.value.value → r ≡ (over F S D R.ops e m).add x (packed_constant R.ops c)
+      → OnFirstCoefficient D gives x.value.value c r.value.value → r ≡ (over F S D R.ops e m).add x (packed_constant R.ops c)
   packed_scalar_sum gives is x r c h = ap packed (is_scalar_sum R D degree (map e m) gives is x.value r.value c h)
 
   pub packed_scalar_difference : (gives : P → P → P → Type 0) → ((a b c : P) → gives a b c → c ≡ subtract R.ops a b) → (x r : PackedExtField F D S P) (c : P)
-      → ChangesFirst D gives x.value.value c r.value.value → r ≡ subtract (over F S D R.ops e m) x (packed_constant R.ops c)
+      → OnFirstCoefficient D gives x.value.value c r.value.value → r ≡ subtract (over F S D R.ops e m) x (packed_constant R.ops c)
   packed_scalar_difference gives is x r c h = ap packed (is_scalar_difference R D degree (map e m) gives is x.value r.value c h)
 
   pub packed_scalar_product : (gives : P → P → P → Type 0) → ((a b c : P) → gives a b c → c ≡ R.mul a b) → (x r : PackedExtField F D S P) (c : P)

@@ -1,7 +1,7 @@
 //! A packed extension as an algebra over its packings.
 ghost use Rattle.std.specs.Prelude.{◌≡◌, ◌<◌, ℕ, get_or};
 ghost use Rattle.p3_theory.specs.Polynomials.Polynomial.{embed};
-ghost use Rattle.p3_ext.specs.Scalars.{ChangesFirst};
+ghost use Rattle.p3_ext.specs.Scalars.{OnFirstCoefficient};
 
 use crate::packed_ext_field::{PackedExtField, Packing};
 use p3_ext::extension::{ExtensionAlgebra, ExtensionOverAlgebra, ExtensionShape};
@@ -29,7 +29,7 @@ impl<F: Copy, const D: usize, S: Copy, P: Copy + Add<Output = P> + Packing<Scala
 
     ghost can_add = { λ x c. (0 < D) × ((d : P) → P.can_add (get_or x.value.value 0 d) c) };
 
-    ghost add_gives = { λ x c r. ChangesFirst D P.add_gives x.value.value c r.value.value };
+    ghost add_gives = { λ x c r. OnFirstCoefficient D P.add_gives x.value.value c r.value.value };
 
     #[inline]
     fn add(self, rhs: P) -> Self {
@@ -45,7 +45,7 @@ impl<F: Copy, const D: usize, S: Copy, P: Copy + Sub<Output = P> + Packing<Scala
 
     ghost can_sub = { λ x c. (0 < D) × ((d : P) → P.can_sub (get_or x.value.value 0 d) c) };
 
-    ghost sub_gives = { λ x c r. ChangesFirst D P.sub_gives x.value.value c r.value.value };
+    ghost sub_gives = { λ x c r. OnFirstCoefficient D P.sub_gives x.value.value c r.value.value };
 
     #[inline]
     fn sub(self, rhs: P) -> Self {
@@ -75,7 +75,7 @@ impl<F: Copy, const D: usize, S: Copy, P: Copy + Add<Output = P> + Packing<Scala
     for PackedExtField<F, D, S, P> {
     ghost can_add_assign = { λ x c. (0 < D) × ((d : P) → P.can_add (get_or x.value.value 0 d) c) };
 
-    ghost add_assign_gives = { λ x c r. ChangesFirst D P.add_gives x.value.value c r.value.value };
+    ghost add_assign_gives = { λ x c r. OnFirstCoefficient D P.add_gives x.value.value c r.value.value };
 
     #[inline]
     fn add_assign(&mut self, rhs: P) {
@@ -87,7 +87,7 @@ impl<F: Copy, const D: usize, S: Copy, P: Copy + Sub<Output = P> + Packing<Scala
     for PackedExtField<F, D, S, P> {
     ghost can_sub_assign = { λ x c. (0 < D) × ((d : P) → P.can_sub (get_or x.value.value 0 d) c) };
 
-    ghost sub_assign_gives = { λ x c r. ChangesFirst D P.sub_gives x.value.value c r.value.value };
+    ghost sub_assign_gives = { λ x c r. OnFirstCoefficient D P.sub_gives x.value.value c r.value.value };
 
     #[inline]
     fn sub_assign(&mut self, rhs: P) {
@@ -131,15 +131,15 @@ impl<
 
     ghost froms = { λ p r h. same_packed P.ops [] r (packed_constant P.ops p) h };
 
-    ghost mixed_adds = { record { called = λ _ _. (some_index F.at_least_two, λ _. P.PrimeCharacteristicRing.adds.called _ _); answer = λ x c r h. packed_scalar_sum (ring_of P.PrimeCharacteristicRing.ring) P.Algebra.embeds F.at_least_two F.modulus F.monic _ P.PrimeCharacteristicRing.adds.answer x r c h } };
+    ghost mixed_adds = { record { callable = λ _ _. (some_index F.at_least_two, λ _. P.PrimeCharacteristicRing.adds.callable _ _); exact = λ x c r h. packed_scalar_sum (ring_of P.PrimeCharacteristicRing.ring) P.Algebra.embeds F.at_least_two F.modulus F.monic _ P.PrimeCharacteristicRing.adds.exact x r c h } };
 
-    ghost mixed_add_assigns = { record { called = λ _ _. (some_index F.at_least_two, λ _. P.PrimeCharacteristicRing.adds.called _ _); answer = λ x c r h. packed_scalar_sum (ring_of P.PrimeCharacteristicRing.ring) P.Algebra.embeds F.at_least_two F.modulus F.monic _ P.PrimeCharacteristicRing.adds.answer x r c h } };
+    ghost mixed_add_assigns = { record { callable = λ _ _. (some_index F.at_least_two, λ _. P.PrimeCharacteristicRing.adds.callable _ _); exact = λ x c r h. packed_scalar_sum (ring_of P.PrimeCharacteristicRing.ring) P.Algebra.embeds F.at_least_two F.modulus F.monic _ P.PrimeCharacteristicRing.adds.exact x r c h } };
 
-    ghost mixed_subs = { record { called = λ _ _. (some_index F.at_least_two, λ _. P.PrimeCharacteristicRing.subs.called _ _); answer = λ x c r h. packed_scalar_difference (ring_of P.PrimeCharacteristicRing.ring) P.Algebra.embeds F.at_least_two F.modulus F.monic _ P.PrimeCharacteristicRing.subs.answer x r c h } };
+    ghost mixed_subs = { record { callable = λ _ _. (some_index F.at_least_two, λ _. P.PrimeCharacteristicRing.subs.callable _ _); exact = λ x c r h. packed_scalar_difference (ring_of P.PrimeCharacteristicRing.ring) P.Algebra.embeds F.at_least_two F.modulus F.monic _ P.PrimeCharacteristicRing.subs.exact x r c h } };
 
-    ghost mixed_sub_assigns = { record { called = λ _ _. (some_index F.at_least_two, λ _. P.PrimeCharacteristicRing.subs.called _ _); answer = λ x c r h. packed_scalar_difference (ring_of P.PrimeCharacteristicRing.ring) P.Algebra.embeds F.at_least_two F.modulus F.monic _ P.PrimeCharacteristicRing.subs.answer x r c h } };
+    ghost mixed_sub_assigns = { record { callable = λ _ _. (some_index F.at_least_two, λ _. P.PrimeCharacteristicRing.subs.callable _ _); exact = λ x c r h. packed_scalar_difference (ring_of P.PrimeCharacteristicRing.ring) P.Algebra.embeds F.at_least_two F.modulus F.monic _ P.PrimeCharacteristicRing.subs.exact x r c h } };
 
-    ghost mixed_muls = { record { called = λ _ _ _ _ _. P.PrimeCharacteristicRing.muls.called _ _; answer = λ x c r h. packed_scalar_product (ring_of P.PrimeCharacteristicRing.ring) P.Algebra.embeds F.at_least_two F.modulus F.monic _ P.PrimeCharacteristicRing.muls.answer x r c h } };
+    ghost mixed_muls = { record { callable = λ _ _ _ _ _. P.PrimeCharacteristicRing.muls.callable _ _; exact = λ x c r h. packed_scalar_product (ring_of P.PrimeCharacteristicRing.ring) P.Algebra.embeds F.at_least_two F.modulus F.monic _ P.PrimeCharacteristicRing.muls.exact x r c h } };
 
-    ghost mixed_mul_assigns = { record { called = λ _ _ _ _ _. P.PrimeCharacteristicRing.muls.called _ _; answer = λ x c r h. packed_scalar_product (ring_of P.PrimeCharacteristicRing.ring) P.Algebra.embeds F.at_least_two F.modulus F.monic _ P.PrimeCharacteristicRing.muls.answer x r c h } };
+    ghost mixed_mul_assigns = { record { callable = λ _ _ _ _ _. P.PrimeCharacteristicRing.muls.callable _ _; exact = λ x c r h. packed_scalar_product (ring_of P.PrimeCharacteristicRing.ring) P.Algebra.embeds F.at_least_two F.modulus F.monic _ P.PrimeCharacteristicRing.muls.exact x r c h } };
 }

@@ -144,17 +144,17 @@ impl<F: ExtensionOverAlgebra<P, D, S>, const D: usize, S: ExtensionShape, P: Alg
 
     ghost froms = { λ v r h. same_packed P.ops [] r (spread P.embed v) h };
 
-    ghost mixed_adds = { record { called = λ _ _ _ _ _ _. P.mixed_adds.called _ _; answer = spread_sum P.ops (map P.embed F.modulus) P.embed F.ops.zero _ P.mixed_adds.answer } };
+    ghost mixed_adds = { record { callable = λ _ _ _ _ _ _. P.mixed_adds.callable _ _; exact = spread_sum P.ops (map P.embed F.modulus) P.embed F.ops.zero _ P.mixed_adds.exact } };
 
-    ghost mixed_add_assigns = { record { called = λ _ _ _ _ _ _. P.mixed_adds.called _ _; answer = spread_sum P.ops (map P.embed F.modulus) P.embed F.ops.zero _ P.mixed_adds.answer } };
+    ghost mixed_add_assigns = { record { callable = λ _ _ _ _ _ _. P.mixed_adds.callable _ _; exact = spread_sum P.ops (map P.embed F.modulus) P.embed F.ops.zero _ P.mixed_adds.exact } };
 
-    ghost mixed_subs = { record { called = λ _ _ _ _ _ _. P.mixed_subs.called _ _; answer = spread_difference P.ops (map P.embed F.modulus) P.embed F.ops.zero _ P.mixed_subs.answer } };
+    ghost mixed_subs = { record { callable = λ _ _ _ _ _ _. P.mixed_subs.callable _ _; exact = spread_difference P.ops (map P.embed F.modulus) P.embed F.ops.zero _ P.mixed_subs.exact } };
 
-    ghost mixed_sub_assigns = { record { called = λ _ _ _ _ _ _. P.mixed_subs.called _ _; answer = spread_difference P.ops (map P.embed F.modulus) P.embed F.ops.zero _ P.mixed_subs.answer } };
+    ghost mixed_sub_assigns = { record { callable = λ _ _ _ _ _ _. P.mixed_subs.callable _ _; exact = spread_difference P.ops (map P.embed F.modulus) P.embed F.ops.zero _ P.mixed_subs.exact } };
 
-    ghost mixed_muls = { record { called = λ _ _. tt; answer = λ x v r h. spread_product P.ops (map P.embed F.modulus) P.embed x v r (F.packed_products _ _ _ h) } };
+    ghost mixed_muls = { record { callable = λ _ _. tt; exact = λ x v r h. spread_product P.ops (map P.embed F.modulus) P.embed x v r (F.packed_products _ _ _ h) } };
 
-    ghost mixed_mul_assigns = { record { called = λ _ _. tt; answer = λ x v r h. spread_product P.ops (map P.embed F.modulus) P.embed x v r (F.packed_products _ _ _ h) } };
+    ghost mixed_mul_assigns = { record { callable = λ _ _. tt; exact = λ x v r h. spread_product P.ops (map P.embed F.modulus) P.embed x v r (F.packed_products _ _ _ h) } };
 }
 
 /// The sum of extension values, in every lane.

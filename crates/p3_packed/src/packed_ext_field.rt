@@ -298,24 +298,24 @@ impl<
 
     ghost characteristic = { packed_characteristic (ring_of P.ring) P.embeds F.at_least_two F.modulus F.monic P.PrimeSubfield.order P.characteristic };
 
-    ghost adds = { record { called = λ _ _ _ _ _. P.adds.called _ _; answer = packed_sum P.ops (map P.embed F.modulus) _ P.adds.answer } };
+    ghost adds = { record { callable = λ _ _ _ _ _. P.adds.callable _ _; exact = packed_sum P.ops (map P.embed F.modulus) _ P.adds.exact } };
 
-    ghost add_assigns = { record { called = λ _ _ _ _ _. P.adds.called _ _; answer = packed_sum P.ops (map P.embed F.modulus) _ P.adds.answer } };
+    ghost add_assigns = { record { callable = λ _ _ _ _ _. P.adds.callable _ _; exact = packed_sum P.ops (map P.embed F.modulus) _ P.adds.exact } };
 
-    ghost subs = { record { called = λ _ _ _ _ _. P.subs.called _ _; answer = packed_difference P.ops (map P.embed F.modulus) _ P.subs.answer } };
+    ghost subs = { record { callable = λ _ _ _ _ _. P.subs.callable _ _; exact = packed_difference P.ops (map P.embed F.modulus) _ P.subs.exact } };
 
-    ghost sub_assigns = { record { called = λ _ _ _ _ _. P.subs.called _ _; answer = packed_difference P.ops (map P.embed F.modulus) _ P.subs.answer } };
+    ghost sub_assigns = { record { callable = λ _ _ _ _ _. P.subs.callable _ _; exact = packed_difference P.ops (map P.embed F.modulus) _ P.subs.exact } };
 
-    ghost negs = { record { called = λ _ _ _ _. P.negs.called _; answer = packed_negation P.ops (map P.embed F.modulus) P.neg_gives P.negs.answer } };
+    ghost negs = { record { callable = λ _ _ _ _. P.negs.callable _; exact = packed_negation P.ops (map P.embed F.modulus) P.neg_gives P.negs.exact } };
 
-    ghost muls = { record { called = λ _ _. tt; answer = λ x y r h. packed_product P.ops (map P.embed F.modulus) x y r (F.packed_products _ _ _ h) } };
+    ghost muls = { record { callable = λ _ _. tt; exact = λ x y r h. packed_product P.ops (map P.embed F.modulus) x y r (F.packed_products _ _ _ h) } };
 
-    ghost mul_assigns = { record { called = λ _ _. tt; answer = λ x y r h. packed_product P.ops (map P.embed F.modulus) x y r (F.packed_products _ _ _ h) } };
+    ghost mul_assigns = { record { callable = λ _ _. tt; exact = λ x y r h. packed_product P.ops (map P.embed F.modulus) x y r (F.packed_products _ _ _ h) } };
 }
 
 impl<F: ExtensionOverAlgebra<P, D, S>, const D: usize, S: ExtensionShape, P: Algebra<F>> RingSums
     for PackedExtField<F, D, S, P> {
-    ghost sums = { record { called = λ _. tt; answer = λ _ _ h. h; whole = λ _. tt } };
+    ghost sums = { record { callable = λ _. tt; exact = λ _ _ h. h; whole = λ _. tt } };
 
-    ghost products = { record { called = λ _. tt; answer = λ _ _ h. h; whole = λ _. tt } };
+    ghost products = { record { callable = λ _. tt; exact = λ _ _ h. h; whole = λ _. tt } };
 }

@@ -18,7 +18,7 @@ pub trait ScalarSums<F: PrimeCharacteristicRing>: Algebra<F> + Sum<F> + Product<
 
 /// A ring is an algebra over itself, and its sums are its own.
 impl<F: RingSums> ScalarSums<F> for F {
-    ghost scalar_sums = { record { called = F.sums.called; answer = F.sums.answer; whole = F.sums.whole } };
+    ghost scalar_sums = { record { callable = F.sums.callable; exact = F.sums.exact; whole = F.sums.whole } };
 
-    ghost scalar_products = { record { called = F.products.called; answer = F.products.answer; whole = F.products.whole } };
+    ghost scalar_products = { record { callable = F.products.callable; exact = F.products.exact; whole = F.products.whole } };
 }

@@ -290,24 +290,24 @@ impl<
 
     ghost characteristic = { row_characteristic rows P.ops P.PrimeSubfield.order P.characteristic };
 
-    ghost adds = { record { called = λ _ _. tt; answer = written_sum rows P.ops } };
+    ghost adds = { record { callable = λ _ _. tt; exact = written_sum rows P.ops } };
 
-    ghost add_assigns = { record { called = λ _ _. tt; answer = written_sum rows P.ops } };
+    ghost add_assigns = { record { callable = λ _ _. tt; exact = written_sum rows P.ops } };
 
-    ghost subs = { record { called = λ _ _. tt; answer = written_difference rows P.ops } };
+    ghost subs = { record { callable = λ _ _. tt; exact = written_difference rows P.ops } };
 
-    ghost sub_assigns = { record { called = λ _ _. tt; answer = written_difference rows P.ops } };
+    ghost sub_assigns = { record { callable = λ _ _. tt; exact = written_difference rows P.ops } };
 
-    ghost negs = { record { called = λ _. tt; answer = written_negation rows P.ops } };
+    ghost negs = { record { callable = λ _. tt; exact = written_negation rows P.ops } };
 
-    ghost muls = { record { called = λ _ _. tt; answer = written_product rows P.ops } };
+    ghost muls = { record { callable = λ _ _. tt; exact = written_product rows P.ops } };
 
-    ghost mul_assigns = { record { called = λ _ _. tt; answer = written_product rows P.ops } };
+    ghost mul_assigns = { record { callable = λ _ _. tt; exact = written_product rows P.ops } };
 }
 
 impl<S: Copy, T: Copy, P: PrimeCharacteristicRing + Inhabited, const N: usize> RingSums
     for PackingVector<S, T, P, N> {
-    ghost sums = { record { called = λ _. tt; answer = λ _ _ h. h; whole = λ _. tt } };
+    ghost sums = { record { callable = λ _. tt; exact = λ _ _ h. h; whole = λ _. tt } };
 
-    ghost products = { record { called = λ _. tt; answer = λ _ _ h. h; whole = λ _. tt } };
+    ghost products = { record { callable = λ _. tt; exact = λ _ _ h. h; whole = λ _. tt } };
 }

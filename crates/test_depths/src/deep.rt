@@ -226,19 +226,19 @@ impl<'a, P: Place> PrimeCharacteristicRing for Deep<'a, P> {
 
     ghost characteristic = { pair-order P.Place };
 
-    ghost adds = { record { called = λ _ _. tt; answer = λ a b r h. h } };
+    ghost adds = { record { callable = λ _ _. tt; exact = λ a b r h. h } };
 
-    ghost add_assigns = { record { called = λ _ _. tt; answer = λ a b r h. h } };
+    ghost add_assigns = { record { callable = λ _ _. tt; exact = λ a b r h. h } };
 
-    ghost subs = { record { called = λ _ _. tt; answer = λ a b r h. h } };
+    ghost subs = { record { callable = λ _ _. tt; exact = λ a b r h. h } };
 
-    ghost sub_assigns = { record { called = λ _ _. tt; answer = λ a b r h. h } };
+    ghost sub_assigns = { record { callable = λ _ _. tt; exact = λ a b r h. h } };
 
-    ghost negs = { record { called = λ _. tt; answer = λ a r h. h } };
+    ghost negs = { record { callable = λ _. tt; exact = λ a r h. h } };
 
-    ghost muls = { record { called = λ _ _. tt; answer = λ a b r h. h } };
+    ghost muls = { record { callable = λ _ _. tt; exact = λ a b r h. h } };
 
-    ghost mul_assigns = { record { called = λ _ _. tt; answer = λ a b r h. h } };
+    ghost mul_assigns = { record { callable = λ _ _. tt; exact = λ a b r h. h } };
 }
 
 impl<'a, P: Place> Default for Deep<'a, P> {

@@ -1,5 +1,5 @@
 ghost use Rattle.std.specs.Prelude.{◌≡◌, ◌<◌, ℕ, get_or};
-ghost use Rattle.p3_ext.specs.Scalars.{ChangesFirst};
+ghost use Rattle.p3_ext.specs.Scalars.{OnFirstCoefficient};
 
 use super::ext_field::ExtField;
 use super::{ExtensionAlgebra, ExtensionShape};
@@ -35,7 +35,7 @@ impl<F: Copy, const D: usize, S: Copy, A: Copy + Add<Output = A>> Add<A> for Ext
 
     ghost can_add = { λ x c. (0 < D) × ((d : A) → A.can_add (get_or x.value 0 d) c) };
 
-    ghost add_gives = { λ x c r. ChangesFirst D A.add_gives x.value c r.value };
+    ghost add_gives = { λ x c r. OnFirstCoefficient D A.add_gives x.value c r.value };
 
     #[inline]
     fn add(self, rhs: A) -> Self {
@@ -50,7 +50,7 @@ impl<F: Copy, const D: usize, S: Copy, A: Copy + Sub<Output = A>> Sub<A> for Ext
 
     ghost can_sub = { λ x c. (0 < D) × ((d : A) → A.can_sub (get_or x.value 0 d) c) };
 
-    ghost sub_gives = { λ x c r. ChangesFirst D A.sub_gives x.value c r.value };
+    ghost sub_gives = { λ x c r. OnFirstCoefficient D A.sub_gives x.value c r.value };
 
     #[inline]
     fn sub(self, rhs: A) -> Self {
@@ -81,7 +81,7 @@ impl<F: Copy, const D: usize, S: Copy, A: Copy + Add<Output = A>> AddAssign<A>
     for ExtField<F, D, S, A> {
     ghost can_add_assign = { λ x c. (0 < D) × ((d : A) → A.can_add (get_or x.value 0 d) c) };
 
-    ghost add_assign_gives = { λ x c r. ChangesFirst D A.add_gives x.value c r.value };
+    ghost add_assign_gives = { λ x c r. OnFirstCoefficient D A.add_gives x.value c r.value };
 
     #[inline]
     fn add_assign(&mut self, rhs: A) {
@@ -93,7 +93,7 @@ impl<F: Copy, const D: usize, S: Copy, A: Copy + Sub<Output = A>> SubAssign<A>
     for ExtField<F, D, S, A> {
     ghost can_sub_assign = { λ x c. (0 < D) × ((d : A) → A.can_sub (get_or x.value 0 d) c) };
 
-    ghost sub_assign_gives = { λ x c r. ChangesFirst D A.sub_gives x.value c r.value };
+    ghost sub_assign_gives = { λ x c r. OnFirstCoefficient D A.sub_gives x.value c r.value };
 
     #[inline]
     fn sub_assign(&mut self, rhs: A) {
@@ -140,15 +140,15 @@ impl<F: ExtensionAlgebra<F, D, S>, const D: usize, S: ExtensionShape> Algebra<F>
 
     ghost froms = { λ f r h. h };
 
-    ghost mixed_adds = { record { called = λ _ _. (some_index F.at_least_two, λ _. F.adds.called _ _); answer = λ x c r h. is_scalar_sum (ring_of F.ring) D F.at_least_two F.modulus F.add_gives F.adds.answer x r c h } };
+    ghost mixed_adds = { record { callable = λ _ _. (some_index F.at_least_two, λ _. F.adds.callable _ _); exact = λ x c r h. is_scalar_sum (ring_of F.ring) D F.at_least_two F.modulus F.add_gives F.adds.exact x r c h } };
 
-    ghost mixed_add_assigns = { record { called = λ _ _. (some_index F.at_least_two, λ _. F.adds.called _ _); answer = λ x c r h. is_scalar_sum (ring_of F.ring) D F.at_least_two F.modulus F.add_gives F.adds.answer x r c h } };
+    ghost mixed_add_assigns = { record { callable = λ _ _. (some_index F.at_least_two, λ _. F.adds.callable _ _); exact = λ x c r h. is_scalar_sum (ring_of F.ring) D F.at_least_two F.modulus F.add_gives F.adds.exact x r c h } };
 
-    ghost mixed_subs = { record { called = λ _ _. (some_index F.at_least_two, λ _. F.subs.called _ _); answer = λ x c r h. is_scalar_difference (ring_of F.ring) D F.at_least_two F.modulus F.sub_gives F.subs.answer x r c h } };
+    ghost mixed_subs = { record { callable = λ _ _. (some_index F.at_least_two, λ _. F.subs.callable _ _); exact = λ x c r h. is_scalar_difference (ring_of F.ring) D F.at_least_two F.modulus F.sub_gives F.subs.exact x r c h } };
 
-    ghost mixed_sub_assigns = { record { called = λ _ _. (some_index F.at_least_two, λ _. F.subs.called _ _); answer = λ x c r h. is_scalar_difference (ring_of F.ring) D F.at_least_two F.modulus F.sub_gives F.subs.answer x r c h } };
+    ghost mixed_sub_assigns = { record { callable = λ _ _. (some_index F.at_least_two, λ _. F.subs.callable _ _); exact = λ x c r h. is_scalar_difference (ring_of F.ring) D F.at_least_two F.modulus F.sub_gives F.subs.exact x r c h } };
 
-    ghost mixed_muls = { record { called = λ _ _ _ _ _. F.muls.called _ _; answer = λ x c r h. is_scalar_product (ring_of F.ring) D F.at_least_two F.modulus F.mul_gives F.monic F.muls.answer x r c h } };
+    ghost mixed_muls = { record { callable = λ _ _ _ _ _. F.muls.callable _ _; exact = λ x c r h. is_scalar_product (ring_of F.ring) D F.at_least_two F.modulus F.mul_gives F.monic F.muls.exact x r c h } };
 
-    ghost mixed_mul_assigns = { record { called = λ _ _ _ _ _. F.muls.called _ _; answer = λ x c r h. is_scalar_product (ring_of F.ring) D F.at_least_two F.modulus F.mul_gives F.monic F.muls.answer x r c h } };
+    ghost mixed_mul_assigns = { record { callable = λ _ _ _ _ _. F.muls.callable _ _; exact = λ x c r h. is_scalar_product (ring_of F.ring) D F.at_least_two F.modulus F.mul_gives F.monic F.muls.exact x r c h } };
 }

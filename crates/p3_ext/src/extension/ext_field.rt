@@ -288,24 +288,24 @@ impl<
 
     ghost characteristic = { characteristic_of (ring_of A.ring) D A.at_least_two A.modulus A.monic A.PrimeSubfield.order A.characteristic };
 
-    ghost adds = { record { called = λ _ _ _ _ _. A.adds.called _ _; answer = λ x y r h. is_sum A.ops A.modulus A.add_gives A.adds.answer x y r h } };
+    ghost adds = { record { callable = λ _ _ _ _ _. A.adds.callable _ _; exact = λ x y r h. is_sum A.ops A.modulus A.add_gives A.adds.exact x y r h } };
 
-    ghost add_assigns = { record { called = λ _ _ _ _ _. A.adds.called _ _; answer = λ x y r h. is_sum A.ops A.modulus A.add_gives A.adds.answer x y r h } };
+    ghost add_assigns = { record { callable = λ _ _ _ _ _. A.adds.callable _ _; exact = λ x y r h. is_sum A.ops A.modulus A.add_gives A.adds.exact x y r h } };
 
-    ghost subs = { record { called = λ _ _ _ _ _. A.subs.called _ _; answer = λ x y r h. is_difference A.ops A.modulus A.sub_gives A.subs.answer x y r h } };
+    ghost subs = { record { callable = λ _ _ _ _ _. A.subs.callable _ _; exact = λ x y r h. is_difference A.ops A.modulus A.sub_gives A.subs.exact x y r h } };
 
-    ghost sub_assigns = { record { called = λ _ _ _ _ _. A.subs.called _ _; answer = λ x y r h. is_difference A.ops A.modulus A.sub_gives A.subs.answer x y r h } };
+    ghost sub_assigns = { record { callable = λ _ _ _ _ _. A.subs.callable _ _; exact = λ x y r h. is_difference A.ops A.modulus A.sub_gives A.subs.exact x y r h } };
 
-    ghost negs = { record { called = λ _ _ _ _. A.negs.called _; answer = λ x r h. is_negation A.ops A.modulus A.neg_gives A.negs.answer x r h } };
+    ghost negs = { record { callable = λ _ _ _ _. A.negs.callable _; exact = λ x r h. is_negation A.ops A.modulus A.neg_gives A.negs.exact x r h } };
 
-    ghost muls = { record { called = λ _ _. tt; answer = λ x y r h. same_value r ((ext_ops A.ops A.modulus).mul x y) (A.ext_products _ _ _ h) } };
+    ghost muls = { record { callable = λ _ _. tt; exact = λ x y r h. same_value r ((ext_ops A.ops A.modulus).mul x y) (A.ext_products _ _ _ h) } };
 
-    ghost mul_assigns = { record { called = λ _ _. tt; answer = λ x y r h. same_value r ((ext_ops A.ops A.modulus).mul x y) (A.ext_products _ _ _ h) } };
+    ghost mul_assigns = { record { callable = λ _ _. tt; exact = λ x y r h. same_value r ((ext_ops A.ops A.modulus).mul x y) (A.ext_products _ _ _ h) } };
 }
 
 impl<F: Copy, const D: usize, S: ExtensionShape, A: ExtensionAlgebra<F, D, S>> RingSums
     for ExtField<F, D, S, A> {
-    ghost sums = { record { called = λ _. tt; answer = λ _ _ h. h; whole = λ _. tt } };
+    ghost sums = { record { callable = λ _. tt; exact = λ _ _ h. h; whole = λ _. tt } };
 
-    ghost products = { record { called = λ _. tt; answer = λ _ _ h. h; whole = λ _. tt } };
+    ghost products = { record { callable = λ _. tt; exact = λ _ _ h. h; whole = λ _. tt } };
 }

@@ -53,26 +53,26 @@ module _ {A : Type 0} (o : Ops A) (P : A → Type 0) where
   -- by the operators + - * and the negation
   abbrev pub sum_read : {can : A → A → Type 0} {gives : A → A → A → Type 0} → Gives can gives o.add → {x y r : A} → gives x y r
       → Reads o P x → Reads o P y → Reads o P r
-  sum_read k {x} {y} {r} h a b = reads_by (k.answer x y r h) (reads_add a b)
+  sum_read k {x} {y} {r} h a b = reads_by (k.exact x y r h) (reads_add a b)
 
   -- a call that answers a difference, read as an expression
   abbrev pub difference_read : {can : A → A → Type 0} {gives : A → A → A → Type 0} → Gives can gives (subtract o) → {x y r : A} → gives x y r
       → Reads o P x → Reads o P y → Reads o P r
-  difference_read k {x} {y} {r} h a b = reads_by (k.answer x y r h) (reads_add a (reads_neg b))
+  difference_read k {x} {y} {r} h a b = reads_by (k.exact x y r h) (reads_add a (reads_neg b))
 
   -- a call that answers a product, read as an expression
   abbrev pub product_read : {can : A → A → Type 0} {gives : A → A → A → Type 0} → Gives can gives o.mul → {x y r : A} → gives x y r
       → Reads o P x → Reads o P y → Reads o P r
-  product_read k {x} {y} {r} h a b = reads_by (k.answer x y r h) (reads_mul a b)
+  product_read k {x} {y} {r} h a b = reads_by (k.exact x y r h) (reads_mul a b)
 
   -- a call that answers a negation, read as an expression
   abbrev pub negation_read : {can : A → Type 0} {gives : A → A → Type 0} → GivesOne can gives o.neg → {x r : A} → gives x r → Reads o P x → Reads o P r
-  negation_read k {x} {r} h a = reads_by (k.answer x r h) (reads_neg a)
+  negation_read k {x} {r} h a = reads_by (k.exact x r h) (reads_neg a)
 
   -- by the product with an element of the base
   abbrev pub scaled_read : {F : Type 0} {can : A → F → Type 0} {gives : A → F → A → Type 0} {e : F → A} → Gives can gives (λ x f. o.mul x (e f)) → {x : A} {f : F} {r : A}
       → gives x f r → Reads o P x → Reads o P (e f) → Reads o P r
-  scaled_read k {x} {f} {r} h a b = reads_by (k.answer x f r h) (reads_mul a b)
+  scaled_read k {x} {f} {r} h a b = reads_by (k.exact x f r h) (reads_mul a b)
 
   -- by a clause that is an equation
   abbrev pub answer_read : {r t : A} → r ≡ t → Reads o P t → Reads o P r

@@ -165,15 +165,15 @@ impl<S: PrimeCharacteristicRing, T: Copy, P: Inhabited + Algebra<S>, const N: us
 
     ghost froms = { λ f r h. written_embedding rows P.ops r _ _ h.2 (P.froms _ _ h.1) };
 
-    ghost mixed_adds = { record { called = λ x f d k h. P.mixed_adds.called _ _; answer = λ x f r h. written_mixed_sum rows P.ops x (P.embed f) r (λ d k b. P.mixed_adds.answer _ _ _ (h d k b)) } };
+    ghost mixed_adds = { record { callable = λ x f d k h. P.mixed_adds.callable _ _; exact = λ x f r h. written_mixed_sum rows P.ops x (P.embed f) r (λ d k b. P.mixed_adds.exact _ _ _ (h d k b)) } };
 
-    ghost mixed_add_assigns = { record { called = λ x f d k h. P.mixed_adds.called _ _; answer = λ x f r h. written_mixed_sum rows P.ops x (P.embed f) r (λ d k b. P.mixed_adds.answer _ _ _ (h d k b)) } };
+    ghost mixed_add_assigns = { record { callable = λ x f d k h. P.mixed_adds.callable _ _; exact = λ x f r h. written_mixed_sum rows P.ops x (P.embed f) r (λ d k b. P.mixed_adds.exact _ _ _ (h d k b)) } };
 
-    ghost mixed_subs = { record { called = λ x f d k h. P.mixed_subs.called _ _; answer = λ x f r h. written_mixed_difference rows P.ops x (P.embed f) r (λ d k b. P.mixed_subs.answer _ _ _ (h d k b)) } };
+    ghost mixed_subs = { record { callable = λ x f d k h. P.mixed_subs.callable _ _; exact = λ x f r h. written_mixed_difference rows P.ops x (P.embed f) r (λ d k b. P.mixed_subs.exact _ _ _ (h d k b)) } };
 
-    ghost mixed_sub_assigns = { record { called = λ x f d k h. P.mixed_subs.called _ _; answer = λ x f r h. written_mixed_difference rows P.ops x (P.embed f) r (λ d k b. P.mixed_subs.answer _ _ _ (h d k b)) } };
+    ghost mixed_sub_assigns = { record { callable = λ x f d k h. P.mixed_subs.callable _ _; exact = λ x f r h. written_mixed_difference rows P.ops x (P.embed f) r (λ d k b. P.mixed_subs.exact _ _ _ (h d k b)) } };
 
-    ghost mixed_muls = { record { called = λ x f d k h. P.mixed_muls.called _ _; answer = λ x f r h. written_mixed_product rows P.ops x (P.embed f) r (λ d k b. P.mixed_muls.answer _ _ _ (h d k b)) } };
+    ghost mixed_muls = { record { callable = λ x f d k h. P.mixed_muls.callable _ _; exact = λ x f r h. written_mixed_product rows P.ops x (P.embed f) r (λ d k b. P.mixed_muls.exact _ _ _ (h d k b)) } };
 
-    ghost mixed_mul_assigns = { record { called = λ x f d k h. P.mixed_muls.called _ _; answer = λ x f r h. written_mixed_product rows P.ops x (P.embed f) r (λ d k b. P.mixed_muls.answer _ _ _ (h d k b)) } };
+    ghost mixed_mul_assigns = { record { callable = λ x f d k h. P.mixed_muls.callable _ _; exact = λ x f r h. written_mixed_product rows P.ops x (P.embed f) r (λ d k b. P.mixed_muls.exact _ _ _ (h d k b)) } };
 }

@@ -188,15 +188,15 @@ impl<
 
     ghost froms = { λ x r h. written_map rows rows P.ops PE.ops PE.embed x r (λ d e k b. PE.froms _ _ (h d e k b)) };
 
-    ghost mixed_adds = { record { called = λ x y d e k h. PE.mixed_adds.called _ _; answer = λ x y r h. written_row_sum rows rows P.ops PE.ops PE.embed _ PE.mixed_adds.answer x y r h } };
+    ghost mixed_adds = { record { callable = λ x y d e k h. PE.mixed_adds.callable _ _; exact = λ x y r h. written_row_sum rows rows P.ops PE.ops PE.embed _ PE.mixed_adds.exact x y r h } };
 
-    ghost mixed_add_assigns = { record { called = λ x y d e k h. PE.mixed_adds.called _ _; answer = λ x y r h. written_row_sum rows rows P.ops PE.ops PE.embed _ PE.mixed_adds.answer x y r h } };
+    ghost mixed_add_assigns = { record { callable = λ x y d e k h. PE.mixed_adds.callable _ _; exact = λ x y r h. written_row_sum rows rows P.ops PE.ops PE.embed _ PE.mixed_adds.exact x y r h } };
 
-    ghost mixed_subs = { record { called = λ x y d e k h. PE.mixed_subs.called _ _; answer = λ x y r h. written_row_difference rows rows P.ops PE.ops PE.embed _ PE.mixed_subs.answer x y r h } };
+    ghost mixed_subs = { record { callable = λ x y d e k h. PE.mixed_subs.callable _ _; exact = λ x y r h. written_row_difference rows rows P.ops PE.ops PE.embed _ PE.mixed_subs.exact x y r h } };
 
-    ghost mixed_sub_assigns = { record { called = λ x y d e k h. PE.mixed_subs.called _ _; answer = λ x y r h. written_row_difference rows rows P.ops PE.ops PE.embed _ PE.mixed_subs.answer x y r h } };
+    ghost mixed_sub_assigns = { record { callable = λ x y d e k h. PE.mixed_subs.callable _ _; exact = λ x y r h. written_row_difference rows rows P.ops PE.ops PE.embed _ PE.mixed_subs.exact x y r h } };
 
-    ghost mixed_muls = { record { called = λ x y d e k h. PE.mixed_muls.called _ _; answer = λ x y r h. written_row_product rows rows P.ops PE.ops PE.embed _ PE.mixed_muls.answer x y r h } };
+    ghost mixed_muls = { record { callable = λ x y d e k h. PE.mixed_muls.callable _ _; exact = λ x y r h. written_row_product rows rows P.ops PE.ops PE.embed _ PE.mixed_muls.exact x y r h } };
 
-    ghost mixed_mul_assigns = { record { called = λ x y d e k h. PE.mixed_muls.called _ _; answer = λ x y r h. written_row_product rows rows P.ops PE.ops PE.embed _ PE.mixed_muls.answer x y r h } };
+    ghost mixed_mul_assigns = { record { callable = λ x y d e k h. PE.mixed_muls.callable _ _; exact = λ x y r h. written_row_product rows rows P.ops PE.ops PE.embed _ PE.mixed_muls.exact x y r h } };
 }

@@ -26,5 +26,5 @@ loop-i-preserved g c =
           at c.loop-i.invariant.lengths d (sym (get_or-map (λ s. s.point) shares i share d inside))
           (c.difference_product-before.ensures ∙ ap (differences o x) (sym (take-map (λ s. s.point) i shares)))
           (c.difference_product-after.ensures ∙ ap (λ l. differences o x (points l)) rest ∙ ap (differences o x) (sym (drop-map (λ s. s.point) (i + 1) shares)))
-          (m.muls.answer _ _ _ c.mul.ensures) c.in_ok-push.ensures.items (c.loop-i.invariant.multiplied d);
+          (m.muls.exact _ _ _ c.mul.ensures) c.in_ok-push.ensures.items (c.loop-i.invariant.multiplied d);
     }

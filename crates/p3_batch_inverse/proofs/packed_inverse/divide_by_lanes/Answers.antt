@@ -11,7 +11,7 @@ returns g c =
     let z = c.invert_packed_extension-inverse.result in
     let at_y = c.invert_packed_extension-inverse.ensures.inverse in
     let whole : o.mul c.mul.result y ≡ x =
-    ap (λ w. o.mul w y) (m.muls.answer _ _ _ c.mul.ensures) ∙ m.ring.mul_assoc x z y ∙ ap (o.mul x) (m.ring.mul_comm z y ∙ at_y) ∙ m.ring.mul_one x in
+    ap (λ w. o.mul w y) (m.muls.exact _ _ _ c.mul.ensures) ∙ m.ring.mul_assoc x z y ∙ ap (o.mul x) (m.ring.mul_comm z y ∙ at_y) ∙ m.ring.mul_one x in
     record {
       lanes = λ k h. sym ((g.met.PE.PackedExtensionRing.ext_keeps k h).mul c.mul.result y) ∙ ap (lane g.EF.PrimeCharacteristicRing.ops g.PE.ExtensionLanes.ext_lanes k) whole;
       quotient = whole;

@@ -20,7 +20,7 @@ loop-lane-preserved g c =
     let inside : i < length xs = omega (arith, g.met.PE.ExtensionLanes.ext_lengths c.args.packed, c.LANES-lane-end.ensures, c.loop-lane-test.true) in
     let room : i < length (lanes c.loop-lane.result) = omega (arith, g.met.PE.ExtensionLanes.ext_lengths c.loop-lane.result, c.LANES-lane-end.ensures, c.loop-lane-test.true) in
     let read = sym (get_or_from_slice_get xs i c.extract.result c.extract.result c.extract.ensures) in (
-      m.mul_assigns.answer _ _ _ c.mul_assign.ensures.after ∙ ap (λ p. g.EF.PrimeCharacteristicRing.ops.mul p c.extract.result) c.loop-lane.invariant.0 ∙ sym (prefix-more m.ring xs i c.extract.result inside read),
+      m.mul_assigns.exact _ _ _ c.mul_assign.ensures.after ∙ ap (λ p. g.EF.PrimeCharacteristicRing.ops.mul p c.extract.result) c.loop-lane.invariant.0 ∙ sym (prefix-more m.ring xs i c.extract.result inside read),
       prefixes-kept m.ring xs (lanes c.loop-lane.result) _ i c.loop-lane.product room c.loop-lane.invariant.1 c.loop-lane.invariant.0 c.set_ext_lane.ensures,
     )
 
@@ -51,8 +51,8 @@ loop-lane-2-preserved g c =
     let kept = g.met.PE.ExtensionLanes.ext_lengths c.loop-lane-2.result in
     inverses-more m.ring xs (lanes c.loop-lane-2.result) _ c.inverse-answer.result c.loop-lane-2.answer c.mul_assign-in-loop-lane-2.new.self i j c.extract-in-loop-lane-2.result c.extract-before.result c.mul.result
     (omega (arith, c.loop-lane-2-test.true)) (omega (arith, c.loop-lane-2-test.true, c.loop-lane-2.auto, c.LANES-lane.ensures, whole)) (kept ∙ sym whole) c.loop-lane-2.invariant
-    (sym (get_or_from_slice_get (lanes c.loop-lane-2.result) j c.extract-before.result c.extract-before.result c.extract-before.ensures)) (m.muls.answer _ _ _ c.mul.ensures) c.set_ext_lane-in-loop-lane-2.ensures
-    (sym (get_or_from_slice_get xs j c.extract-in-loop-lane-2.result c.extract-in-loop-lane-2.result c.extract-in-loop-lane-2.ensures)) (m.mul_assigns.answer _ _ _ c.mul_assign-in-loop-lane-2.ensures.after)
+    (sym (get_or_from_slice_get (lanes c.loop-lane-2.result) j c.extract-before.result c.extract-before.result c.extract-before.ensures)) (m.muls.exact _ _ _ c.mul.ensures) c.set_ext_lane-in-loop-lane-2.ensures
+    (sym (get_or_from_slice_get xs j c.extract-in-loop-lane-2.result c.extract-in-loop-lane-2.result c.extract-in-loop-lane-2.ensures)) (m.mul_assigns.exact _ _ _ c.mul_assign-in-loop-lane-2.ensures.after)
 
 pub returns-clause-lanes : goal.returns-clause-lanes
 returns-clause-lanes g c k below =

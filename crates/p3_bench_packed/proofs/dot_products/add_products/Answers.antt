@@ -15,8 +15,8 @@ loop-i-preserved g c =
     let p = c.mul_lanes-product.result in
     let whole = rows.add c.args.sum (dot rows (drop c.args.start c.args.u.now) (drop c.args.start c.args.v.now)) in
     dot-step (row_laws packed_rows o m.ring) c.args.u.now c.args.v.now c.loop-i.i x y s c.add_lanes-sum.result whole c.loop-i-test.true (omega arith) c.index-u-i.is c.index-v-i.is
-    (written_sum packed_rows o s p c.add_lanes-sum.result (λ d k w. m.adds.answer _ _ _ (c.add_lanes-sum.ensures d k w))
-    ∙ ap (rows.add s) (written_product packed_rows o x y p (λ d k w. m.muls.answer _ _ _ (c.mul_lanes-product.ensures d k w)))) c.loop-i.invariant
+    (written_sum packed_rows o s p c.add_lanes-sum.result (λ d k w. m.adds.exact _ _ _ (c.add_lanes-sum.ensures d k w))
+    ∙ ap (rows.add s) (written_product packed_rows o x y p (λ d k w. m.muls.exact _ _ _ (c.mul_lanes-product.ensures d k w)))) c.loop-i.invariant
 
 pub returns : goal.returns
 returns g c =

@@ -25,7 +25,7 @@ loop-start-preserved g c =
     let block = c.dot_of_few-block.result in (
       omega arith,
       dot-block (row_laws packed_rows o m.ring) c.args.u.now c.args.v.now c.requires c.loop-start.start 4 s block c.add_lanes-sum.result _ c.dot_of_few-block.ensures
-          (written_sum packed_rows o s block c.add_lanes-sum.result (λ d k w. m.adds.answer _ _ _ (c.add_lanes-sum.ensures d k w))) c.loop-start.invariant.1,
+          (written_sum packed_rows o s block c.add_lanes-sum.result (λ d k w. m.adds.exact _ _ _ (c.add_lanes-sum.ensures d k w))) c.loop-start.invariant.1,
     )
 
 pub returns : goal.returns

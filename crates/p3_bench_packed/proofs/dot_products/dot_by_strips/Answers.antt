@@ -26,7 +26,7 @@ loop-start-preserved g c =
     let strip = c.dot_of_strip-strip.result in (
       omega arith,
       dot-block (row_laws packed_rows o m.ring) c.args.u.now c.args.v.now c.requires c.loop-start.start 65536 s strip c.add_lanes-sum.result _ c.dot_of_strip-strip.ensures
-          (written_sum packed_rows o s strip c.add_lanes-sum.result (λ d k w. m.adds.answer _ _ _ (c.add_lanes-sum.ensures d k w))) c.loop-start.invariant.1,
+          (written_sum packed_rows o s strip c.add_lanes-sum.result (λ d k w. m.adds.exact _ _ _ (c.add_lanes-sum.ensures d k w))) c.loop-start.invariant.1,
     )
 
 pub returns : goal.returns
@@ -37,4 +37,4 @@ returns g c =
     let s = c.loop-start.sum in
     let last = c.dot_of_strip-last.result in
     let rest = c.dot_of_strip-last.ensures ∙ ap₂ (dot rows) (take_rest c.args.u.now c.loop-start.start) (take_rest c.args.v.now c.loop-start.start) in
-    written_sum packed_rows o s last c.add_lanes.result (λ d k w. m.adds.answer _ _ _ (c.add_lanes.ensures d k w)) ∙ ap (rows.add s) rest ∙ c.loop-start.invariant.1
+    written_sum packed_rows o s last c.add_lanes.result (λ d k w. m.adds.exact _ _ _ (c.add_lanes.ensures d k w)) ∙ ap (rows.add s) rest ∙ c.loop-start.invariant.1

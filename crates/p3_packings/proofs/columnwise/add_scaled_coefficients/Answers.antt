@@ -19,7 +19,7 @@ loop-i-preserved g c =
       whole = length-set c.loop-i.sums c.loop-i.i c.add-sum.result ∙ kept.whole;
       updated = product-added m.ring c.args.d c.args.acc c.loop-i.sums c.args.coeffs.now c.args.scale c.loop-i.i c.index-coeffs-i.result c.index-sums-i.result
           c.mul-product.result c.add-sum.result in_list inside kept.updated c.index-coeffs-i.is c.index-sums-i.is
-          (m.muls.answer _ _ _ c.mul-product.ensures) (m.adds.answer _ _ _ c.add-sum.ensures ∙ ap (λ z. g.P.PrimeCharacteristicRing.ops.add z c.mul-product.result) (sym c.index-sums-i.is));
+          (m.muls.exact _ _ _ c.mul-product.ensures) (m.adds.exact _ _ _ c.add-sum.ensures ∙ ap (λ z. g.P.PrimeCharacteristicRing.ops.add z c.mul-product.result) (sym c.index-sums-i.is));
     }
 
 pub returns : goal.returns

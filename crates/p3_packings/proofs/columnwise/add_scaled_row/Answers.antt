@@ -23,8 +23,8 @@ loop-j-preserved g c =
       updated = column-update m.ring g.PE.Algebra.embed g.row.N c.args.acc.now c.loop-j.acc c.args.scales c.args.row.now c.loop-c.c c.loop-j.j c.loop-j.index
           c.index-scales-j.result c.index-row-c.result c.index-acc-index.result c.mul-product.result c.add_assign.new.self c.loop-j.invariant.at_index in_row c.loop-j-test.true
           (search rules) (omega arith) c.loop-j.invariant.updated c.index-scales-j.is c.index-row-c.is c.index-acc-index.is
-          (g.met.PE.Algebra.mixed_muls.answer _ _ _ c.mul-product.ensures ∙ ap (λ z. o.mul z (g.PE.Algebra.embed c.index-row-c.result)) (sym c.index-scales-j.is))
-          (m.add_assigns.answer _ _ _ c.add_assign.ensures.after ∙ ap (λ z. o.add z c.mul-product.result) (sym c.index-acc-index.is));
+          (g.met.PE.Algebra.mixed_muls.exact _ _ _ c.mul-product.ensures ∙ ap (λ z. o.mul z (g.PE.Algebra.embed c.index-row-c.result)) (sym c.index-scales-j.is))
+          (m.add_assigns.exact _ _ _ c.add_assign.ensures.after ∙ ap (λ z. o.add z c.mul-product.result) (sym c.index-acc-index.is));
     }
 
 pub returns : goal.returns

@@ -21,7 +21,7 @@ loop-lane-preserved g c =
     let before = g.P.ExtensionLanes.ext_lanes c.loop-lane.current in
     let inside : i < length before = omega (arith, g.met.P.ExtensionLanes.ext_lengths c.loop-lane.current, c.LANES-lane-end.ensures, c.loop-lane-test.true) in
     record {
-      term_is = next_term m.ring c.args.base o.one c.loop-lane.power c.mul_assign.new.self i held.term_is (m.mul_assigns.answer _ _ _ c.mul_assign.ensures.after);
+      term_is = next_term m.ring c.args.base o.one c.loop-lane.power c.mul_assign.new.self i held.term_is (m.mul_assigns.exact _ _ _ c.mul_assign.ensures.after);
       held = subst (λ xs. HoldsBelow term o.zero xs (i + 1)) (sym c.set_ext_lane.ensures) (holds-more term o.zero before i c.loop-lane.power inside held.held held.term_is);
     }
 

@@ -26,7 +26,7 @@ loop-k-preserved g c =
     let more =
     entry_more (ring_of m.ring) (product_coefficient o g.row.D w c.args.a.now c.args.b.now) c.args.res.now c.loop-k.res k g.row.D c.add-sum.result
     v.0 c.loop-k-test.true v.1 v.2
-    (m.adds.answer _ _ _ c.add-sum.ensures
+    (m.adds.exact _ _ _ c.add-sum.ensures
     ∙ ap₂ o.add (c.index-res-k.is ∙ get_or_default c.loop-k.res k c.index-res-k.result o.zero (omega (arith, v.0, c.loop-k-test.true)) ∙ v.2 k (omega arith)) coefficient) in
     (more.0, more.1, more.2, row)
 

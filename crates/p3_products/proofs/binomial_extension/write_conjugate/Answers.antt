@@ -17,7 +17,7 @@ loop-i-preserved g c =
     let negated : List g.row.F.Denot = quotient_neg o (length even) odd in
     in_turn-more even negated o.zero c.loop-i.res i c.index-even-i.result c.neg-negated.result (sym (length-tabulate (length even) (λ k. o.neg (get_or odd k o.zero))))
     c.loop-i-test.true (omega arith) c.loop-i.invariant (sym (read_at even i c.index-even-i.result o.zero (omega arith) c.index-even-i.is))
-    (g.met.F.PrimeCharacteristicRing.negs.answer _ _ c.neg-negated.ensures
+    (g.met.F.PrimeCharacteristicRing.negs.exact _ _ c.neg-negated.ensures
     ∙ ap o.neg (sym (read_at odd i c.index-odd-i.result o.zero (omega arith) c.index-odd-i.is))
     ∙ sym (get-tabulate (length even) (λ k. o.neg (get_or odd k o.zero)) i o.zero c.loop-i-test.true))
 

@@ -13,7 +13,7 @@ loop-i-preserved g c =
     let read = c.index-b-res.is ∙ get_or_default b _ c.index-b-res.result o.zero (omega (arith, v.0, c.loop-i-test.true)) ∙ ap (λ j. get_or b j o.zero) index ∙ sym (get_or-reverse b i o.zero (omega arith)) in (
       length-set c.loop-i.res i c.mul-product.result ∙ v.0,
       holds-more (λ k. o.mul (get_or (reverse b) k o.zero) (g.A.Algebra.embed c.args.w)) o.zero c.loop-i.res i c.mul-product.result (omega arith) v.1
-          (g.met.A.Algebra.mixed_muls.answer _ _ _ c.mul-product.ensures ∙ ap (λ z. o.mul z (g.A.Algebra.embed c.args.w)) read),
+          (g.met.A.Algebra.mixed_muls.exact _ _ _ c.mul-product.ensures ∙ ap (λ z. o.mul z (g.A.Algebra.embed c.args.w)) read),
     )
 
 pub returns : goal.returns

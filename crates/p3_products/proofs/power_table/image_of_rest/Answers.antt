@@ -11,7 +11,7 @@ pub loop-i-init : goal.loop-i-init
 loop-i-init g c =
     let o = g.F.PrimeCharacteristicRing.ops in
     let m = g.met.F.PrimeCharacteristicRing in
-    m.muls.answer _ _ _ c.mul-sum.ensures
+    m.muls.exact _ _ _ c.mul-sum.ensures
     ∙ ap₂ o.mul (sym (read_at c.args.a.now 1 c.index-a-1.result o.zero (omega arith) c.index-a-1.is)) c.coefficient.ensures
     ∙ sym (zero-add (ring_of m.ring) _)
 
@@ -20,8 +20,8 @@ loop-i-preserved g c =
     let o = g.F.PrimeCharacteristicRing.ops in
     let m = g.met.F.PrimeCharacteristicRing in
     first_sum-more o c.loop-i.i (λ i. o.mul (get_or c.args.a.now (1 + i) o.zero) (get_or (g.T.PowerTable.powers (1 + i)) c.args.k o.zero))
-    (m.adds.answer _ _ _ c.add-sum.ensures) c.loop-i.invariant
-    (m.muls.answer _ _ _ c.mul-product.ensures
+    (m.adds.exact _ _ _ c.add-sum.ensures) c.loop-i.invariant
+    (m.muls.exact _ _ _ c.mul-product.ensures
     ∙ ap₂ o.mul (sym (read_at c.args.a.now (1 + c.loop-i.i) c.index-a-i.result o.zero (omega arith) c.index-a-i.is)) c.coefficient-in-loop-i.ensures)
 
 pub returns : goal.returns

@@ -13,7 +13,7 @@ loop-i-preserved g c =
     let o = g.R.PrimeCharacteristicRing.ops in
     let i = c.loop-i.i in
     holds-more (λ k. o.mul (get_or c.args.a.now k o.zero) c.args.factor) o.zero c.loop-i.res i c.mul-product.result (omega arith) c.loop-i.invariant
-    (g.met.R.PrimeCharacteristicRing.muls.answer _ _ _ c.mul-product.ensures
+    (g.met.R.PrimeCharacteristicRing.muls.exact _ _ _ c.mul-product.ensures
     ∙ ap (λ z. o.mul z c.args.factor) (sym (read_at c.args.a.now i c.index-a-i.result o.zero (omega arith) c.index-a-i.is)))
 
 pub returns : goal.returns

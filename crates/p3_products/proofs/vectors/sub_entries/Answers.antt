@@ -16,7 +16,7 @@ loop-i-preserved g c =
     let h = g.R.Algebra.embed in
     let i = c.loop-i.i in
     holds-more (λ k. subtract o (get_or c.args.a.now k o.zero) (get_or (map h c.args.b.now) k o.zero)) o.zero c.loop-i.res i c.sub-difference.result (omega arith) c.loop-i.invariant
-    (g.met.R.Algebra.mixed_subs.answer _ _ _ c.sub-difference.ensures
+    (g.met.R.Algebra.mixed_subs.exact _ _ _ c.sub-difference.ensures
     ∙ ap₂ (subtract o) (sym (read_at c.args.a.now i c.index-a-i.result o.zero (omega arith) c.index-a-i.is))
     (sym (mapped_at h c.args.b.now i c.index-b-i.result o.zero (omega arith) c.index-b-i.is)))
 

@@ -16,4 +16,4 @@ returns g c = λ r makes.
     let all : start + n ≡ c.args.end = omega (arith, c.requires.order) in
     let made = subst (λ k. p ≡ dot o (take (k - start) (drop start xs)) (map e (take (k - start) (drop start fs)))) (sym all) c.mixed_dot_product.ensures in
     subst (λ k. MakesWithRest o e xs fs r k c.add.result) all
-    (mixed-chunk m.ring e xs fs c.requires.lengths start n p c.args.sum c.add.result r made (m.adds.answer _ _ _ c.add.ensures) makes)
+    (mixed-chunk m.ring e xs fs c.requires.lengths start n p c.args.sum c.add.result r made (m.adds.exact _ _ _ c.add.ensures) makes)

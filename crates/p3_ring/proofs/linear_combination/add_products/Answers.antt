@@ -9,7 +9,7 @@ pub loop-i-preserved : goal.loop-i-preserved
 loop-i-preserved g c o ring embed adds muls =
     mixed-step ring embed c.args.values.now c.args.coeffs.now c.requires.lengths c.loop-i.i c.index-values-i.result c.index-coeffs-i.result c.loop-i.sum c.add-sum.result _
     c.loop-i-test.true c.index-values-i.is c.index-coeffs-i.is
-    (adds.answer _ _ _ c.add-sum.ensures ∙ ap (o.add c.loop-i.sum) (muls.answer _ _ _ c.mul-product.ensures)) (c.loop-i.invariant o ring embed adds muls)
+    (adds.exact _ _ _ c.add-sum.ensures ∙ ap (o.add c.loop-i.sum) (muls.exact _ _ _ c.mul-product.ensures)) (c.loop-i.invariant o ring embed adds muls)
 
 pub returns : goal.returns
 returns g c o ring embed adds muls =

@@ -18,7 +18,7 @@ loop-start-preserved g c =
       inside = omega arith;
       makes = λ o ring embed adds muls zero.
           mixed-chunk ring embed c.args.values.now c.args.coeffs.now c.requires.lengths c.loop-start.start g.row.CHUNK c.sum_products-chunk.result c.loop-start.sum
-          c.add-sum.result _ (c.sum_products-chunk.ensures o ring embed adds muls zero) (adds.answer _ _ _ c.add-sum.ensures)
+          c.add-sum.result _ (c.sum_products-chunk.ensures o ring embed adds muls zero) (adds.exact _ _ _ c.add-sum.ensures)
           (c.loop-start.invariant.makes o ring embed adds muls zero);
     }
 

@@ -20,14 +20,14 @@ loop-start-preserved g c =
       inside = omega arith;
       makes = λ o ring embed adds muls zero.
           mixed-chunk ring embed c.args.values.now c.args.coeffs.now c.requires.lengths c.loop-start.start 8 c.sum_up_to_eight_products-chunk.result c.loop-start.sum
-          c.add-sum.result _ (c.sum_up_to_eight_products-chunk.ensures o ring embed adds muls zero) (adds.answer _ _ _ c.add-sum.ensures)
+          c.add-sum.result _ (c.sum_up_to_eight_products-chunk.ensures o ring embed adds muls zero) (adds.exact _ _ _ c.add-sum.ensures)
           (c.loop-start.invariant.makes o ring embed adds muls zero);
     }
 
 pub returns-then-start-values : goal.returns-then-start-values
 returns-then-start-values g c o ring embed adds muls zero =
     mixed-rest ring embed c.args.values.now c.args.coeffs.now c.requires.lengths c.loop-start.start c.loop-start.sum c.add.result _
-    (adds.answer _ _ _ c.add.ensures ∙ ap (o.add c.loop-start.sum) (c.sum_up_to_eight_products-rest.ensures o ring embed adds muls zero))
+    (adds.exact _ _ _ c.add.ensures ∙ ap (o.add c.loop-start.sum) (c.sum_up_to_eight_products-rest.ensures o ring embed adds muls zero))
     (c.loop-start.invariant.makes o ring embed adds muls zero)
 
 pub returns-else-start-values : goal.returns-else-start-values

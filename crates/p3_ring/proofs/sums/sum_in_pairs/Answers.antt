@@ -19,13 +19,13 @@ loop-start-preserved g c =
       inside = omega arith;
       makes = λ o ring adds zero.
           sum-step ring c.args.input.now c.loop-start.start 8 c.loop-start.sum c.sum_up_to_eight-chunk.result c.add-sum.result _
-          (c.sum_up_to_eight-chunk.ensures o ring adds zero) (adds.answer _ _ _ c.add-sum.ensures) (c.loop-start.invariant.makes o ring adds zero);
+          (c.sum_up_to_eight-chunk.ensures o ring adds zero) (adds.exact _ _ _ c.add-sum.ensures) (c.loop-start.invariant.makes o ring adds zero);
     }
 
 pub returns-then-start-input : goal.returns-then-start-input
 returns-then-start-input g c o ring adds zero =
     sum_rest ring c.args.input.now c.loop-start.start c.loop-start.sum c.add.result _
-    (adds.answer _ _ _ c.add.ensures ∙ ap (o.add c.loop-start.sum) (c.sum_up_to_eight-rest.ensures o ring adds zero)) (c.loop-start.invariant.makes o ring adds zero)
+    (adds.exact _ _ _ c.add.ensures ∙ ap (o.add c.loop-start.sum) (c.sum_up_to_eight-rest.ensures o ring adds zero)) (c.loop-start.invariant.makes o ring adds zero)
 
 pub returns-else-start-input : goal.returns-else-start-input
 returns-else-start-input g c o ring adds zero =

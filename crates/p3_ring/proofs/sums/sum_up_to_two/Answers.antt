@@ -11,4 +11,4 @@ returns-in-1 g c o ring adds zero = sum_of_one ring c.args.input.now c.index-inp
 pub returns-in_default : goal.returns-in_default
 returns-in_default g c o ring adds zero =
     let both : length c.args.input.now ≡ 2 = omega arith in
-    sum_of_two ring c.args.input.now c.index-input-0-in_default.result c.index-input-1.result c.add.result both c.index-input-0-in_default.is c.index-input-1.is (adds.answer _ _ _ c.add.ensures)
+    sum_of_two ring c.args.input.now c.index-input-0-in_default.result c.index-input-1.result c.add.result both c.index-input-0-in_default.is c.index-input-1.is (adds.exact _ _ _ c.add.ensures)

@@ -20,7 +20,7 @@ returns-in-5 g c =
     let is1 : IsPower o x 1 x = first_power m.ring x in
     let is2 : IsPower o x 2 c.square-in-5.result = product_of_powers m.ring c.square-in-5.ensures is1 is1 in
     let is4 : IsPower o x 4 c.square-in-5-2.result = product_of_powers m.ring c.square-in-5-2.ensures is2 is2 in
-    (product_of_powers m.ring (m.muls.answer _ _ _ c.mul.ensures) is4 is1).is ∙ ap (power o x) (sym c.in-5.is)
+    (product_of_powers m.ring (m.muls.exact _ _ _ c.mul.ensures) is4 is1).is ∙ ap (power o x) (sym c.in-5.is)
 
 pub returns-in-6 : goal.returns-in-6
 returns-in-6 g c =
@@ -38,6 +38,6 @@ returns-in-7 g c =
     let x = c.args.value.now in
     let is1 : IsPower o x 1 x = first_power m.ring x in
     let is2 : IsPower o x 2 c.square-second.result = product_of_powers m.ring c.square-second.ensures is1 is1 in
-    let is3 : IsPower o x 3 c.mul-third.result = product_of_powers m.ring (m.muls.answer _ _ _ c.mul-third.ensures) is2 is1 in
+    let is3 : IsPower o x 3 c.mul-third.result = product_of_powers m.ring (m.muls.exact _ _ _ c.mul-third.ensures) is2 is1 in
     let is4 : IsPower o x 4 c.square-fourth.result = product_of_powers m.ring c.square-fourth.ensures is2 is2 in
-    (product_of_powers m.ring (m.muls.answer _ _ _ c.mul-in-7.ensures) is3 is4).is ∙ ap (power o x) (sym c.in-7.is)
+    (product_of_powers m.ring (m.muls.exact _ _ _ c.mul-in-7.ensures) is3 is4).is ∙ ap (power o x) (sym c.in-7.is)

@@ -18,7 +18,7 @@ loop-i-preserved g c =
       long = search rules;
       added = subst (λ n. take n new ++ zip_with q.add (drop n new) (drop n other) ≡ zip_with q.add c.args.slice_1.now other) (sym step)
           (combined_group q.add new c.loop-i.slice_1 other c.args.slice_1.now (i * w) w c.store_block.ensures.before
-          (c.store_block.ensures.block ∙ ap lanes (g.met.P.PrimeCharacteristicRing.adds.answer _ _ _ c.add-sum.ensures)
+          (c.store_block.ensures.block ∙ ap lanes (g.met.P.PrimeCharacteristicRing.adds.exact _ _ _ c.add-sum.ensures)
           ∙ summed_lanes o q lanes w g.met.P.PackedRing.lengths g.met.P.PackedRing.keeps c.load_block-x.result c.load_block-y.result
           ∙ ap₂ (zip_with q.add) c.load_block-x.ensures c.load_block-y.ensures)
           c.store_block.ensures.after c.loop-i.invariant.added);

@@ -21,9 +21,9 @@ loop-i-preserved g c =
       long = search rules;
       added = subst (λ n. take n new ++ zip_with f (drop n new) (drop n other) ≡ zip_with f c.args.slice.now other) (sym step)
           (combined_group f new c.loop-i.slice other c.args.slice.now a w c.store_block.ensures.before
-          (c.store_block.ensures.block ∙ ap lanes (g.met.P.PrimeCharacteristicRing.adds.answer _ _ _ c.add-sum.ensures)
+          (c.store_block.ensures.block ∙ ap lanes (g.met.P.PrimeCharacteristicRing.adds.exact _ _ _ c.add-sum.ensures)
           ∙ summed_lanes o q lanes w g.met.P.PackedRing.lengths g.met.P.PackedRing.keeps c.load_block-x.result c.mul-term.result
-          ∙ ap₂ (λ l p. zip_with q.add l (lanes p)) c.load_block-x.ensures (g.met.P.PrimeCharacteristicRing.muls.answer _ _ _ c.mul-term.ensures ∙ ap (o.mul y) c.requires.factor)
+          ∙ ap₂ (λ l p. zip_with q.add l (lanes p)) c.load_block-x.ensures (g.met.P.PrimeCharacteristicRing.muls.exact _ _ _ c.mul-term.ensures ∙ ap (o.mul y) c.requires.factor)
           ∙ combined_lanes o q lanes w g.met.P.PackedRing.lengths g.met.P.PackedRing.keeps part y (g.P.Algebra.embed c.args.s) c.args.s (g.met.P.PackedRing.injects c.args.s)
           ∙ ap (zip_with f part) c.load_block-y.ensures)
           c.store_block.ensures.after c.loop-i.invariant.added);

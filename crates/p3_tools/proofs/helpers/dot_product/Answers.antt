@@ -9,7 +9,7 @@ use Rattle.p3_tools.proofs.helpers.dot_product.Goals as goal
 pub returns : goal.returns
 returns g c =
     let m = g.met.S.RingSums in
-    let mixed = g.met.S.Algebra.mixed_muls.answer in
+    let mixed = g.met.S.Algebra.mixed_muls.exact in
     let o = g.S.PrimeCharacteristicRing.ops in
     let embed = g.S.Algebra.embed in
     let summed = c.sum.ensures.runs (m.sums.whole c.sum.result) in
@@ -20,7 +20,7 @@ returns g c =
     let paired = zipped.2.2 in
     let products = mapped.2.3 (λ p. o.mul p.0 (embed p.1)) (λ x r q k. search (rules, mixed)) in
     let value : c.sum.result ≡ dot o left.items (map embed right.items) =
-    m.sums.answer summed.0.items c.sum.result summed.3
+    m.sums.exact summed.0.items c.sum.result summed.3
     ∙ ap (sum_list o) products ∙ sym (dot-pairs o embed mapped.0.items)
     ∙ sym (ap₂ (λ xs ys. dot o xs (map embed ys)) paired.0.1 paired.1.1) in
     let from_right = zipped.2.1 ∙ c.zip.ensures.second in

@@ -20,8 +20,8 @@ loop-coefficient-preserved g c =
     let v = c.in-Some.coefficient in
     let value =
     turned g.met.Acc.PrimeCharacteristicRing.ring g.Acc.Algebra-1.embed g.met.Acc.Algebra-1.embeds c.args.x c.exp_power_of_2-step.result loop.s0 loop.s1 loop.s2 loop.s3 c.mul.result (embed v)
-    c.add-next.result (fold step c.args.acc loop.yielded) c.exp_power_of_2-step.ensures (g.met.Acc.Algebra-1.mixed_muls.answer _ _ _ c.mul.ensures)
-    (g.met.Acc.Algebra-2.mixed_adds.answer _ _ _ c.add-next.ensures) loop.invariant.2 in
+    c.add-next.result (fold step c.args.acc loop.yielded) c.exp_power_of_2-step.ensures (g.met.Acc.Algebra-1.mixed_muls.exact _ _ _ c.mul.ensures)
+    (g.met.Acc.Algebra-2.mixed_adds.exact _ _ _ c.add-next.ensures) loop.invariant.2 in
     (search rules, search rules, value ∙ sym (fold-append step c.args.acc loop.yielded (v ∷ [])))
 
 pub returns : goal.returns

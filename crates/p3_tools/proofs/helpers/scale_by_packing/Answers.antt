@@ -17,7 +17,7 @@ loop-i-preserved g c =
       long = search rules;
       scaled = subst (λ n. take n new ++ map f (drop n new) ≡ map f c.args.slice.now) (sym step)
           (mapped_group f new c.loop-i.slice c.args.slice.now (i * w) w c.store_block.ensures.before
-          (c.store_block.ensures.block ∙ ap lanes (g.met.P.PrimeCharacteristicRing.muls.answer _ _ _ c.mul-product.ensures ∙ ap (o.mul c.load_block.result) c.requires)
+          (c.store_block.ensures.block ∙ ap lanes (g.met.P.PrimeCharacteristicRing.muls.exact _ _ _ c.mul-product.ensures ∙ ap (o.mul c.load_block.result) c.requires)
           ∙ scaled_lanes o q lanes w g.met.P.PackedRing.lengths g.met.P.PackedRing.keeps c.load_block.result (g.P.Algebra.embed c.args.s) c.args.s (g.met.P.PackedRing.injects c.args.s)
           ∙ ap (map f) c.load_block.ensures)
           c.store_block.ensures.after c.loop-i.invariant.scaled);

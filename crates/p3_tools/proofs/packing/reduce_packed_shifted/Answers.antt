@@ -12,4 +12,4 @@ loop-i-preserved g c =
     one_more_packed (λ v. g.SF.Quotient.canon v + 1) g.met.TF.PrimeField.residues c.args.vals.now (2 ^ c.args.radix_bits) c.loop-i.i _ (c.as_canonical_u32.result + 1) c.index-vals-i.result c.loop-i.sum c.from_int-base.result c.mul.result c.from_int.result c.add-sum.result
     (omega (arith, c.loop-i-test.true)) (omega (arith, c.loop-i.auto.i)) c.index-vals-i.is c.loop-i.invariant
     c.from_int-base.ensures (one_shl c.args.radix_bits 64 c.requires.narrow) c.from_int.ensures (omega (arith, c.as_canonical_u32.ensures))
-    (m.muls.answer _ _ _ c.mul.ensures) (m.adds.answer _ _ _ c.add-sum.ensures)
+    (m.muls.exact _ _ _ c.mul.ensures) (m.adds.exact _ _ _ c.add-sum.ensures)

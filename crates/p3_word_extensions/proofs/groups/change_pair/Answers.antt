@@ -8,5 +8,5 @@ returns g c =
       c.read_group-y.result,
       c.read_group-x.ensures,
       c.read_group-y.ensures,
-      c.write_group.ensures ∙ ap g.E.Grouped.group (m.muls.answer _ _ _ c.mul-product.ensures),
+      c.write_group.ensures ∙ ap g.E.Grouped.group (m.muls.exact _ _ _ c.mul-product.ensures),
     )

@@ -50,7 +50,7 @@ loop-a-preserved g c =
         omega (arith, length-append xs (x ∷ []), length-append ys (y ∷ []), held.done.2),
         ap (λ l. flattened e.group (xs ++ x ∷ []) ++ l) back-a ∙ flattened-push e.group n xs x a c.args.left.now (c.product_of.ensures.2 ∙ front-a) held.done.3,
         ap (λ l. flattened e.group (ys ++ y ∷ []) ++ l) back-b ∙ flattened-push e.group n ys y b c.args.right.now (c.product_of.ensures.3 ∙ front-b) held.done.4,
-        m.add_assigns.answer _ _ _ c.add_assign.ensures.after ∙ ap₂ o.add held.done.5 c.product_of.ensures.4 ∙ sym (dot-more m.ring xs ys x y held.done.2),
+        m.add_assigns.exact _ _ _ c.add_assign.ensures.after ∙ ap₂ o.add held.done.5 c.product_of.ensures.4 ∙ sym (dot-more m.ring xs ys x y held.done.2),
       );
     }
 

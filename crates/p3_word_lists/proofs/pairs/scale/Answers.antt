@@ -10,5 +10,5 @@ loop-i-preserved g c =
     let w = g.F.Stored.words in
     let by = c.of_word-by.result in
     let x = c.index-words-i in
-    ap (λ v. set c.loop-i.words c.loop-i.i v) (c.to_word.ensures ∙ ap w.word (m.muls.answer _ _ _ c.mul.ensures ∙ ap (λ v. o.mul v by) c.of_word.ensures))
+    ap (λ v. set c.loop-i.words c.loop-i.i v) (c.to_word.ensures ∙ ap w.word (m.muls.exact _ _ _ c.mul.ensures ∙ ap (λ v. o.mul v by) c.of_word.ensures))
     ∙ map_over_more (λ v. w.word (o.mul (w.value v) by)) c.args.words.now c.loop-i.words c.loop-i.i x.result c.loop-i-test.true c.loop-i.invariant x.is

@@ -14,6 +14,6 @@ returns g c =
         ran.0,
         λ _. ran.1,
         written_constant rows o c.from.result c.product_from-product.result c.from.ensures
-            ∙ ap (constant rows o) (product_from_one m.ring _ m.muls.answer c.one.result c.one.ensures ran.0 c.product_from-product.result ran.2),
+            ∙ ap (constant rows o) (product_from_one m.ring _ m.muls.exact c.one.result c.one.ensures ran.0 c.product_from-product.result ran.2),
       );
     }

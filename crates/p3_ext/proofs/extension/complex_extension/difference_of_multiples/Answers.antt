@@ -5,5 +5,5 @@ use Rattle.p3_ext.proofs.extension.complex_extension.difference_of_multiples.Goa
 pub returns : goal.returns
 returns g c =
     let times = g.met.E.Algebra.mixed_muls in
-    g.met.E.PrimeCharacteristicRing.subs.answer _ _ _ c.sub.ensures
-    ∙ ap₂ (subtract g.E.PrimeCharacteristicRing.ops) (times.answer _ _ _ c.mul.ensures) (times.answer _ _ _ c.mul-2.ensures)
+    g.met.E.PrimeCharacteristicRing.subs.exact _ _ _ c.sub.ensures
+    ∙ ap₂ (subtract g.E.PrimeCharacteristicRing.ops) (times.exact _ _ _ c.mul.ensures) (times.exact _ _ _ c.mul-2.ensures)

@@ -10,7 +10,7 @@ pub loop-i-preserved : goal.loop-i-preserved
 loop-i-preserved g c o gives =
     let i = c.loop-i.i in
     holds-more (λ k. o.add (get_or c.args.a.now k o.zero) (get_or c.args.b.now k o.zero)) o.zero c.loop-i.res i c.add-sum.result (omega arith) (c.loop-i.invariant o gives)
-    (gives.answer _ _ _ c.add-sum.ensures
+    (gives.exact _ _ _ c.add-sum.ensures
     ∙ ap₂ (o.add) (sym (read_at c.args.a.now i c.index-a-i.result o.zero (omega arith) c.index-a-i.is))
     (sym (read_at c.args.b.now i c.index-b-i.result o.zero (omega arith) c.index-b-i.is)))
 

@@ -10,7 +10,7 @@ pub loop-i-preserved : goal.loop-i-preserved
 loop-i-preserved g c o gives =
     let i = c.loop-i.i in
     holds-more (λ k. o.mul (get_or c.args.a.now k o.zero) c.args.factor) o.zero c.loop-i.res i c.mul-product.result (omega arith) (c.loop-i.invariant o gives)
-    (gives.answer _ _ _ c.mul-product.ensures
+    (gives.exact _ _ _ c.mul-product.ensures
     ∙ ap (λ z. o.mul z c.args.factor) (sym (read_at c.args.a.now i c.index-a-i.result o.zero (omega arith) c.index-a-i.is)))
 
 pub returns : goal.returns

@@ -11,7 +11,7 @@ pub loop-i-preserved : goal.loop-i-preserved
 loop-i-preserved g c o gives =
     let i = c.loop-i.i in
     holds-more (λ k. subtract o (get_or c.args.a.now k o.zero) (get_or c.args.b.now k o.zero)) o.zero c.loop-i.res i c.sub-difference.result (omega arith) (c.loop-i.invariant o gives)
-    (gives.answer _ _ _ c.sub-difference.ensures
+    (gives.exact _ _ _ c.sub-difference.ensures
     ∙ ap₂ (subtract o) (sym (read_at c.args.a.now i c.index-a-i.result o.zero (omega arith) c.index-a-i.is))
     (sym (read_at c.args.b.now i c.index-b-i.result o.zero (omega arith) c.index-b-i.is)))
 

@@ -12,6 +12,6 @@ returns g c =
     let e = g.P.Algebra.embed in
     let f = map e g.F.ExtensionAlgebra.modulus in
     c.sum_of_products.ensures (packed_ops O f) (packed_laws (ring_of P.ring) g.met.P.Algebra.embeds m.at_least_two g.F.ExtensionAlgebra.modulus m.monic) (spread e)
-    (record { called = λ _ _ _ _ _. P.adds.called _ _; answer = packed_sum O f _ P.adds.answer })
-    (record { called = λ _ _. tt; answer = λ x v r h. spread_product O f e x v r (g.met.F.ExtensionOverAlgebra.packed_products _ _ _ h) })
+    (record { callable = λ _ _ _ _ _. P.adds.callable _ _; exact = packed_sum O f _ P.adds.exact })
+    (record { callable = λ _ _. tt; exact = λ x v r h. spread_product O f e x v r (g.met.F.ExtensionOverAlgebra.packed_products _ _ _ h) })
     (same_packed O f c.constant.result ((packed_ops O f).zero) (◌∙◌ {b = embed O g.row.D c.zero.result} c.constant.ensures (ap (embed O g.row.D) c.zero.ensures)))

@@ -33,6 +33,6 @@ returns g c =
         same_packed g.P.PrimeCharacteristicRing.ops (map e f) c.from.result (spread e total) c.from.ensures
             ∙ ap (spread e)
             (sum_from_zero (ext_laws (ring_of g.met.F.PrimeCharacteristicRing.ring) g.row.D m.at_least_two f m.monic) _
-            (λ x y r h. is_sum o f g.F.Add.add_gives g.met.F.PrimeCharacteristicRing.adds.answer x y r h) c.zero-start.result c.zero-start.ensures ran.0 total ran.2),
+            (λ x y r h. is_sum o f g.F.Add.add_gives g.met.F.PrimeCharacteristicRing.adds.exact x y r h) c.zero-start.result c.zero-start.ensures ran.0 total ran.2),
       );
     }

@@ -15,7 +15,7 @@ returns g c =
         ran.0,
         λ _. ran.1,
         sum_from_zero (packed_laws (ring_of g.met.P.PrimeCharacteristicRing.ring) g.met.P.Algebra.embeds m.at_least_two g.F.ExtensionAlgebra.modulus m.monic) _
-            (packed_sum o f _ g.met.P.PrimeCharacteristicRing.adds.answer) _ (packed_zero o f c.new-start.result c.zero.result c.zero.ensures c.new-start.ensures)
+            (packed_sum o f _ g.met.P.PrimeCharacteristicRing.adds.exact) _ (packed_zero o f c.new-start.result c.zero.result c.zero.ensures c.new-start.ensures)
             ran.0 c.sum_from.result ran.2,
       );
     }

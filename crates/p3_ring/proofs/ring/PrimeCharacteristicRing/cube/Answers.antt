@@ -5,4 +5,4 @@ pub returns : goal.returns
 returns g c =
     let m = g.met.Self.PrimeCharacteristicRing in
     let first = first_power m.ring c.args.self.now in
-    (product_of_powers m.ring (m.muls.answer _ _ _ c.mul.ensures) (product_of_powers m.ring c.square.ensures first first) first).is
+    (product_of_powers m.ring (m.muls.exact _ _ _ c.mul.ensures) (product_of_powers m.ring c.square.ensures first first) first).is

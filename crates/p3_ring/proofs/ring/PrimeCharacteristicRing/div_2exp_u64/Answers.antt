@@ -6,4 +6,4 @@ pub returns : goal.returns
 returns g c =
     let m = g.met.Self.PrimeCharacteristicRing in
     halves_undone m.ring c.args.self.now c.halve-half.result c.exp_u64-scale.result c.mul.result c.args.exponent
-    (c.halve-half.ensures ∙ c.one.ensures) c.exp_u64-scale.ensures (m.muls.answer _ _ _ c.mul.ensures)
+    (c.halve-half.ensures ∙ c.one.ensures) c.exp_u64-scale.ensures (m.muls.exact _ _ _ c.mul.ensures)

@@ -7,14 +7,14 @@ loop-i-init g c =
     let m = g.met.Self.PrimeCharacteristicRing in
     let some : 0 < length c.args.u.now = search rules in
     dot-begin m.ring c.args.u.now c.args.v.now c.index-u-0.result c.index-v-0.result c.mul-sum.result some c.requires c.index-u-0.is c.index-v-0.is
-    (m.muls.answer _ _ _ c.mul-sum.ensures)
+    (m.muls.exact _ _ _ c.mul-sum.ensures)
 
 pub loop-i-preserved : goal.loop-i-preserved
 loop-i-preserved g c =
     let o = g.Self.PrimeCharacteristicRing.ops in
     let m = g.met.Self.PrimeCharacteristicRing in
     dot-step m.ring c.args.u.now c.args.v.now c.loop-i.i c.index-u-i.result c.index-v-i.result c.loop-i.sum c.add_assign.new.self _ c.loop-i-test.true (omega arith)
-    c.index-u-i.is c.index-v-i.is (m.add_assigns.answer _ _ _ c.add_assign.ensures.after ∙ ap (o.add c.loop-i.sum) (m.muls.answer _ _ _ c.mul-product.ensures)) c.loop-i.invariant
+    c.index-u-i.is c.index-v-i.is (m.add_assigns.exact _ _ _ c.add_assign.ensures.after ∙ ap (o.add c.loop-i.sum) (m.muls.exact _ _ _ c.mul-product.ensures)) c.loop-i.invariant
 
 pub returns : goal.returns
 returns g c =

@@ -7,6 +7,6 @@ pub returns : goal.returns
 returns g c =
     let o = g.Self.PrimeCharacteristicRing.ops in
     let m = g.met.Self.PrimeCharacteristicRing in
-    m.subs.answer _ _ _ c.sub.ensures
-    ∙ ap₂ (subtract o) (m.adds.answer _ _ _ c.add.ensures) (m.muls.answer _ _ _ c.mul.ensures ∙ ap (o.mul c.args.self.now) c.double.ensures)
+    m.subs.exact _ _ _ c.sub.ensures
+    ∙ ap₂ (subtract o) (m.adds.exact _ _ _ c.add.ensures) (m.muls.exact _ _ _ c.mul.ensures ∙ ap (o.mul c.args.self.now) c.double.ensures)
     ∙ xor-double m.ring c.args.self.now c.args.y.now

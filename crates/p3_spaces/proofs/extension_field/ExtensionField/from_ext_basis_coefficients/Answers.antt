@@ -14,7 +14,7 @@ loop-j-preserved g c =
     rw c.unwrap-element.ensures at c.ith_basis_element.ensures.basis in
     basis-step g.Base.PrimeCharacteristicRing.ops o v.coefficients v.DIMENSION m.ring g.met.Self.BasedVectorSpace.same c.args.coeffs.now c.loop-j.j
     c.unwrap-element.result c.index-coeffs-j.result c.loop-j.sum c.add_assign.new.self whole place element c.index-coeffs-j.is
-    (m.add_assigns.answer _ _ _ c.add_assign.ensures.after ∙ ap (o.add c.loop-j.sum) (m.muls.answer _ _ _ c.mul-term.ensures)) c.loop-j.invariant
+    (m.add_assigns.exact _ _ _ c.add_assign.ensures.after ∙ ap (o.add c.loop-j.sum) (m.muls.exact _ _ _ c.mul-term.ensures)) c.loop-j.invariant
 
 pub returns : goal.returns
 returns g c =

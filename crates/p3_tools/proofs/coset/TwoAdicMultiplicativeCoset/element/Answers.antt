@@ -10,5 +10,5 @@ returns g c =
     let coset = c.args.self.now in
     let k = coset.log_size in
     let place = c.args.index % 2 ^ k in
-    g.met.F.PrimeCharacteristicRing.muls.answer _ _ _ c.mul.ensures ∙ ap (o.mul coset.shift) c.generator_exp.ensures
+    g.met.F.PrimeCharacteristicRing.muls.exact _ _ _ c.mul.ensures ∙ ap (o.mul coset.shift) c.generator_exp.ensures
     ∙ sym (coset_item o g.F.TwoAdicField.two_adic coset.shift k place o.zero (mod-lt c.args.index (pow_pos k)))

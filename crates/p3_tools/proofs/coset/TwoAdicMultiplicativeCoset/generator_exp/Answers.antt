@@ -38,7 +38,7 @@ loop-rest-preserved g c =
       power_is = elim c.if-rest-eq1.branch [
         | then-rest-eq1 w ↦
             let multiplied : c.if-rest-eq1.gen_power ≡ o.mul p (generator i) =
-            w.gen_power-is ∙ m.mul_assigns.answer _ _ _ w.mul_assign.ensures.after ∙ ap (o.mul p) w.two_adic_generator.ensures in
+            w.gen_power-is ∙ m.mul_assigns.exact _ _ _ w.mul_assign.ensures.after ∙ ap (o.mul p) w.two_adic_generator.ensures in
             ap (λ z. o.mul z left) multiplied ∙ digit_is_one m.ring generators p i n bits.0 given w.if-rest-eq1.true ∙ kept.power_is
         | else-rest-eq1 w ↦
             ap (λ z. o.mul z left) w.gen_power-is ∙ digit_is_zero m.ring generators p i n bits.0 given w.if-rest-eq1.false ∙ kept.power_is

@@ -20,5 +20,5 @@ loop-i-preserved g c =
       long = search rules;
       stand = rest-holds (Stands w) xs i c.to_word.result held.stand;
       written = paired-more _ xs ys i x.result y.result c.to_word.result inside beside x.is y.is
-          (c.to_word.ensures ∙ ap w.word (m.adds.answer _ _ _ c.add-sum.ensures ∙ ap₂ o.add c.of_word-x.ensures (m.muls.answer _ _ _ c.mul-product.ensures ∙ ap (λ z. o.mul z c.args.self.now.factor) c.of_word-y.ensures))) ∙ held.written;
+          (c.to_word.ensures ∙ ap w.word (m.adds.exact _ _ _ c.add-sum.ensures ∙ ap₂ o.add c.of_word-x.ensures (m.muls.exact _ _ _ c.mul-product.ensures ∙ ap (λ z. o.mul z c.args.self.now.factor) c.of_word-y.ensures))) ∙ held.written;
     }

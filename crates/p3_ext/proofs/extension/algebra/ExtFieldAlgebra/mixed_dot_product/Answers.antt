@@ -7,10 +7,10 @@ use Rattle.p3_ext.specs.EntryOperators.{sums_of_values}
 use Rattle.p3_ext.proofs.extension.algebra.ExtFieldAlgebra.mixed_dot_product.Goals as goal
 
 pub sum_of_products-requires-clause-sums : goal.sum_of_products-requires-clause-sums
-sum_of_products-requires-clause-sums g c = λ _ _ _ _ _. g.met.F.PrimeCharacteristicRing.adds.called _ _
+sum_of_products-requires-clause-sums g c = λ _ _ _ _ _. g.met.F.PrimeCharacteristicRing.adds.callable _ _
 
 pub sum_of_products-requires-clause-products : goal.sum_of_products-requires-clause-products
-sum_of_products-requires-clause-products g c = λ _ _ _ _ _. g.met.F.PrimeCharacteristicRing.muls.called _ _
+sum_of_products-requires-clause-products g c = λ _ _ _ _ _. g.met.F.PrimeCharacteristicRing.muls.callable _ _
 
 pub returns : goal.returns
 returns g c =
@@ -20,5 +20,5 @@ returns g c =
     let f = g.F.ExtensionAlgebra.modulus in
     c.sum_of_products.ensures (ext_ops o f) (ext_laws (ring_of laws.ring) g.row.D m.at_least_two f m.monic) (constant o)
     (sums_of_values o f g.F.Add.can_add g.F.Add.add_gives laws.adds)
-    (record { called = λ _ _ _ _ _. laws.muls.called _ _; answer = λ x s r h. is_scalar_product (ring_of laws.ring) g.row.D m.at_least_two f g.F.Mul.mul_gives m.monic laws.muls.answer x r s h })
+    (record { callable = λ _ _ _ _ _. laws.muls.callable _ _; exact = λ x s r h. is_scalar_product (ring_of laws.ring) g.row.D m.at_least_two f g.F.Mul.mul_gives m.monic laws.muls.exact x r s h })
     (same_value c.constant-zero.result (constant o o.zero) (c.constant-zero.ensures ∙ ap (embed o g.row.D) c.zero.ensures))

@@ -4,7 +4,7 @@ use Rattle.p3_ext.specs.EntryOperators.{sums_of_values}
 use Rattle.p3_ext.proofs.extension.complex_binomial.ComplexExtensionAlgebraBinomialComplex.ext_add.Goals as goal
 
 pub add_each-requires-clause-adds : goal.add_each-requires-clause-adds
-add_each-requires-clause-adds g c = λ _ _ _ _ _. g.met.F.PrimeCharacteristicRing.adds.called _ _
+add_each-requires-clause-adds g c = λ _ _ _ _ _. g.met.F.PrimeCharacteristicRing.adds.callable _ _
 
 pub returns : goal.returns
 returns g c =

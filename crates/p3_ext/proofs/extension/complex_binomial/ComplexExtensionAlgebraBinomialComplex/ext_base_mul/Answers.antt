@@ -13,6 +13,6 @@ returns g c =
     let o = g.F.PrimeCharacteristicRing.ops in
     let h = g.met.F.HasComplexBinomialExtension.at_least_two in
     let w = g.F.HasComplexBinomialExtension.w in
-    c.scale_each.ensures g.row.D (complex_ops o) c.requires.left (record { called = λ _ _. tt; answer = λ x y r e. same_value r ((complex_ops o).mul x y) e })
+    c.scale_each.ensures g.row.D (complex_ops o) c.requires.left (record { callable = λ _ _. tt; exact = λ x y r e. same_value r ((complex_ops o).mul x y) e })
     ∙ base_product (ring_of (complex_laws (ring_of g.met.F.PrimeCharacteristicRing.ring))) g.row.D (omega (arith, h)) (binomial (complex_ops o) g.row.D w)
     (binomial_is_monic (complex_ops o) g.row.D (omega (arith, h)) w) c.args.lhs.now c.args.rhs c.requires.left

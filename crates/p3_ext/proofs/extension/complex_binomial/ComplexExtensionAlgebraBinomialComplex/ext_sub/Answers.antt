@@ -4,7 +4,7 @@ use Rattle.p3_ext.specs.EntryOperators.{differences_of_values}
 use Rattle.p3_ext.proofs.extension.complex_binomial.ComplexExtensionAlgebraBinomialComplex.ext_sub.Goals as goal
 
 pub sub_each-requires-clause-subs : goal.sub_each-requires-clause-subs
-sub_each-requires-clause-subs g c = λ _ _ _ _ _. g.met.F.PrimeCharacteristicRing.subs.called _ _
+sub_each-requires-clause-subs g c = λ _ _ _ _ _. g.met.F.PrimeCharacteristicRing.subs.callable _ _
 
 pub returns : goal.returns
 returns g c =

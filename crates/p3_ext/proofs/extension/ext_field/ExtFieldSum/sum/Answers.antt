@@ -16,7 +16,7 @@ returns g c =
         ran.0,
         λ _. ran.1,
         sum_from_zero (ext_laws (ring_of g.met.A.PrimeCharacteristicRing.ring) g.row.D m.at_least_two f m.monic) _
-            (λ x y r h. is_sum o f g.A.Add.add_gives g.met.A.PrimeCharacteristicRing.adds.answer x y r h) _
+            (λ x y r h. is_sum o f g.A.Add.add_gives g.met.A.PrimeCharacteristicRing.adds.exact x y r h) _
             (same_value c.new-start.result (constant o o.zero) (c.new-start.ensures ∙ zero-list o g.row.D c.zero.result c.zero.ensures)) ran.0 c.sum_from.result ran.2,
       );
     }

@@ -8,9 +8,9 @@ returns g c =
     let e = g.P.Algebra.embed in
     let m = g.met.P.Algebra.mixed_muls in
     c.sum_of_products.ensures (row_ops rows o) (row_laws rows o g.met.P.PrimeCharacteristicRing.ring) (λ f. constant rows o (e f))
-    (record { called = λ _ _. tt; answer = written_sum rows o })
+    (record { callable = λ _ _. tt; exact = written_sum rows o })
     (record {
-      called = λ x f d k h. m.called _ _;
-      answer = λ x f r h. written_mixed_product rows o x (e f) r (λ d k b. m.answer _ _ _ (h d k b));
+      callable = λ x f d k h. m.callable _ _;
+      exact = λ x f r h. written_mixed_product rows o x (e f) r (λ d k b. m.exact _ _ _ (h d k b));
     })
     (filled rows o c.new.result _ _ c.new.ensures c.zero-zero.ensures)

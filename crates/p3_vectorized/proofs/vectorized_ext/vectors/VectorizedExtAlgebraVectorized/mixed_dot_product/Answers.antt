@@ -10,6 +10,6 @@ returns g c =
     let e = g.PE.Algebra.embed in
     let m = g.met.PE.Algebra.mixed_muls in
     c.sum_of_products.ensures (row_ops rows o) (row_laws rows o g.met.PE.PrimeCharacteristicRing.ring) (mapped rows rows p o e)
-    (record { called = λ _ _. tt; answer = written_sum rows o })
-    (record { called = λ x y d k b h. m.called _ _; answer = λ x y r h. written_row_product rows rows p o e _ m.answer x y r h })
+    (record { callable = λ _ _. tt; exact = written_sum rows o })
+    (record { callable = λ x y d k b h. m.callable _ _; exact = λ x y r h. written_row_product rows rows p o e _ m.exact x y r h })
     (filled rows o c.new.result _ _ c.new.ensures c.zero-zero.ensures)
