@@ -2,7 +2,7 @@
 use Rattle.std.proofs.Common.{◌≡◌, ◌<◌, ◌≤◌, ◌+◌, ◌-◌, ◌^◌, ℕ, List, [], ◌∷◌, length, map, refl, ap, arith, ◌∙◌, sym}
 use Rattle.std.proofs.Math.ListN.{replicate}
 use Rattle.std.proofs.Math.Nat.{mul-le-mul_left, mod-eq_of_lt}
-use Rattle.std.proofs.lemmas.Nat.{same_from_index}
+use Rattle.std.proofs.lemmas.Nat.{same_from_place}
 use Rattle.p3_tools.specs.Digits.{num, IsLimit, pack, shifted_pack}
 use Rattle.p3_tools.proofs.EqualDigits.{num-grows}
 
@@ -15,7 +15,7 @@ module _ {R : Type 0} (canon : R → ℕ) (tells : (x y : R) → canon x ≡ can
   same_num below [] (y ∷ ys) l e = absurd (omega arith)
   same_num below (x ∷ xs) [] l e = absurd (omega arith)
   same_num below (x ∷ xs) (y ∷ ys) l e =
-      let p = same_from_index (num (map canon xs) b) (canon x) (num (map canon ys) b) (canon y) b (below x) (below y) (omega arith) in
+      let p = same_from_place (num (map canon xs) b) (canon x) (num (map canon ys) b) (canon y) b (below x) (below y) (omega arith) in
       same_cons x y xs ys (tells x y p.1) (same_num below xs ys (omega arith) p.0)
 
   pub same_shifted : (below : (x : R) → canon x + 1 < b) (xs ys : List R) → num (map (λ v. canon v + 1) xs) b ≡ num (map (λ v. canon v + 1) ys) b → xs ≡ ys
@@ -23,7 +23,7 @@ module _ {R : Type 0} (canon : R → ℕ) (tells : (x y : R) → canon x ≡ can
   same_shifted below [] (y ∷ ys) e = absurd (omega arith)
   same_shifted below (x ∷ xs) [] e = absurd (omega arith)
   same_shifted below (x ∷ xs) (y ∷ ys) e =
-      let p = same_from_index (num (map (λ v. canon v + 1) xs) b) (canon x + 1) (num (map (λ v. canon v + 1) ys) b) (canon y + 1) b (below x) (below y) (omega arith) in
+      let p = same_from_place (num (map (λ v. canon v + 1) xs) b) (canon x + 1) (num (map (λ v. canon v + 1) ys) b) (canon y + 1) b (below x) (below y) (omega arith) in
       same_cons x y xs ys (tells x y (omega (arith, p.1))) (same_shifted below xs ys p.0)
 
   -- the number is at most that of greatest digits
