@@ -1,13 +1,11 @@
-ghost use Rattle.std.specs.Prelude.{◌≡◌, ◌<◌, ◌*◌, ◌^◌, ℕ, List, length, slice_index, OnSome, IfNone};
+ghost use Rattle.std.specs.Prelude.{◌≡◌, ◌<◌, ◌*◌, ℕ, List, length, slice_index, OnSome, IfNone};
 ghost use Rattle.std.specs.Option.{ForSome};
 ghost use Rattle.std.specs.Iterator.Adapters.{inner_items_left};
 ghost use Rattle.std.specs.Iterator.{IsFinite, UpTo, size};
-ghost use Rattle.std.proofs.Common.{arith};
-ghost use Rattle.p3_spaces.specs.Streams.{YieldsExactly, DrawnFrom, byte_stream, word_stream, little_endian, InHand};
+ghost use Rattle.p3_spaces.specs.Streams.{YieldsExactly, DrawnFrom, byte_stream, word_stream, InHand};
 
 use crate::array_chunks::next_chunk_padded;
 use crate::hints::{bytes_hint, held_hint, words_hint};
-use std::marker::PhantomData;
 
 /// A value that is written as a fixed number of bytes, for hashing. Upstream's
 /// `RawDataSerializable`.
@@ -71,10 +69,9 @@ pub trait RawDataSerializable: Sized {
         ensures drawn { DrawnFrom ⟦<U32Stream<ByteStream<I, Self::Bytes>> as Iterator>⟧.next_gives I.next_gives result input
             (λ words xs. words ≡ word_stream 4 (byte_stream bytes xs)) }
     {
-        WordStream {
+        U32Stream {
             source: Self::into_byte_stream(input),
             is_over: false,
-            of: PhantomData,
         }
     }
 
@@ -93,10 +90,9 @@ pub trait RawDataSerializable: Sized {
         ensures drawn { DrawnFrom ⟦<U64Stream<ByteStream<I, Self::Bytes>> as Iterator>⟧.next_gives I.next_gives result input
             (λ words xs. words ≡ word_stream 8 (byte_stream bytes xs)) }
     {
-        WordStream {
+        U64Stream {
             source: Self::into_byte_stream(input),
             is_over: false,
-            of: PhantomData,
         }
     }
 
@@ -147,90 +143,85 @@ impl<F: RawDataSerializable, I: Iterator<Item = F>> Iterator for ByteStream<I, F
     }
 }
 
-/// A word that is read from B bytes. This project's own.
-pub trait StreamWord<const B: usize>: Copy {
-    /// The word with these bytes.
-    ghost read: { List ℕ → Self };
-
-    /// There is a byte, and B bytes fit in memory.
-    ghost counted: { (0 < B) × (B < 2 ^ 63) };
-
-    /// The word with these bytes, the lowest first.
-    fn from_bytes(bytes: [u8; B]) -> Self
-        ensures { result ≡ read bytes.entry };
-}
-
-impl StreamWord<4> for u32 {
-    ghost read = { little_endian };
-
-    ghost counted = { (omega arith, omega arith) };
-
-    #[inline]
-    fn from_bytes(bytes: [u8; 4]) -> u32
-        ensures { result ≡ little_endian bytes }
-    {
-        u32::from_le_bytes(bytes)
-    }
-}
-
-impl StreamWord<8> for u64 {
-    ghost read = { little_endian };
-
-    ghost counted = { (omega arith, omega arith) };
-
-    #[inline]
-    fn from_bytes(bytes: [u8; 8]) -> u64
-        ensures { result ≡ little_endian bytes }
-    {
-        u64::from_le_bytes(bytes)
-    }
-}
-
-/// The bytes of an iterator in words of B bytes, the lowest byte first.
+/// The bytes of an iterator in words of four, the lowest byte first.
 #[derive(Clone, Debug, Drop)]
-pub struct WordStream<I, W, const B: usize> {
+pub struct U32Stream<I> {
     source: I,
     is_over: bool,
-    of: PhantomData<W>,
 }
 
-/// The bytes of an iterator in words of four.
-pub type U32Stream<I> = WordStream<I, u32, 4>;
-
-/// The bytes of an iterator in words of eight.
-pub type U64Stream<I> = WordStream<I, u64, 8>;
-
-impl<I: Iterator<Item = u8>, W: StreamWord<B>, const B: usize> Iterator for WordStream<I, W, B> {
+impl<I: Iterator<Item = u8>> Iterator for U32Stream<I> {
     ghost use Rattle.std.specs.Prelude.{Some, true, IfSome};
     ghost use Rattle.std.specs.Bool.{MatchBool};
     ghost use Rattle.std.specs.Iterator.{count_map, count_unless, UpTo};
     ghost use Rattle.std.specs.Iterator.SizeHint.{IsWithinCount};
-    ghost use Rattle.p3_spaces.specs.Streams.{GathersGroup, group_count, ReadsGroup};
+    ghost use Rattle.p3_spaces.specs.Streams.{GathersGroup, group_count, ReadsGroup, little_endian};
 
-    type Item = W;
+    type Item = u32;
 
     ghost can_next = { λ s. MatchBool s.is_over (Unit {0}) (I.can_next s.source × IsFinite (I.remaining s.source)) };
 
-    ghost next_gives = { ReadsGroup W.read (λ s r t. GathersGroup I.next_gives B 0 s.is_over s.source r t.is_over t.source) };
+    ghost next_gives = { ReadsGroup little_endian (λ s r t. GathersGroup I.next_gives 4 0 s.is_over s.source r t.is_over t.source) };
 
-    ghost remaining = { λ s. count_unless s.is_over (count_map (group_count B) (I.remaining s.source)) };
+    ghost remaining = { λ s. count_unless s.is_over (count_map (group_count 4) (I.remaining s.source)) };
 
     #[inline]
-    fn next(&mut self) -> Option<W> {
+    fn next(&mut self) -> Option<u32> {
         match next_chunk_padded(&mut self.source, &mut self.is_over, 0) {
             None => None,
-            Some(chunk) => Some(W::from_bytes(chunk)),
+            Some(chunk) => Some(u32::from_le_bytes(chunk)),
         }
     }
 
-    /// The groups of B bytes of the source's hint, and nothing once the source has ended.
+    /// The groups of 4 bytes of the source's hint, and nothing once the source has ended.
     #[inline]
     fn size_hint(&self) -> (usize, Option<usize>)
-        ensures lower { IsWithinCount result.0 (count_unless self.now.is_over (count_map (group_count B) (I.remaining self.now.source))) }
-        ensures upper { IfSome result.1 (UpTo (count_unless self.now.is_over (count_map (group_count B) (I.remaining self.now.source)))) }
+        ensures lower { IsWithinCount result.0 (count_unless self.now.is_over (count_map (group_count 4) (I.remaining self.now.source))) }
+        ensures upper { IfSome result.1 (UpTo (count_unless self.now.is_over (count_map (group_count 4) (I.remaining self.now.source)))) }
         ensures over { self.now.is_over ≡ true → result ≡ (0, Some 0) }
     {
-        words_hint(self.is_over, B, self.source.size_hint())
+        words_hint(self.is_over, 4, self.source.size_hint())
+    }
+}
+
+/// The bytes of an iterator in words of eight, the lowest byte first.
+#[derive(Clone, Debug, Drop)]
+pub struct U64Stream<I> {
+    source: I,
+    is_over: bool,
+}
+
+impl<I: Iterator<Item = u8>> Iterator for U64Stream<I> {
+    ghost use Rattle.std.specs.Prelude.{Some, true, IfSome};
+    ghost use Rattle.std.specs.Bool.{MatchBool};
+    ghost use Rattle.std.specs.Iterator.{count_map, count_unless, UpTo};
+    ghost use Rattle.std.specs.Iterator.SizeHint.{IsWithinCount};
+    ghost use Rattle.p3_spaces.specs.Streams.{GathersGroup, group_count, ReadsGroup, little_endian};
+
+    type Item = u64;
+
+    ghost can_next = { λ s. MatchBool s.is_over (Unit {0}) (I.can_next s.source × IsFinite (I.remaining s.source)) };
+
+    ghost next_gives = { ReadsGroup little_endian (λ s r t. GathersGroup I.next_gives 8 0 s.is_over s.source r t.is_over t.source) };
+
+    ghost remaining = { λ s. count_unless s.is_over (count_map (group_count 8) (I.remaining s.source)) };
+
+    #[inline]
+    fn next(&mut self) -> Option<u64> {
+        match next_chunk_padded(&mut self.source, &mut self.is_over, 0) {
+            None => None,
+            Some(chunk) => Some(u64::from_le_bytes(chunk)),
+        }
+    }
+
+    /// The groups of 8 bytes of the source's hint, and nothing once the source has ended.
+    #[inline]
+    fn size_hint(&self) -> (usize, Option<usize>)
+        ensures lower { IsWithinCount result.0 (count_unless self.now.is_over (count_map (group_count 8) (I.remaining self.now.source))) }
+        ensures upper { IfSome result.1 (UpTo (count_unless self.now.is_over (count_map (group_count 8) (I.remaining self.now.source)))) }
+        ensures over { self.now.is_over ≡ true → result ≡ (0, Some 0) }
+    {
+        words_hint(self.is_over, 8, self.source.size_hint())
     }
 }
 

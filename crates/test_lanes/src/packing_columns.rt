@@ -20,7 +20,7 @@ pub(crate) fn packed_agree<F: Numbered, P: PackedValue<Value = F> + Numbered>(
         return Ok(false);
     }
     let packed = pack_columns::<P, 5>(&rows);
-    let callable = pack_columns_fn::<P, [F; 5], _, 5>(|l: usize| -> [F; 5] {
+    let called = pack_columns_fn::<P, [F; 5], _, 5>(|l: usize| -> [F; 5] {
         value_at::<[F; 5]>(numbers, l)
     });
     Ok(holds(&packed, &case.answer) && holds(&called, &case.answer))

@@ -27,7 +27,7 @@ where
         return Ok(false);
     }
     let packed = pack_ext_columns::<F, EF, PE, 2>(&rows);
-    let callable = pack_ext_columns_fn::<F, EF, PE, [EF; 2], _, 2>(|l: usize| -> [EF; 2] {
+    let called = pack_ext_columns_fn::<F, EF, PE, [EF; 2], _, 2>(|l: usize| -> [EF; 2] {
         value_at::<[EF; 2]>(numbers, l)
     });
     Ok(holds(&packed, &case.answer) && holds(&called, &case.answer))
