@@ -59,7 +59,8 @@ pub trait Field: PrimeCharacteristicRing + Eq + Display + Div<Output = Self> + D
         *self == Self::one()
     }
 
-    /// An inverse of the value, and `None` exactly where it has none.
+    /// An inverse of the value, and `None` exactly where it has none. Its bodies: of an extension `exact_inverse`
+    /// in `p3_ext/src/extension/frobenius.rt`, of a prime field `find_inverse` in `p3_bench_prime/src/fp.rt`.
     fn try_inverse(&self) -> Option<Self>
         ensures { MatchOption result ((y : Self) → Self.ops.mul self.now y ≢ Self.ops.one) (λ y. IsInverse Self.ops self.now y) };
 

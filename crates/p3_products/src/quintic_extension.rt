@@ -62,7 +62,8 @@ pub fn trinomial_quintic_mul<R: PrimeCharacteristicRing>(a: &[R], b: &[R], res: 
     write_reduced(c0, c1, c2, c3, c4, c5, c6, c7, c8, res);
 }
 
-/// The square of a list of five coefficients modulo `X^5 + X^2 - 1`. Upstream's `quintic_square`.
+/// The square of a list of five coefficients modulo `X^5 + X^2 - 1`; that modulo `X^5 - W` is in
+/// `binomial_extension`. Upstream's `quintic_square`.
 #[inline]
 pub fn quintic_square<R: PrimeCharacteristicRing>(a: &[R], res: &mut [R])
     requires input { length a.now ≡ 5 }

@@ -7,6 +7,6 @@ pub mod PackedDigits
 pub mod Injective
 pub mod Sizes
 pub mod SplitDigits
-pub mod Strands
+pub mod BlockValues
 pub mod TurningStrands
 pub mod YieldedItems

@@ -85,8 +85,9 @@ impl<F: FrobeniusExtendable<D, S>, const D: usize, S: ExtensionShape> ExtField<F
         self.inverse_from(self.quintic_conjugates())
     }
 
-    /// An inverse, by the fixed formula of the degree where there is one, and by the norm
-    /// elsewhere.
+    /// An inverse, by the fixed formula of the degree where there is one (`binomial_inv` in
+    /// `p3_products/src/binomial_extension.rt`), and elsewhere by the norm: lemmas `found_by` and `absent_by`
+    /// of `specs/Conjugates`.
     #[inline]
     pub(super) fn exact_inverse(&self) -> Option<Self>
         ensures { MatchOption result ((y : _) → (ext_ops F.ops F.modulus).mul self.now y ≢ (ext_ops F.ops F.modulus).one) (λ y. IsInverse (ext_ops F.ops F.modulus) self.now y) }
