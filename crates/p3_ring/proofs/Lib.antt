@@ -1,4 +1,5 @@
 mod NextTerm
+mod DoubledTerms
 mod EightFurther
 mod PackedGroups
 mod SumParts
