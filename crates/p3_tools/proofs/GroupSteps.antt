@@ -1,6 +1,6 @@
 -- Slices that are changed group after group of w entries, and then entry after entry.
-use Rattle.std.specs.Prelude.{◌≡◌, ◌<◌, ◌≤◌, ◌+◌, ◌-◌, ◌*◌, ◌/◌, ℕ, zero, suc, List, [], ◌∷◌, ◌++◌, length, map, take, drop, replicate, slice_range}
-use Rattle.std.proofs.Common.{arith, ap, ap₂, sym, refl, ◌∙◌, take-add, drop-drop, append_assoc, append-nil, subst}
+use Rattle.std.specs.Prelude.{◌≡◌, ◌<◌, ◌≤◌, ◌+◌, ◌-◌, ◌*◌, ◌/◌, ℕ, suc, List, [], ◌++◌, length, map, take, drop, replicate, slice_range}
+use Rattle.std.proofs.Common.{arith, ap, ap₂, sym, ◌∙◌, take-add, drop-drop, append_assoc, append-nil, subst}
 use Rattle.std.proofs.lemmas.Nat.{div-add-mod'}
 use Rattle.std.proofs.lemmas.List.{get_or-map, ext_get_or, length-drop, length-map, take_all}
 use Rattle.std.proofs.lemmas.Slice.{take-put_mid_below, between-put_mid, drop-put_mid}

@@ -1,4 +1,4 @@
-use Rattle.std.proofs.Common.{suc, ◌≡◌, ◌-◌, ◌%◌, ◌^◌, ap, ◌∙◌, arith, bit_and}
+use Rattle.std.proofs.Common.{suc, ◌-◌, ◌%◌, ◌^◌, ap, ◌∙◌, arith, bit_and}
 use Rattle.std.proofs.lemmas.Nat.{one_shl, pow_pos, and_mask}
 use Rattle.std.proofs.Math.Nat.{pow-suc}
 use Rattle.p3_tools.proofs.Sizes.{exponent_below}
