@@ -1,9 +1,11 @@
-//! Values of polynomials over the residues modulo 17 at points of their extension by `X^2 = 3`.
+//! Values of polynomials over the residues modulo 17 at points of their extension by `X^2 = 3`, and of long ones at two.
 use crate::canonical::Canonical;
 use crate::texts::values;
 use p3_ext::extension::{BinomialExtensionField, BinomiallyExtendable};
 use p3_ring::ring::PrimeCharacteristicRing;
+use p3_tools::horner::horner_slice;
 use poly_eval::eval_point;
+use std::alloc::{AllocError, Global};
 use std::process::Abort;
 use std::test::Fail;
 
@@ -31,7 +33,21 @@ fn value_at<F: BinomiallyExtendable<2> + Canonical>(
     [low.canonical(), high.canonical()]
 }
 
-/// Asserts the rows, where X is given.
+/// The value at two of the polynomial with so many coefficients, each of them one.
+fn value_of_ones<F: PrimeCharacteristicRing + Canonical>(
+    alloc: Global,
+    count: usize,
+) -> Result<u64, AllocError> {
+    let mut ones: Vec<F> = Vec::new(alloc);
+    for _ in 0..count {
+        ones.push(F::one())?;
+    }
+    let value = horner_slice(&ones, F::two());
+    Ok(value.canonical())
+}
+
+/// Asserts the rows, where X is given, and values of blocks with a rest and without one: `2^256 - 1` and `2^300 - 1`
+/// modulo 17, where `2^4` is -1.
 pub(crate) fn assert_points<F: BinomiallyExtendable<2> + Canonical>(
     rt: &(impl Abort + AllocGlobal),
     x: BinomialExtensionField<F, 2>,
@@ -40,5 +56,7 @@ pub(crate) fn assert_points<F: BinomiallyExtendable<2> + Canonical>(
         let coeffs: Vec<F> = values(rt.alloc(), coefficients)?;
         assert_eq!(rt; value_at(&coeffs, point, x), expected, "{coefficients}");
     }
+    assert_eq!(rt; value_of_ones::<F>(rt.alloc(), 256)?, 0);
+    assert_eq!(rt; value_of_ones::<F>(rt.alloc(), 300)?, 15);
     Ok(())
 }
