@@ -1,11 +1,14 @@
 ghost use Rattle.std.specs.Prelude.{◌≡◌, ◌<◌, ◌*◌, ℕ, List, length, slice_index, OnSome, IfNone};
 ghost use Rattle.std.specs.Option.{ForSome};
 ghost use Rattle.std.specs.Iterator.Adapters.{inner_items_left};
-ghost use Rattle.std.specs.Iterator.{IsFinite, UpTo, size};
-ghost use Rattle.p3_spaces.specs.Streams.{YieldsExactly, DrawnFrom, byte_stream, word_stream, InHand};
+ghost use Rattle.std.specs.Bool.{MatchBool};
+ghost use Rattle.std.specs.Iterator.{IsFinite, UpTo, size, count_map, count_unless};
+ghost use Rattle.std.proofs.Common.{arith};
+ghost use Rattle.p3_spaces.specs.Streams.{YieldsExactly, DrawnFrom, byte_stream, word_stream, little_endian, InHand, GathersGroup, ReadsGroup, group_count};
 
 use crate::array_chunks::next_chunk_padded;
 use crate::hints::{bytes_hint, held_hint, words_hint};
+use std::marker::PhantomData;
 
 /// A value that is written as a fixed number of bytes, for hashing. Upstream's
 /// `RawDataSerializable`.
@@ -69,9 +72,10 @@ pub trait RawDataSerializable: Sized {
         ensures drawn { DrawnFrom ⟦<U32Stream<ByteStream<I, Self::Bytes>> as Iterator>⟧.next_gives I.next_gives result input
             (λ words xs. words ≡ word_stream 4 (byte_stream bytes xs)) }
     {
-        U32Stream {
+        WordStream {
             source: Self::into_byte_stream(input),
             is_over: false,
+            of: PhantomData,
         }
     }
 
@@ -90,9 +94,10 @@ pub trait RawDataSerializable: Sized {
         ensures drawn { DrawnFrom ⟦<U64Stream<ByteStream<I, Self::Bytes>> as Iterator>⟧.next_gives I.next_gives result input
             (λ words xs. words ≡ word_stream 8 (byte_stream bytes xs)) }
     {
-        U64Stream {
+        WordStream {
             source: Self::into_byte_stream(input),
             is_over: false,
+            of: PhantomData,
         }
     }
 
@@ -143,85 +148,106 @@ impl<F: RawDataSerializable, I: Iterator<Item = F>> Iterator for ByteStream<I, F
     }
 }
 
-/// The bytes of an iterator in words of four, the lowest byte first.
-#[derive(Clone, Debug, Drop)]
-pub struct U32Stream<I> {
-    source: I,
-    is_over: bool,
+/// A word that is read from its bytes, the lowest first. This project's own.
+pub trait StreamWord: Copy {
+    /// How many bytes a word has.
+    const BYTES: usize;
+
+    ghost BYTES: { ℕ };
+
+    /// The word with these bytes.
+    ghost read: { List ℕ → Self };
+
+    /// A word has bytes.
+    ghost counted: { 0 < BYTES };
+
+    /// The word of the next bytes of `source`, filled up by zeros where these end first, as `next_chunk_padded`.
+    fn next_word<I: Iterator<Item = u8>>(source: &mut I, is_over: &mut bool) -> Option<Self>
+        requires { MatchBool is_over.old (Unit {0}) (I.can_next source.old × IsFinite (I.remaining source.old)) }
+        ensures gathers { ReadsGroup {T = I} read (λ s r t. GathersGroup I.next_gives BYTES 0 is_over.old s r is_over.new t) source.old result source.new }
+        ensures ready { OnSome result (MatchBool is_over.new (Unit {0}) (I.can_next source.new × IsFinite (I.remaining source.new))) }
+        ensures nearer { OnSome result (size (count_unless is_over.new (count_map (group_count BYTES) (I.remaining source.new)))
+            < size (count_unless is_over.old (count_map (group_count BYTES) (I.remaining source.old)))) };
 }
 
-impl<I: Iterator<Item = u8>> Iterator for U32Stream<I> {
-    ghost use Rattle.std.specs.Prelude.{Some, true, IfSome};
-    ghost use Rattle.std.specs.Bool.{MatchBool};
-    ghost use Rattle.std.specs.Iterator.{count_map, count_unless, UpTo};
-    ghost use Rattle.std.specs.Iterator.SizeHint.{IsWithinCount};
-    ghost use Rattle.p3_spaces.specs.Streams.{GathersGroup, group_count, ReadsGroup, little_endian};
+impl StreamWord for u32 {
+    const BYTES: usize = 4;
 
-    type Item = u32;
+    ghost BYTES = { 4 };
 
-    ghost can_next = { λ s. MatchBool s.is_over (Unit {0}) (I.can_next s.source × IsFinite (I.remaining s.source)) };
+    ghost read = { little_endian };
 
-    ghost next_gives = { ReadsGroup little_endian (λ s r t. GathersGroup I.next_gives 4 0 s.is_over s.source r t.is_over t.source) };
-
-    ghost remaining = { λ s. count_unless s.is_over (count_map (group_count 4) (I.remaining s.source)) };
+    ghost counted = { omega arith };
 
     #[inline]
-    fn next(&mut self) -> Option<u32> {
-        match next_chunk_padded(&mut self.source, &mut self.is_over, 0) {
+    fn next_word<I: Iterator<Item = u8>>(source: &mut I, is_over: &mut bool) -> Option<u32> {
+        match next_chunk_padded(source, is_over, 0) {
             None => None,
             Some(chunk) => Some(u32::from_le_bytes(chunk)),
         }
     }
-
-    /// The groups of 4 bytes of the source's hint, and nothing once the source has ended.
-    #[inline]
-    fn size_hint(&self) -> (usize, Option<usize>)
-        ensures lower { IsWithinCount result.0 (count_unless self.now.is_over (count_map (group_count 4) (I.remaining self.now.source))) }
-        ensures upper { IfSome result.1 (UpTo (count_unless self.now.is_over (count_map (group_count 4) (I.remaining self.now.source)))) }
-        ensures over { self.now.is_over ≡ true → result ≡ (0, Some 0) }
-    {
-        words_hint(self.is_over, 4, self.source.size_hint())
-    }
 }
 
-/// The bytes of an iterator in words of eight, the lowest byte first.
-#[derive(Clone, Debug, Drop)]
-pub struct U64Stream<I> {
-    source: I,
-    is_over: bool,
-}
+impl StreamWord for u64 {
+    const BYTES: usize = 8;
 
-impl<I: Iterator<Item = u8>> Iterator for U64Stream<I> {
-    ghost use Rattle.std.specs.Prelude.{Some, true, IfSome};
-    ghost use Rattle.std.specs.Bool.{MatchBool};
-    ghost use Rattle.std.specs.Iterator.{count_map, count_unless, UpTo};
-    ghost use Rattle.std.specs.Iterator.SizeHint.{IsWithinCount};
-    ghost use Rattle.p3_spaces.specs.Streams.{GathersGroup, group_count, ReadsGroup, little_endian};
+    ghost BYTES = { 8 };
 
-    type Item = u64;
+    ghost read = { little_endian };
 
-    ghost can_next = { λ s. MatchBool s.is_over (Unit {0}) (I.can_next s.source × IsFinite (I.remaining s.source)) };
-
-    ghost next_gives = { ReadsGroup little_endian (λ s r t. GathersGroup I.next_gives 8 0 s.is_over s.source r t.is_over t.source) };
-
-    ghost remaining = { λ s. count_unless s.is_over (count_map (group_count 8) (I.remaining s.source)) };
+    ghost counted = { omega arith };
 
     #[inline]
-    fn next(&mut self) -> Option<u64> {
-        match next_chunk_padded(&mut self.source, &mut self.is_over, 0) {
+    fn next_word<I: Iterator<Item = u8>>(source: &mut I, is_over: &mut bool) -> Option<u64> {
+        match next_chunk_padded(source, is_over, 0) {
             None => None,
             Some(chunk) => Some(u64::from_le_bytes(chunk)),
         }
     }
+}
 
-    /// The groups of 8 bytes of the source's hint, and nothing once the source has ended.
+/// The bytes of an iterator in words, the lowest byte first.
+#[derive(Clone, Debug, Drop)]
+pub struct WordStream<I, W> {
+    source: I,
+    is_over: bool,
+    of: PhantomData<W>,
+}
+
+/// The bytes of an iterator in words of four.
+pub type U32Stream<I> = WordStream<I, u32>;
+
+/// The bytes of an iterator in words of eight.
+pub type U64Stream<I> = WordStream<I, u64>;
+
+impl<I: Iterator<Item = u8>, W: StreamWord> Iterator for WordStream<I, W> {
+    ghost use Rattle.std.specs.Prelude.{Some, true, IfSome};
+    ghost use Rattle.std.specs.Bool.{MatchBool};
+    ghost use Rattle.std.specs.Iterator.{count_map, count_unless, UpTo};
+    ghost use Rattle.std.specs.Iterator.SizeHint.{IsWithinCount};
+    ghost use Rattle.p3_spaces.specs.Streams.{GathersGroup, group_count, ReadsGroup};
+
+    type Item = W;
+
+    ghost can_next = { λ s. MatchBool s.is_over (Unit {0}) (I.can_next s.source × IsFinite (I.remaining s.source)) };
+
+    ghost next_gives = { ReadsGroup W.read (λ s r t. GathersGroup I.next_gives W.BYTES 0 s.is_over s.source r t.is_over t.source) };
+
+    ghost remaining = { λ s. count_unless s.is_over (count_map (group_count W.BYTES) (I.remaining s.source)) };
+
+    #[inline]
+    fn next(&mut self) -> Option<W> {
+        W::next_word(&mut self.source, &mut self.is_over)
+    }
+
+    /// The groups of a word's bytes of the source's hint, and nothing once the source has ended.
     #[inline]
     fn size_hint(&self) -> (usize, Option<usize>)
-        ensures lower { IsWithinCount result.0 (count_unless self.now.is_over (count_map (group_count 8) (I.remaining self.now.source))) }
-        ensures upper { IfSome result.1 (UpTo (count_unless self.now.is_over (count_map (group_count 8) (I.remaining self.now.source)))) }
+        ensures lower { IsWithinCount result.0 (count_unless self.now.is_over (count_map (group_count W.BYTES) (I.remaining self.now.source))) }
+        ensures upper { IfSome result.1 (UpTo (count_unless self.now.is_over (count_map (group_count W.BYTES) (I.remaining self.now.source)))) }
         ensures over { self.now.is_over ≡ true → result ≡ (0, Some 0) }
     {
-        words_hint(self.is_over, 8, self.source.size_hint())
+        words_hint(self.is_over, W::BYTES, self.source.size_hint())
     }
 }
 
