@@ -107,6 +107,18 @@ fn blocks_by_vectors<W: Form<T>, T: Word>(count: usize) -> usize
     }
 }
 
+/// Writes the values over as many others, one after the other: of a copy at once the compiler would store the values
+/// twice.
+#[inline(always)]
+fn write_values<F: Copy, const N: usize>(out: &mut [F], values: &[F; N])
+    requires { length out.old ≡ N }
+    ensures { out.new ≡ values.now }
+{
+    for i in 0..N {
+        out[i] = values[i];
+    }
+}
+
 /// Multiplies each of sixteen values by that of the other slice at its index.
 #[inline(always)]
 fn multiply_block<W: Form<T>, T: Word>(left: &mut [Fp<W, T>], right: &[Fp<W, T>])
@@ -117,7 +129,7 @@ fn multiply_block<W: Form<T>, T: Word>(left: &mut [Fp<W, T>], right: &[Fp<W, T>]
     let x = <[Fp<W, T>; BLOCK]>::from_slice(left);
     let y = <[Fp<W, T>; BLOCK]>::from_slice(right);
     let products = lane_products::<W, T, BLOCK>(&x, &y);
-    left.copy_from_slice(&products);
+    write_values::<Fp<W, T>, BLOCK>(left, &products);
 }
 
 /// Multiplies each value by that of the other slice at its index: sixteen at a time where products go by vectors,

@@ -7,6 +7,7 @@ pub mod Recasts
 pub mod Reductions
 pub mod Rows
 pub mod RowProducts
+pub mod ShortRemainders
 pub mod SmallDotProducts
 pub mod SmallProducts
 pub mod SmallSums

@@ -1,17 +1,16 @@
 -- Sums of four products of words below 2^7, computed on halves of 16 bits.
-use Rattle.std.proofs.Common.{get_or, ◌≡◌, ℕ, ◌+◌, ◌*◌, ◌/◌, ◌%◌, ◌^◌, ◌<◌, ◌≤◌, List, [], ◌∷◌, length, map, suc, arith, ◌∙◌, sym, ap, ap₂, refl, subst, w16}
+use Rattle.std.proofs.Common.{get_or, ◌≡◌, ℕ, ◌+◌, ◌-◌, ◌*◌, ◌/◌, ◌%◌, ◌^◌, ◌<◌, ◌≤◌, List, [], ◌∷◌, length, map, suc, arith, ◌∙◌, sym, ap, ap₂, refl, subst, w16}
 use Rattle.std.proofs.Math.Nat.{mul-le-mul}
 use Rattle.std.proofs.lemmas.List.{take_all}
 use Rattle.std.proofs.lemmas.Simd.{pick_l-range_with_len}
 use Rattle.std.specs.Prelude.{All}
-use Rattle.p3_kernels.proofs.LaneOperations.{lane2, lane_by, width2, width_by}
+use Rattle.p3_kernels.proofs.LaneOperations.{lane2, width2}
 use Rattle.p3_kernels.proofs.Rows.{four_products}
 use Rattle.p3_kernels.specs.Words.{RowsAreBelow, dot_at, product_at}
-use Rattle.p3_kernels.proofs.SmallProducts.{halves_fit, high_is, joined_residues, low_is, remainder, times}
+use Rattle.p3_kernels.proofs.SmallProducts.{halves_most, high_is, joined_residues, low_is, product_most, times}
 use Rattle.p3_kernels.specs.Residues.{AreResidues}
 use Rattle.p3_theory.specs.ResidueRings.SumsOfProducts.{sum_of_products}
 use lib.Lanes.{zip2}
-use lib.ListN.{replicate}
 use borrow.Rule.Simd.Lanes.{act2}
 use borrow.Table.Row.{s_int}
 use mir.Syntax.{wrap_add}
@@ -36,19 +35,23 @@ module _ (n : ℕ) (a e b f : List ℕ) (wa : length a ≡ n) (we : length e ≡
 sum_is : (s t u v z : ℕ) → s ≡ u % 2 ^ 16 → t ≡ v % 2 ^ 16 → u + v ≡ z → z < 2 ^ 16 → (s + t) % 2 ^ 16 ≡ z
 sum_is s t u v z a b c l = omega (arith, a, b, c, l)
 
--- a sum of four, and its remainder
-module _ (n p : ℕ) (left right : List (List ℕ)) (s t : List ℕ) (ws : length s ≡ n) (wt : length t ≡ n) where
-  pub sums_width : length (zip2 remainder (zip2 plus s t) (replicate n p)) ≡ n
-  sums_width = width_by remainder n p (zip2 plus s t) (width2 plus n s t ws wt)
-
+-- a sum of four
+module _ (n : ℕ) (left right : List (List ℕ)) (s t : List ℕ) (ws : length s ≡ n) (wt : length t ≡ n) where
   pub sums_lane : length left ≡ 4 → length right ≡ 4 → ((k : ℕ) → k < n → dot_at left right k < 2 ^ 16)
       → ((k : ℕ) → k < n → get_or s k 0 ≡ (product_at (get_or left 0 []) (get_or right 0 []) k + product_at (get_or left 1 []) (get_or right 1 []) k) % 2 ^ 16)
       → ((k : ℕ) → k < n → get_or t k 0 ≡ (product_at (get_or left 2 []) (get_or right 2 []) k + product_at (get_or left 3 []) (get_or right 3 []) k) % 2 ^ 16)
-      → AreResidues n p (dot_at left right) (zip2 remainder (zip2 plus s t) (replicate n p))
+      → (k : ℕ) → k < n → get_or (zip2 plus s t) k 0 ≡ dot_at left right k
   sums_lane fl fr short es et k l =
-      lane_by remainder n p (zip2 plus s t) (width2 plus n s t ws wt) k l
-      ∙ ap (λ z. z % p) (lane2 plus n s t ws wt k l
-      ∙ sum_is (get_or s k 0) (get_or t k 0) _ _ (dot_at left right k) (es k l) (et k l) (four_products (λ row. get_or row k 0) [] left right fl fr) (short k l))
+      lane2 plus n s t ws wt k l
+      ∙ sum_is (get_or s k 0) (get_or t k 0) _ _ (dot_at left right k) (es k l) (et k l) (four_products (λ row. get_or row k 0) [] left right fl fr) (short k l)
+
+-- four times the greatest product of residues modulo p
+pub four_fit : (p m : ℕ) → p ≤ 2 ^ 7 → m ≡ (p - 1) * (p - 1) → 4 * m < 2 ^ 16
+four_fit p m h e =
+    let small : p - 1 ≤ 127 = omega (arith, h) in
+    let most : (p - 1) * (p - 1) ≤ 127 * 127 = mul-le-mul small small in
+    let bound : m ≤ 127 * 127 = subst (λ z. z ≤ 127 * 127) (sym e) most in
+    omega (arith, bound)
 
 -- the rows of a list of four, in turn
 pub four_rows : {A : Type 0} (d : A) (xs : List A) → length xs ≡ 4 → get_or xs 0 d ∷ get_or xs 1 d ∷ get_or xs 2 d ∷ get_or xs 3 d ∷ [] ≡ xs
@@ -93,23 +96,22 @@ module _ (n p : ℕ) (left right xs ys : List (List ℕ)) (fits : p ≤ 2 ^ 7) (
       ∙ ap₂ (sum_of_products (λ z. z)) (xo k l ∙ highs left a k l) (yo k l ∙ highs right b k l)
       ∙ sym (words_sum (λ row. 0) left right) ∙ zeros_sum left right
 
-  product_bound : length left ≡ 4 → length right ≡ 4 → (k : ℕ) → k < n → (j : ℕ) → j < 4 → product_at (get_or left j []) (get_or right j []) k ≤ 127 * 127
-  product_bound fl fr k l j h =
-      let x = a j [] (omega (arith, fl, h)) k l in
-      let y = b j [] (omega (arith, fr, h)) k l in
-      mul-le-mul (let f : get_or (get_or left j []) k 0 ≤ 127 = omega (arith, fits, x) in f) (let g : get_or (get_or right j []) k 0 ≤ 127 = omega (arith, fits, y) in g)
+  -- where m is the greatest product of two residues
+  module _ (m : ℕ) (greatest : m ≡ (p - 1) * (p - 1)) (fl : length left ≡ 4) (fr : length right ≡ 4) where
+    product_bound : (k : ℕ) → k < n → (j : ℕ) → j < 4 → product_at (get_or left j []) (get_or right j []) k ≤ m
+    product_bound k l j h = product_most p (get_or (get_or left j []) k 0) (get_or (get_or right j []) k 0) m greatest (a j [] (omega (arith, fl, h)) k l) (b j [] (omega (arith, fr, h)) k l)
 
-  dot_short : length left ≡ 4 → length right ≡ 4 → (k : ℕ) → k < n → dot_at left right k < 2 ^ 16
-  dot_short fl fr k l =
-      let bound = product_bound fl fr k l in
-      let first = bound 0 (omega arith) in
-      let second = bound 1 (omega arith) in
-      let third = bound 2 (omega arith) in
-      let fourth = bound 3 (omega arith) in
-      subst (λ z. z < 2 ^ 16) (four_products (λ row. get_or row k 0) [] left right fl fr) (omega (arith, first, second, third, fourth))
+    dot_most : (k : ℕ) → k < n → dot_at left right k ≤ 4 * m
+    dot_most k l =
+        let bound = product_bound k l in
+        let first = bound 0 (omega arith) in
+        let second = bound 1 (omega arith) in
+        let third = bound 2 (omega arith) in
+        let fourth = bound 3 (omega arith) in
+        subst (λ z. z ≤ 4 * m) (four_products (λ row. get_or row k 0) [] left right fl fr) (omega (arith, first, second, third, fourth))
 
-  pub half_sums_short : length left ≡ 4 → length right ≡ 4 → (k : ℕ) → k < 2 * n → dot_at xs ys k < 2 ^ 16
-  half_sums_short fl fr = halves_fit n p (dot_at left right) (dot_at xs ys) even_sum odd_sum (dot_short fl fr)
+    pub half_sums_most : (k : ℕ) → k < 2 * n → dot_at xs ys k ≤ 4 * m
+    half_sums_most = halves_most n p (dot_at left right) (dot_at xs ys) even_sum odd_sum (4 * m) dot_most
 
   pub joined_sums : (zs ws : List ℕ) → AreResidues (2 * n) p (dot_at xs ys) zs → ((k : ℕ) → k < n → get_or ws k 0 ≡ get_or zs (2 * k) 0 + 2 ^ 16 * get_or zs (2 * k + 1) 0)
       → AreResidues n p (dot_at left right) ws

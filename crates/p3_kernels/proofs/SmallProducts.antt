@@ -1,34 +1,21 @@
 -- Products of words below 2^8, computed on halves of 16 bits.
-use Rattle.std.proofs.Common.{get_or, ◌≡◌, ℕ, ◌+◌, ◌*◌, ◌/◌, ◌%◌, ◌^◌, ◌<◌, ◌≤◌, List, length, arith, ◌∙◌, sym, ap, subst, w16}
+use Rattle.std.proofs.Common.{get_or, ◌≡◌, ℕ, ◌+◌, ◌-◌, ◌*◌, ◌/◌, ◌%◌, ◌^◌, ◌<◌, ◌≤◌, List, length, arith, ◌∙◌, sym, ap, subst, w16}
 use Rattle.std.proofs.Math.Nat.{mod-eq_of_lt, mul-le-mul, zero-mod}
 use Rattle.p3_kernels.proofs.HalfLanes.{by_halves}
-use Rattle.p3_kernels.proofs.LaneOperations.{lane2, lane_by, width2, width_by}
+use Rattle.p3_kernels.proofs.LaneOperations.{lane2}
 use Rattle.p3_kernels.specs.Words.{AreBelow, product_at}
 use Rattle.p3_kernels.specs.Residues.{AreResidues}
 use lib.Lanes.{zip2}
-use lib.ListN.{replicate}
 use borrow.Rule.Simd.Lanes.{act2}
 use borrow.Table.Row.{s_int}
-use mir.Syntax.{rem, unsigned, wrap_mul}
+use mir.Syntax.{wrap_mul}
 
 abbrev pub times : ℕ → ℕ → ℕ
 times = act2 wrap_mul (s_int w16) (s_int w16) (s_int w16)
 
-abbrev pub remainder : ℕ → ℕ → ℕ
-remainder = act2 (rem unsigned) (s_int w16) (s_int w16) (s_int w16)
-
--- a product of 16 bits, and its remainder
-module _ (n p : ℕ) (xs ys : List ℕ) (a : length xs ≡ n) (b : length ys ≡ n) where
-  products_width : length (zip2 times xs ys) ≡ n
-  products_width = width2 times n xs ys a b
-
-  pub remainders_width : length (zip2 remainder (zip2 times xs ys) (replicate n p)) ≡ n
-  remainders_width = width_by remainder n p (zip2 times xs ys) products_width
-
-  pub remainder_lane : ((k : ℕ) → k < n → product_at xs ys k < 2 ^ 16) → (k : ℕ) → k < n → get_or (zip2 remainder (zip2 times xs ys) (replicate n p)) k 0 ≡ product_at xs ys k % p
-  remainder_lane short k l =
-      lane_by remainder n p (zip2 times xs ys) products_width k l
-      ∙ ap (λ z. z % p) (lane2 times n xs ys a b k l ∙ mod-eq_of_lt (short k l))
+-- the greatest product of two residues
+pub product_most : (p a b m : ℕ) → m ≡ (p - 1) * (p - 1) → a < p → b < p → a * b ≤ m
+product_most p a b m e h k = subst (λ z. a * b ≤ z) (sym e) (mul-le-mul (let f : a ≤ p - 1 = omega (arith, h) in f) (let g : b ≤ p - 1 = omega (arith, k) in g))
 
 pub product_short : (p a b : ℕ) → p ≤ 2 ^ 8 → a < p → b < p → a * b < 2 ^ 16
 product_short p a b h l m =
@@ -51,6 +38,12 @@ module _ (n p : ℕ) (number half : ℕ → ℕ) (even : (k : ℕ) → k < n →
       by_halves n (λ k. half k < 2 ^ 16)
       (λ k l. subst (λ z. z < 2 ^ 16) (sym (even k l)) (fit k l))
       (λ k l. subst (λ z. z < 2 ^ 16) (sym (odd k l)) (omega arith))
+
+  pub halves_most : (m : ℕ) → ((k : ℕ) → k < n → number k ≤ m) → (k : ℕ) → k < 2 * n → half k ≤ m
+  halves_most m most =
+      by_halves n (λ k. half k ≤ m)
+      (λ k l. subst (λ z. z ≤ m) (sym (even k l)) (most k l))
+      (λ k l. subst (λ z. z ≤ m) (sym (odd k l)) (omega arith))
 
   pub joined_residues : (zs ws : List ℕ) → AreResidues (2 * n) p half zs → ((k : ℕ) → k < n → get_or ws k 0 ≡ get_or zs (2 * k) 0 + 2 ^ 16 * get_or zs (2 * k + 1) 0)
       → AreResidues n p number ws
@@ -78,6 +71,11 @@ module _ (n p : ℕ) (left right xs ys : List ℕ) (fits : p ≤ 2 ^ 8) (a : Are
 
   pub halves_short : (k : ℕ) → k < 2 * n → product_at xs ys k < 2 ^ 16
   halves_short = halves_fit n p (product_at left right) (product_at xs ys) even_product odd_product (λ k l. product_short p (get_or left k 0) (get_or right k 0) fits (a k l) (b k l))
+
+  pub half_products_most : (m : ℕ) → m ≡ (p - 1) * (p - 1) → (k : ℕ) → k < 2 * n → product_at xs ys k ≤ m
+  half_products_most m e =
+      halves_most n p (product_at left right) (product_at xs ys) even_product odd_product m
+      (λ k l. product_most p (get_or left k 0) (get_or right k 0) m e (a k l) (b k l))
 
   pub joined_products : (zs ws : List ℕ) → AreResidues (2 * n) p (product_at xs ys) zs → ((k : ℕ) → k < n → get_or ws k 0 ≡ get_or zs (2 * k) 0 + 2 ^ 16 * get_or zs (2 * k + 1) 0)
       → AreResidues n p (product_at left right) ws

@@ -13,6 +13,7 @@ pub mod montgomery_slices;
 pub mod product_sums;
 pub mod residue_arrays;
 pub mod row_products;
+mod short_remainders;
 pub mod small_dot_products;
 pub mod small_products;
 pub mod small_row_products;

@@ -6,6 +6,8 @@ ghost use Rattle.p3_kernels.specs.Residues.{AreResidues, IsResidue};
 
 use crate::dot_product_slices::{load_rows_4, load_rows_8};
 use crate::halfwords::{halfwords_of_4, halfwords_of_8, join_halfwords_4, join_halfwords_8};
+use crate::short_remainders::short_remainders;
+use crate::small_products::greatest_product;
 use std::simd::prelude::*;
 
 /// The halves of the four words of each of four rows.
@@ -52,15 +54,16 @@ fn sums_of_two<const N: usize>(
     a * e + b * f
 }
 
-/// The sums of four products of words of 16 bits modulo an order, where they have 16 bits themselves.
+/// The sums of four products of words of 16 bits modulo an order, where they are at most `most`.
 #[inline(always)]
 fn short_sums<const N: usize>(
     left: [Simd<u16, N>; 4],
     right: [Simd<u16, N>; 4],
     order: u16,
+    most: u16,
 ) -> Simd<u16, N>
     requires some { 0 < order }
-    requires short { (k : ℕ) → k < N → dot_at left right k < 2 ^ 16 }
+    requires most { (k : ℕ) → k < N → dot_at left right k ≤ most }
     ensures width { length result ≡ N }
     ensures value { AreResidues N order (dot_at left.entry right.entry) result }
 {
@@ -68,7 +71,8 @@ fn short_sums<const N: usize>(
     let [e, f, g, h] = right;
     let first = sums_of_two::<N>(a, e, b, f);
     let last = sums_of_two::<N>(c, g, d, h);
-    (first + last) % Simd::splat(order)
+    let sums = first + last;
+    short_remainders::<N>(sums, order, most)
 }
 
 /// The sum of the four products modulo the order in each of four lanes.
@@ -82,7 +86,8 @@ pub fn small_dot_products_4(left: [u32x4; 4], right: [u32x4; 4], order: u32) -> 
 {
     let x = halves_of_rows_4(left);
     let y = halves_of_rows_4(right);
-    let sums = short_sums::<8>(x, y, order as u16);
+    let greatest = greatest_product(order as u16);
+    let sums = short_sums::<8>(x, y, order as u16, 4 * greatest);
     join_halfwords_4(sums)
 }
 
@@ -97,7 +102,8 @@ pub fn small_dot_products_8(left: [u32x8; 4], right: [u32x8; 4], order: u32) -> 
 {
     let x = halves_of_rows_8(left);
     let y = halves_of_rows_8(right);
-    let sums = short_sums::<16>(x, y, order as u16);
+    let greatest = greatest_product(order as u16);
+    let sums = short_sums::<16>(x, y, order as u16, 4 * greatest);
     join_halfwords_8(sums)
 }
 

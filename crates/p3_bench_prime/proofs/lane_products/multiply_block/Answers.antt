@@ -13,7 +13,7 @@ returns g c =
     let y = c.args.right.now in
     let products = c.lane_products-products.result in
     let alike : length x ≡ length y = c.requires.left ∙ sym c.requires.right in
-    c.copy_from_slice.ensures.after
+    c.write_values.ensures
     ∙ ext_get_or d products (zip_with mul x y) (c.lane_products-products.ensures.length ∙ sym (length-zip mul x y alike ∙ c.requires.left)) (λ k h.
     let below : k < 16 = subst (λ n. k < n) c.lane_products-products.ensures.length h in
     is_of (is g.W.Form) (get_or products k d) _

@@ -1,18 +1,21 @@
-use Rattle.std.proofs.Common.{◌≡◌, ℕ, ◌<◌, length, rules}
-use Rattle.std.proofs.lemmas.Simd.{Each1-all, Each2-splat}
-use Rattle.p3_kernels.proofs.SmallDotProducts.{sums_lane, sums_width}
+use Rattle.std.proofs.Common.{◌≡◌, ◌≤◌, ◌%◌, ◌∙◌, ap, arith, length, rules, subst, sym}
+use Rattle.p3_kernels.proofs.SmallDotProducts.{sums_lane}
 use Rattle.p3_kernels.proofs.small_dot_products.short_sums.Goals as goal
 
-pub nonzero_rem-result : goal.nonzero_rem-result
-nonzero_rem-result g c = Each2-splat (λ (a b : ℕ). 0 < b) _ g.row.N c.args.order (Each1-all (λ (a : ℕ). 0 < c.args.order) (λ a. c.requires.some) _)
-
-pub returns-clause-width : goal.returns-clause-width
-returns-clause-width g c =
-    sums_width g.row.N c.args.order c.args.left c.args.right c.sums_of_two-first.result c.sums_of_two-last.result c.sums_of_two-first.ensures.width c.sums_of_two-last.ensures.width
-
-pub returns-clause-value : goal.returns-clause-value
-returns-clause-value g c =
+pub short_remainders-requires : goal.short_remainders-requires
+short_remainders-requires g c =
     let four_left : length c.args.left ≡ 4 = search rules in
     let four_right : length c.args.right ≡ 4 = search rules in
-    sums_lane g.row.N c.args.order c.args.left c.args.right c.sums_of_two-first.result c.sums_of_two-last.result c.sums_of_two-first.ensures.width c.sums_of_two-last.ensures.width
-    four_left four_right c.requires.short c.sums_of_two-first.ensures.lanes c.sums_of_two-last.ensures.lanes
+    let sum =
+    sums_lane g.row.N c.args.left c.args.right c.sums_of_two-first.result c.sums_of_two-last.result c.sums_of_two-first.ensures.width c.sums_of_two-last.ensures.width
+    four_left four_right (λ j h. let m = c.requires.most j h in omega (arith, m)) c.sums_of_two-first.ensures.lanes c.sums_of_two-last.ensures.lanes in
+    (omega arith, (c.requires.some, λ k l. subst (λ z. z ≤ c.args.most) (sym (sum k l)) (c.requires.most k l)))
+
+pub returns-clause-value : goal.returns-clause-value
+returns-clause-value g c k l =
+    let four_left : length c.args.left ≡ 4 = search rules in
+    let four_right : length c.args.right ≡ 4 = search rules in
+    let sum =
+    sums_lane g.row.N c.args.left c.args.right c.sums_of_two-first.result c.sums_of_two-last.result c.sums_of_two-first.ensures.width c.sums_of_two-last.ensures.width
+    four_left four_right (λ j h. let m = c.requires.most j h in omega (arith, m)) c.sums_of_two-first.ensures.lanes c.sums_of_two-last.ensures.lanes in
+    c.short_remainders.ensures.lanes k l ∙ ap (λ z. z % c.args.order) (sum k l)

@@ -1,13 +1,13 @@
-use Rattle.std.proofs.Common.{ℕ, ◌<◌}
-use Rattle.std.proofs.lemmas.Simd.{Each1-all, Each2-splat}
-use Rattle.p3_kernels.proofs.SmallProducts.{remainder_lane, remainders_width}
+use Rattle.std.proofs.Common.{◌≤◌, ◌%◌, ◌∙◌, ap, arith, subst, sym}
+use Rattle.p3_kernels.proofs.SmallProducts.{exact_lane}
 use Rattle.p3_kernels.proofs.small_products.short_products.Goals as goal
 
-pub nonzero_rem-result : goal.nonzero_rem-result
-nonzero_rem-result g c = Each2-splat (λ (a b : ℕ). 0 < b) _ g.row.N c.args.order (Each1-all (λ (a : ℕ). 0 < c.args.order) (λ a. c.requires.some) _)
-
-pub returns-clause-width : goal.returns-clause-width
-returns-clause-width g c = remainders_width g.row.N c.args.order c.args.left c.args.right c.fits-left.0 c.fits-right.0
+pub short_remainders-requires : goal.short_remainders-requires
+short_remainders-requires g c =
+    let short = exact_lane g.row.N c.args.left c.args.right c.fits-left.0 c.fits-right.0 (λ j h. let m = c.requires.most j h in omega (arith, m)) in
+    (omega arith, (c.requires.some, λ k l. subst (λ z. z ≤ c.args.most) (sym (short k l)) (c.requires.most k l)))
 
 pub returns-clause-value : goal.returns-clause-value
-returns-clause-value g c = remainder_lane g.row.N c.args.order c.args.left c.args.right c.fits-left.0 c.fits-right.0 c.requires.short
+returns-clause-value g c k l =
+    let short = exact_lane g.row.N c.args.left c.args.right c.fits-left.0 c.fits-right.0 (λ j h. let m = c.requires.most j h in omega (arith, m)) in
+    c.short_remainders.ensures.lanes k l ∙ ap (λ z. z % c.args.order) (short k l)

@@ -1,5 +1,5 @@
 use Rattle.std.proofs.Common.{arith}
-use Rattle.p3_kernels.proofs.SmallProducts.{halves_short, joined_products}
+use Rattle.p3_kernels.proofs.SmallProducts.{half_products_most, joined_products}
 use Rattle.p3_kernels.proofs.small_products.small_products_4.Goals as goal
 
 pub short_products-products-requires : goal.short_products-products-requires
@@ -7,8 +7,9 @@ short_products-products-requires c = (
   omega arith,
   (
     (let b = c.requires.left 0 (omega arith) in omega (arith, b)),
-    halves_short 4 c.args.order c.args.left c.args.right c.halfwords_of_4-x.result c.halfwords_of_4-y.result c.requires.fits c.requires.left c.requires.right
-        c.halfwords_of_4-x.ensures.even c.halfwords_of_4-x.ensures.odd c.halfwords_of_4-y.ensures.even c.halfwords_of_4-y.ensures.odd,
+    half_products_most 4 c.args.order c.args.left c.args.right c.halfwords_of_4-x.result c.halfwords_of_4-y.result c.requires.fits c.requires.left c.requires.right
+        c.halfwords_of_4-x.ensures.even c.halfwords_of_4-x.ensures.odd c.halfwords_of_4-y.ensures.even c.halfwords_of_4-y.ensures.odd
+        c.greatest_product-most.result c.greatest_product-most.ensures,
   ),
 )
 
