@@ -177,11 +177,11 @@ slice_get-tabulate (suc n) s (suc j) h = slice_get-tabulate n (λ i. s (suc i)) 
 
 -- the words that groups of m rows of bytes make are the words of the columns
 pub parallel_words : (n m count : ℕ) (stream : ℕ → List ℕ) (rows : List (List ℕ)) → AreParallel n count stream rows
-    → AreParallel n (group_count m count) (λ j. word_stream m (stream j)) (map (row_words little_endian n) (groups m (replicate n 0) rows))
+    → AreParallel n (group_count m count) (λ j. word_stream m (stream j)) (map (row_words n) (groups m (replicate n 0) rows))
 parallel_words n m count stream rows p =
-    let whole : map (row_words little_endian n) (groups m (replicate n 0) rows) ≡ tabulate (group_count m (length rows)) (λ i. row_words little_endian n (group m (replicate n 0) rows i)) =
-    map-tabulate (row_words little_endian n) (group_count m (length rows)) (group m (replicate n 0) rows) in
-    let words = λ (i : ℕ). row_words little_endian n (group m (replicate n 0) rows i) in
+    let whole : map (row_words n) (groups m (replicate n 0) rows) ≡ tabulate (group_count m (length rows)) (λ i. row_words n (group m (replicate n 0) rows i)) =
+    map-tabulate (row_words n) (group_count m (length rows)) (group m (replicate n 0) rows) in
+    let words = λ (i : ℕ). row_words n (group m (replicate n 0) rows i) in
     record {
       counted = ap length whole ∙ length-tabulate (group_count m (length rows)) words ∙ ap (group_count m) p.counted;
       widths = let P : List (List ℕ) → Type 0 = AllOfLength n in subst P (sym whole) (widths-tabulate n (group_count m (length rows)) words (λ i. length-tabulate n _));

@@ -1,12 +1,10 @@
-ghost use Rattle.std.specs.Prelude.{◌≡◌, ◌<◌, ◌≤◌, ◌*◌, ℕ, List, [], ◌∷◌, length, map, replicate, slice_index, MatchOption, OnSome, IfNone};
-ghost use Rattle.std.specs.Bool.{MatchBool};
-ghost use Rattle.std.specs.Iterator.{IsFinite, size, count_map, count_unless};
-ghost use Rattle.p3_spaces.specs.Streams.{YieldsExactly, DrawnFrom, AllOfLength, AreParallel, column, byte_stream, row_bytes, left_of, word_stream, group_count, GathersGroup, ReadsGroup, row_words};
+ghost use Rattle.std.specs.Prelude.{◌≡◌, ◌<◌, ◌≤◌, ◌*◌, ℕ, List, [], ◌∷◌, length, map, slice_index, MatchOption, IfNone};
+ghost use Rattle.std.specs.Iterator.{IsFinite};
+ghost use Rattle.p3_spaces.specs.Streams.{YieldsExactly, DrawnFrom, AllOfLength, AreParallel, column, byte_stream, row_bytes, left_of, word_stream, group_count};
 
 use p3_spaces::array_chunks::next_chunk_padded;
 use p3_spaces::hints::{bytes_hint, words_hint};
-use p3_spaces::streams::{RawDataSerializable, StreamWord};
-use std::marker::PhantomData;
+use p3_spaces::streams::RawDataSerializable;
 
 /// The bytes of rows of N values side by side: index j of an item is the next byte of the stream of
 /// the j-th values. Upstream's `RawDataSerializable::into_parallel_byte_streams`.
@@ -51,10 +49,9 @@ pub fn into_parallel_u32_streams<
     ensures drawn { DrawnFrom ⟦<ParallelU32Streams<ParallelByteStreams<I, F, N>, N> as Iterator>⟧.next_gives I.next_gives result input (λ items rows.
         AllOfLength N rows → AreParallel N (group_count 4 (F.NUM_BYTES * length rows)) (λ j. word_stream 4 (byte_stream F.bytes (column j rows))) items) }
 {
-    ParallelWordStreams {
+    ParallelU32Streams {
         source: into_parallel_byte_streams(input),
         is_over: false,
-        of: PhantomData,
     }
 }
 
@@ -76,10 +73,9 @@ pub fn into_parallel_u64_streams<
     ensures drawn { DrawnFrom ⟦<ParallelU64Streams<ParallelByteStreams<I, F, N>, N> as Iterator>⟧.next_gives I.next_gives result input (λ items rows.
         AllOfLength N rows → AreParallel N (group_count 8 (F.NUM_BYTES * length rows)) (λ j. word_stream 8 (byte_stream F.bytes (column j rows))) items) }
 {
-    ParallelWordStreams {
+    ParallelU64Streams {
         source: into_parallel_byte_streams(input),
         is_over: false,
-        of: PhantomData,
     }
 }
 
@@ -189,28 +185,35 @@ fn bytes_at<F: RawDataSerializable + Copy, const N: usize>(values: &[F; N], i: u
     bytes
 }
 
-/// A word that is read side by side from rows of bytes. This project's own.
-pub trait ParallelWord: StreamWord {
-    /// The words of the next rows of bytes of `source`, filled up by rows of zeros where these end first, as
-    /// `next_chunk_padded`.
-    fn next_words<I: Iterator<Item = [u8; N]>, const N: usize>(
-        source: &mut I,
-        is_over: &mut bool,
-    ) -> Option<[Self; N]>
-        requires { MatchBool is_over.old (Unit {0}) (I.can_next source.old × IsFinite (I.remaining source.old)) }
-        ensures gathers { ReadsGroup {T = I} (row_words Self.read N) (λ s r t. GathersGroup I.next_gives Self.BYTES (replicate N 0) is_over.old s r is_over.new t) source.old result source.new }
-        ensures ready { OnSome result (MatchBool is_over.new (Unit {0}) (I.can_next source.new × IsFinite (I.remaining source.new))) }
-        ensures nearer { OnSome result (size (count_unless is_over.new (count_map (group_count Self.BYTES) (I.remaining source.new)))
-            < size (count_unless is_over.old (count_map (group_count Self.BYTES) (I.remaining source.old)))) };
+/// Rows of bytes in rows of words of four, the lowest byte first.
+#[derive(Clone, Debug, Drop)]
+pub struct ParallelU32Streams<I, const N: usize> {
+    source: I,
+    is_over: bool,
 }
 
-impl ParallelWord for u32 {
+impl<I: Iterator<Item = [u8; N]>, const N: usize> Iterator for ParallelU32Streams<I, N> {
+    ghost use Rattle.std.specs.Prelude.{replicate, Some, true, IfSome};
+    ghost use Rattle.std.specs.Bool.{MatchBool};
+    ghost use Rattle.std.specs.Iterator.{count_map, count_unless, UpTo};
+    ghost use Rattle.std.specs.Iterator.SizeHint.{IsWithinCount};
+    ghost use Rattle.p3_spaces.specs.Streams.{GathersGroup, group_count, ReadsGroup, row_words};
+
+    type Item = [u32; N];
+
+    ghost can_next = { λ s. MatchBool s.is_over (Unit {0}) (I.can_next s.source × IsFinite (I.remaining s.source)) };
+
+    ghost next_gives = { ReadsGroup (row_words N) (λ s r t. GathersGroup I.next_gives 4 (replicate N 0) s.is_over s.source r t.is_over t.source) };
+
+    ghost remaining = { λ s. count_unless s.is_over (count_map (group_count 4) (I.remaining s.source)) };
+
     #[inline]
-    fn next_words<I: Iterator<Item = [u8; N]>, const N: usize>(
-        source: &mut I,
-        is_over: &mut bool,
-    ) -> Option<[u32; N]> {
-        let chunk: [[u8; N]; 4] = match next_chunk_padded(source, is_over, [0; N]) {
+    fn next(&mut self) -> Option<[u32; N]> {
+        let chunk: [[u8; N]; 4] = match next_chunk_padded(
+            &mut self.source,
+            &mut self.is_over,
+            [0; N],
+        ) {
             None => return None,
             Some(chunk) => chunk,
         };
@@ -220,15 +223,47 @@ impl ParallelWord for u32 {
         }
         Some(words)
     }
+
+    /// The groups of 4 bytes of the source's hint, and nothing once the source has ended.
+    #[inline]
+    fn size_hint(&self) -> (usize, Option<usize>)
+        ensures lower { IsWithinCount result.0 (count_unless self.now.is_over (count_map (group_count 4) (I.remaining self.now.source))) }
+        ensures upper { IfSome result.1 (UpTo (count_unless self.now.is_over (count_map (group_count 4) (I.remaining self.now.source)))) }
+        ensures over { self.now.is_over ≡ true → result ≡ (0, Some 0) }
+    {
+        words_hint(self.is_over, 4, self.source.size_hint())
+    }
 }
 
-impl ParallelWord for u64 {
+/// Rows of bytes in rows of words of eight, the lowest byte first.
+#[derive(Clone, Debug, Drop)]
+pub struct ParallelU64Streams<I, const N: usize> {
+    source: I,
+    is_over: bool,
+}
+
+impl<I: Iterator<Item = [u8; N]>, const N: usize> Iterator for ParallelU64Streams<I, N> {
+    ghost use Rattle.std.specs.Prelude.{replicate, Some, true, IfSome};
+    ghost use Rattle.std.specs.Bool.{MatchBool};
+    ghost use Rattle.std.specs.Iterator.{count_map, count_unless, UpTo};
+    ghost use Rattle.std.specs.Iterator.SizeHint.{IsWithinCount};
+    ghost use Rattle.p3_spaces.specs.Streams.{GathersGroup, group_count, ReadsGroup, row_words};
+
+    type Item = [u64; N];
+
+    ghost can_next = { λ s. MatchBool s.is_over (Unit {0}) (I.can_next s.source × IsFinite (I.remaining s.source)) };
+
+    ghost next_gives = { ReadsGroup (row_words N) (λ s r t. GathersGroup I.next_gives 8 (replicate N 0) s.is_over s.source r t.is_over t.source) };
+
+    ghost remaining = { λ s. count_unless s.is_over (count_map (group_count 8) (I.remaining s.source)) };
+
     #[inline]
-    fn next_words<I: Iterator<Item = [u8; N]>, const N: usize>(
-        source: &mut I,
-        is_over: &mut bool,
-    ) -> Option<[u64; N]> {
-        let chunk: [[u8; N]; 8] = match next_chunk_padded(source, is_over, [0; N]) {
+    fn next(&mut self) -> Option<[u64; N]> {
+        let chunk: [[u8; N]; 8] = match next_chunk_padded(
+            &mut self.source,
+            &mut self.is_over,
+            [0; N],
+        ) {
             None => return None,
             Some(chunk) => chunk,
         };
@@ -238,49 +273,15 @@ impl ParallelWord for u64 {
         }
         Some(words)
     }
-}
 
-/// Rows of bytes in rows of words, the lowest byte first.
-#[derive(Clone, Debug, Drop)]
-pub struct ParallelWordStreams<I, W, const N: usize> {
-    source: I,
-    is_over: bool,
-    of: PhantomData<W>,
-}
-
-/// Rows of bytes in rows of words of four.
-pub type ParallelU32Streams<I, const N: usize> = ParallelWordStreams<I, u32, N>;
-
-/// Rows of bytes in rows of words of eight.
-pub type ParallelU64Streams<I, const N: usize> = ParallelWordStreams<I, u64, N>;
-
-impl<I: Iterator<Item = [u8; N]>, W: ParallelWord, const N: usize> Iterator
-    for ParallelWordStreams<I, W, N> {
-    ghost use Rattle.std.specs.Prelude.{Some, true, IfSome};
-    ghost use Rattle.std.specs.Iterator.{UpTo};
-    ghost use Rattle.std.specs.Iterator.SizeHint.{IsWithinCount};
-
-    type Item = [W; N];
-
-    ghost can_next = { λ s. MatchBool s.is_over (Unit {0}) (I.can_next s.source × IsFinite (I.remaining s.source)) };
-
-    ghost next_gives = { ReadsGroup (row_words W.read N) (λ s r t. GathersGroup I.next_gives W.BYTES (replicate N 0) s.is_over s.source r t.is_over t.source) };
-
-    ghost remaining = { λ s. count_unless s.is_over (count_map (group_count W.BYTES) (I.remaining s.source)) };
-
-    #[inline]
-    fn next(&mut self) -> Option<[W; N]> {
-        W::next_words(&mut self.source, &mut self.is_over)
-    }
-
-    /// The groups of a word's bytes of the source's hint, and nothing once the source has ended.
+    /// The groups of 8 bytes of the source's hint, and nothing once the source has ended.
     #[inline]
     fn size_hint(&self) -> (usize, Option<usize>)
-        ensures lower { IsWithinCount result.0 (count_unless self.now.is_over (count_map (group_count W.BYTES) (I.remaining self.now.source))) }
-        ensures upper { IfSome result.1 (UpTo (count_unless self.now.is_over (count_map (group_count W.BYTES) (I.remaining self.now.source)))) }
+        ensures lower { IsWithinCount result.0 (count_unless self.now.is_over (count_map (group_count 8) (I.remaining self.now.source))) }
+        ensures upper { IfSome result.1 (UpTo (count_unless self.now.is_over (count_map (group_count 8) (I.remaining self.now.source)))) }
         ensures over { self.now.is_over ≡ true → result ≡ (0, Some 0) }
     {
-        words_hint(self.is_over, W::BYTES, self.source.size_hint())
+        words_hint(self.is_over, 8, self.source.size_hint())
     }
 }
 

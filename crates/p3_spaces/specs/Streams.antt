@@ -111,9 +111,9 @@ pub record AreParallel {A : Type 0} (n count : ℕ) (stream : ℕ → List A) (r
 abbrev pub row_bytes : {A : Type 0} → (A → List ℕ) → ℕ → List A → List (List ℕ)
 row_bytes bytes n row = tabulate n (λ i. map (λ x. slice_index (bytes x) i) row)
 
--- the words that are read from the bytes at each entry of some rows of n bytes
-abbrev pub row_words : {A : Type 0} → (List ℕ → A) → ℕ → List (List ℕ) → List A
-row_words read n rows = tabulate n (λ j. read (map (λ row. slice_index row j) rows))
+-- the words that the bytes at each entry of some rows of n bytes make, the lowest byte first
+abbrev pub row_words : ℕ → List (List ℕ) → List ℕ
+row_words n rows = tabulate n (λ j. little_endian (map (λ row. slice_index row j) rows))
 
 -- a call with a source s and a list held, which leaves t and `held'`: it draws items, and what it gives is their lists
 abbrev pub TakesFirst : {S F B : Type 0} → (S → Option F → S → Type 0) → (F → List B) → S → List B → Option B → S → List B → Type 0
