@@ -1,10 +1,12 @@
-ghost use Rattle.std.specs.Prelude.{◌≡◌, ◌<◌, ◌≤◌, ◌*◌, ℕ, List, [], ◌∷◌, length, map, slice_index, MatchOption, IfNone};
-ghost use Rattle.std.specs.Iterator.{IsFinite};
-ghost use Rattle.p3_spaces.specs.Streams.{YieldsExactly, DrawnFrom, AllOfLength, AreParallel, column, byte_stream, row_bytes, left_of, word_stream, group_count};
+ghost use Rattle.std.specs.Prelude.{◌≡◌, ◌<◌, ◌≤◌, ◌*◌, ℕ, List, [], ◌∷◌, length, map, replicate, slice_index, MatchOption, OnSome, IfNone};
+ghost use Rattle.std.specs.Bool.{MatchBool};
+ghost use Rattle.std.specs.Iterator.{IsFinite, size, count_map, count_unless};
+ghost use Rattle.p3_spaces.specs.Streams.{YieldsExactly, DrawnFrom, AllOfLength, AreParallel, column, byte_stream, row_bytes, left_of, word_stream, group_count, GathersGroup, ReadsGroup, row_words};
 
 use p3_spaces::array_chunks::next_chunk_padded;
 use p3_spaces::hints::{bytes_hint, words_hint};
-use p3_spaces::streams::RawDataSerializable;
+use p3_spaces::streams::{RawDataSerializable, StreamWord};
+use std::marker::PhantomData;
 
 /// The bytes of rows of N values side by side: index j of an item is the next byte of the stream of
 /// the j-th values. Upstream's `RawDataSerializable::into_parallel_byte_streams`.
@@ -49,9 +51,10 @@ pub fn into_parallel_u32_streams<
     ensures drawn { DrawnFrom ⟦<ParallelU32Streams<ParallelByteStreams<I, F, N>, N> as Iterator>⟧.next_gives I.next_gives result input (λ items rows.
         AllOfLength N rows → AreParallel N (group_count 4 (F.NUM_BYTES * length rows)) (λ j. word_stream 4 (byte_stream F.bytes (column j rows))) items) }
 {
-    ParallelU32Streams {
+    ParallelWordStreams {
         source: into_parallel_byte_streams(input),
         is_over: false,
+        of: PhantomData,
     }
 }
 
@@ -73,9 +76,10 @@ pub fn into_parallel_u64_streams<
     ensures drawn { DrawnFrom ⟦<ParallelU64Streams<ParallelByteStreams<I, F, N>, N> as Iterator>⟧.next_gives I.next_gives result input (λ items rows.
         AllOfLength N rows → AreParallel N (group_count 8 (F.NUM_BYTES * length rows)) (λ j. word_stream 8 (byte_stream F.bytes (column j rows))) items) }
 {
-    ParallelU64Streams {
+    ParallelWordStreams {
         source: into_parallel_byte_streams(input),
         is_over: false,
+        of: PhantomData,
     }
 }
 
@@ -185,35 +189,48 @@ fn bytes_at<F: RawDataSerializable + Copy, const N: usize>(values: &[F; N], i: u
     bytes
 }
 
-/// Rows of bytes in rows of words of four, the lowest byte first.
-#[derive(Clone, Debug, Drop)]
-pub struct ParallelU32Streams<I, const N: usize> {
-    source: I,
-    is_over: bool,
+/// A word of which N are read side by side. This project's own.
+pub trait ParallelWord<const N: usize>: StreamWord {
+    /// A row of N bytes.
+    type Bytes: Copy;
+
+    /// A row of N words.
+    type Words;
+
+    /// The row of zeros.
+    ghost zeros: { Self.Bytes };
+
+    /// The row of words that is read from rows of bytes.
+    ghost words: { List Self.Bytes → Self.Words };
+
+    /// The words of the next rows of bytes of `source`, filled up by rows of zeros where these end first, as
+    /// `next_chunk_padded`.
+    fn next_words<I: Iterator<Item = Self::Bytes>>(
+        source: &mut I,
+        is_over: &mut bool,
+    ) -> Option<Self::Words>
+        requires { MatchBool is_over.old (Unit {0}) (I.can_next source.old × IsFinite (I.remaining source.old)) }
+        ensures gathers { ReadsGroup {T = I} words (λ s r t. GathersGroup I.next_gives Self.BYTES zeros is_over.old s r is_over.new t) source.old result source.new }
+        ensures ready { OnSome result (MatchBool is_over.new (Unit {0}) (I.can_next source.new × IsFinite (I.remaining source.new))) }
+        ensures nearer { OnSome result (size (count_unless is_over.new (count_map (group_count Self.BYTES) (I.remaining source.new)))
+            < size (count_unless is_over.old (count_map (group_count Self.BYTES) (I.remaining source.old)))) };
 }
 
-impl<I: Iterator<Item = [u8; N]>, const N: usize> Iterator for ParallelU32Streams<I, N> {
-    ghost use Rattle.std.specs.Prelude.{replicate, Some, true, IfSome};
-    ghost use Rattle.std.specs.Bool.{MatchBool};
-    ghost use Rattle.std.specs.Iterator.{count_map, count_unless, UpTo};
-    ghost use Rattle.std.specs.Iterator.SizeHint.{IsWithinCount};
-    ghost use Rattle.p3_spaces.specs.Streams.{GathersGroup, group_count, ReadsGroup, row_words};
+impl<const N: usize> ParallelWord<N> for u32 {
+    type Bytes = [u8; N];
 
-    type Item = [u32; N];
+    type Words = [u32; N];
 
-    ghost can_next = { λ s. MatchBool s.is_over (Unit {0}) (I.can_next s.source × IsFinite (I.remaining s.source)) };
+    ghost zeros = { replicate N 0 };
 
-    ghost next_gives = { ReadsGroup (row_words N) (λ s r t. GathersGroup I.next_gives 4 (replicate N 0) s.is_over s.source r t.is_over t.source) };
-
-    ghost remaining = { λ s. count_unless s.is_over (count_map (group_count 4) (I.remaining s.source)) };
+    ghost words = { row_words N };
 
     #[inline]
-    fn next(&mut self) -> Option<[u32; N]> {
-        let chunk: [[u8; N]; 4] = match next_chunk_padded(
-            &mut self.source,
-            &mut self.is_over,
-            [0; N],
-        ) {
+    fn next_words<I: Iterator<Item = [u8; N]>>(
+        source: &mut I,
+        is_over: &mut bool,
+    ) -> Option<[u32; N]> {
+        let chunk: [[u8; N]; 4] = match next_chunk_padded(source, is_over, [0; N]) {
             None => return None,
             Some(chunk) => chunk,
         };
@@ -223,47 +240,23 @@ impl<I: Iterator<Item = [u8; N]>, const N: usize> Iterator for ParallelU32Stream
         }
         Some(words)
     }
-
-    /// The groups of 4 bytes of the source's hint, and nothing once the source has ended.
-    #[inline]
-    fn size_hint(&self) -> (usize, Option<usize>)
-        ensures lower { IsWithinCount result.0 (count_unless self.now.is_over (count_map (group_count 4) (I.remaining self.now.source))) }
-        ensures upper { IfSome result.1 (UpTo (count_unless self.now.is_over (count_map (group_count 4) (I.remaining self.now.source)))) }
-        ensures over { self.now.is_over ≡ true → result ≡ (0, Some 0) }
-    {
-        words_hint(self.is_over, 4, self.source.size_hint())
-    }
 }
 
-/// Rows of bytes in rows of words of eight, the lowest byte first.
-#[derive(Clone, Debug, Drop)]
-pub struct ParallelU64Streams<I, const N: usize> {
-    source: I,
-    is_over: bool,
-}
+impl<const N: usize> ParallelWord<N> for u64 {
+    type Bytes = [u8; N];
 
-impl<I: Iterator<Item = [u8; N]>, const N: usize> Iterator for ParallelU64Streams<I, N> {
-    ghost use Rattle.std.specs.Prelude.{replicate, Some, true, IfSome};
-    ghost use Rattle.std.specs.Bool.{MatchBool};
-    ghost use Rattle.std.specs.Iterator.{count_map, count_unless, UpTo};
-    ghost use Rattle.std.specs.Iterator.SizeHint.{IsWithinCount};
-    ghost use Rattle.p3_spaces.specs.Streams.{GathersGroup, group_count, ReadsGroup, row_words};
+    type Words = [u64; N];
 
-    type Item = [u64; N];
+    ghost zeros = { replicate N 0 };
 
-    ghost can_next = { λ s. MatchBool s.is_over (Unit {0}) (I.can_next s.source × IsFinite (I.remaining s.source)) };
-
-    ghost next_gives = { ReadsGroup (row_words N) (λ s r t. GathersGroup I.next_gives 8 (replicate N 0) s.is_over s.source r t.is_over t.source) };
-
-    ghost remaining = { λ s. count_unless s.is_over (count_map (group_count 8) (I.remaining s.source)) };
+    ghost words = { row_words N };
 
     #[inline]
-    fn next(&mut self) -> Option<[u64; N]> {
-        let chunk: [[u8; N]; 8] = match next_chunk_padded(
-            &mut self.source,
-            &mut self.is_over,
-            [0; N],
-        ) {
+    fn next_words<I: Iterator<Item = [u8; N]>>(
+        source: &mut I,
+        is_over: &mut bool,
+    ) -> Option<[u64; N]> {
+        let chunk: [[u8; N]; 8] = match next_chunk_padded(source, is_over, [0; N]) {
             None => return None,
             Some(chunk) => chunk,
         };
@@ -273,15 +266,49 @@ impl<I: Iterator<Item = [u8; N]>, const N: usize> Iterator for ParallelU64Stream
         }
         Some(words)
     }
+}
 
-    /// The groups of 8 bytes of the source's hint, and nothing once the source has ended.
+/// Rows of bytes in rows of words, the lowest byte first.
+#[derive(Clone, Debug, Drop)]
+pub struct ParallelWordStreams<I, W, const N: usize> {
+    source: I,
+    is_over: bool,
+    of: PhantomData<W>,
+}
+
+/// Rows of bytes in rows of words of four.
+pub type ParallelU32Streams<I, const N: usize> = ParallelWordStreams<I, u32, N>;
+
+/// Rows of bytes in rows of words of eight.
+pub type ParallelU64Streams<I, const N: usize> = ParallelWordStreams<I, u64, N>;
+
+impl<W: ParallelWord<N>, I: Iterator<Item = W::Bytes>, const N: usize> Iterator
+    for ParallelWordStreams<I, W, N> {
+    ghost use Rattle.std.specs.Prelude.{Some, true, IfSome};
+    ghost use Rattle.std.specs.Iterator.{UpTo};
+    ghost use Rattle.std.specs.Iterator.SizeHint.{IsWithinCount};
+
+    type Item = W::Words;
+
+    ghost can_next = { λ s. MatchBool s.is_over (Unit {0}) (I.can_next s.source × IsFinite (I.remaining s.source)) };
+
+    ghost next_gives = { ReadsGroup W.words (λ s r t. GathersGroup I.next_gives W.BYTES W.zeros s.is_over s.source r t.is_over t.source) };
+
+    ghost remaining = { λ s. count_unless s.is_over (count_map (group_count W.BYTES) (I.remaining s.source)) };
+
+    #[inline]
+    fn next(&mut self) -> Option<W::Words> {
+        W::next_words(&mut self.source, &mut self.is_over)
+    }
+
+    /// The groups of a word's bytes of the source's hint, and nothing once the source has ended.
     #[inline]
     fn size_hint(&self) -> (usize, Option<usize>)
-        ensures lower { IsWithinCount result.0 (count_unless self.now.is_over (count_map (group_count 8) (I.remaining self.now.source))) }
-        ensures upper { IfSome result.1 (UpTo (count_unless self.now.is_over (count_map (group_count 8) (I.remaining self.now.source)))) }
+        ensures lower { IsWithinCount result.0 (count_unless self.now.is_over (count_map (group_count W.BYTES) (I.remaining self.now.source))) }
+        ensures upper { IfSome result.1 (UpTo (count_unless self.now.is_over (count_map (group_count W.BYTES) (I.remaining self.now.source)))) }
         ensures over { self.now.is_over ≡ true → result ≡ (0, Some 0) }
     {
-        words_hint(self.is_over, 8, self.source.size_hint())
+        words_hint(self.is_over, W::BYTES, self.source.size_hint())
     }
 }
 

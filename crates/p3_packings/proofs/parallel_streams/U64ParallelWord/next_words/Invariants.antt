@@ -1,6 +1,6 @@
 use Rattle.std.proofs.Common.{◌≡◌, ◌<◌, ℕ, length, map, slice_index}
 use Rattle.p3_spaces.specs.Streams.{little_endian}
-use Rattle.p3_packings.proofs.parallel_streams.ParallelU64StreamsIterator.next.Given as goal
+use Rattle.p3_packings.proofs.parallel_streams.U64ParallelWord.next_words.Given as goal
 
 abbrev pub invariant-loop-j : goal.invariant-loop-j
 invariant-loop-j g l = record {
