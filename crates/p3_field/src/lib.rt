@@ -71,6 +71,8 @@ pub use p3_packings::packed_field_extension::PackedFieldExtension;
 pub use p3_packings::parallel_streams::ParallelByteStreams;
 pub use p3_packings::parallel_streams::ParallelU32Streams;
 pub use p3_packings::parallel_streams::ParallelU64Streams;
+pub use p3_packings::parallel_streams::ParallelWord;
+pub use p3_packings::parallel_streams::ParallelWordStreams;
 pub use p3_packings::parallel_streams::into_parallel_byte_streams;
 pub use p3_packings::parallel_streams::into_parallel_u32_streams;
 pub use p3_packings::parallel_streams::into_parallel_u64_streams;
