@@ -43,7 +43,7 @@ high_lane n xs ys a b f g k l =
     ∙ one_high (get_or xs k 0) (get_or ys k 0) (f k) (g k)
 
 -- a product of two words
-exact_product : (a b : ℕ) → a < 2 ^ 32 → b < 2 ^ 32 → times a b ≡ a * b
+pub exact_product : (a b : ℕ) → a < 2 ^ 32 → b < 2 ^ 32 → times a b ≡ a * b
 exact_product a b h k =
     let most = mul-le-mul (let f : a ≤ 4294967295 = omega (arith, h) in f) (let g : b ≤ 4294967295 = omega (arith, k) in g) in
     mod-eq_of_lt (omega (arith, most))

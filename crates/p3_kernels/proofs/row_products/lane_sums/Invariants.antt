@@ -1,7 +1,7 @@
 use Rattle.std.proofs.Common.{◌≡◌, ◌<◌, ◌+◌, ◌*◌, ℕ, drop}
 use Rattle.p3_kernels.specs.ProductSums.{AreWordSums, sum_at}
 use Rattle.p3_theory.specs.ResidueRings.SumsOfProducts.{sum_of_products}
-use Rattle.p3_kernels.proofs.row_products.write_lanes.Given as goal
+use Rattle.p3_kernels.proofs.row_products.lane_sums.Given as goal
 
 abbrev pub invariant-loop-i : goal.invariant-loop-i
 invariant-loop-i g l =
