@@ -1,6 +1,6 @@
 //! Sums of the products of rows of words below 2^31, lane by lane of two lists of rows: four products are summed up
 //! in 64 bits, and of these sums the low and the high words apart.
-ghost use Rattle.std.specs.Prelude.{◌≡◌, ℕ, ◌+◌, ◌-◌, ◌*◌, ◌/◌, ◌%◌, ◌^◌, ◌<◌, ◌≤◌, IfSome, drop, get_or, length, slice_index};
+ghost use Rattle.std.specs.Prelude.{◌≡◌, ℕ, ◌+◌, ◌-◌, ◌*◌, ◌/◌, ◌%◌, ◌^◌, ◌<◌, ◌≤◌, ◌≢◌, IfNone, IfSome, drop, get_or, length, slice_index};
 ghost use Rattle.p3_kernels.specs.ProductSums.{AreWordSums, sum_at};
 ghost use Rattle.p3_kernels.specs.Words.{AreBelow, AreReduced};
 ghost use Rattle.p3_theory.specs.ResidueRings.SumsOfProducts.{sum_of_products};
@@ -224,6 +224,7 @@ pub fn sums_of_rows<R: WordRow<N>, const N: usize>(u: &[R], v: &[R]) -> Option<[
     requires lengths { length u.now ≡ length v.now }
     requires few { length u.now ≤ 2 ^ 16 }
     requires short { (k : ℕ) (x : R) → k < N → R.word k x < 2 ^ 31 }
+    ensures none { IfNone result ((0 < N % 8) × (N ≢ 4)) }
     ensures length { IfSome result (λ sums. length sums ≡ N) }
     ensures value { IfSome result (λ sums. (k : ℕ) → k < N → slice_index sums k ≡ sum_of_products (R.word k) u.now v.now) }
 {
@@ -256,6 +257,7 @@ fn residues_of_sums<R: WordRow<N>, const N: usize>(
     requires lengths { length u.now ≡ length v.now }
     requires few { length u.now ≤ 2 ^ 16 }
     requires short { (k : ℕ) (x : R) → k < N → R.word k x < 2 ^ 31 }
+    ensures none { IfNone result ((0 < N % 8) × (N ≢ 4)) }
     ensures length { IfSome result (λ words. length words ≡ N) }
     ensures below { IfSome result (λ words. AreBelow N order words) }
     ensures value { IfSome result (λ words. AreReduced N order (λ k. sum_of_products (R.word k) u.now v.now) words) }
@@ -285,6 +287,7 @@ pub fn montgomery_sums_of_rows<R: WordRow<N>, const N: usize>(
     requires lengths { length u.now ≡ length v.now }
     requires few { length u.now ≤ 2 ^ 16 }
     requires short { (k : ℕ) (x : R) → k < N → R.word k x < 2 ^ 31 }
+    ensures none { IfNone result ((0 < N % 8) × (N ≢ 4)) }
     ensures length { IfSome result (λ words. length words ≡ N) }
     ensures below { IfSome result (λ words. AreBelow N order words) }
     ensures value { IfSome result (λ words. AreReduced N order (λ k. sum_of_products (R.word k) u.now v.now) words) }

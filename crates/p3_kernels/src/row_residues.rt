@@ -1,6 +1,6 @@
 //! The sums of the products of rows of words as residues, a vector of lanes at a time: of each sum the high words are
 //! reduced first, and once more with the low ones.
-ghost use Rattle.std.specs.Prelude.{◌≡◌, ℕ, ◌+◌, ◌-◌, ◌*◌, ◌/◌, ◌%◌, ◌^◌, ◌<◌, ◌≤◌, IfSome, length, slice_index};
+ghost use Rattle.std.specs.Prelude.{◌≡◌, ℕ, ◌+◌, ◌-◌, ◌*◌, ◌/◌, ◌%◌, ◌^◌, ◌<◌, ◌≤◌, ◌≢◌, IfNone, IfSome, length, slice_index};
 ghost use Rattle.p3_kernels.specs.ProductSums.{AreWordSums, sum_at};
 ghost use Rattle.p3_kernels.specs.Words.{AreBelow, AreReduced};
 ghost use Rattle.p3_theory.specs.ResidueRings.SumsOfProducts.{sum_of_products};
@@ -124,6 +124,7 @@ pub(crate) fn residues_of_rows<R: WordRow<N>, const N: usize>(
     requires lengths { length u.now ≡ length v.now }
     requires few { length u.now ≤ 2 ^ 16 }
     requires short { (k : ℕ) (x : R) → k < N → R.word k x < 2 ^ 31 }
+    ensures none { IfNone result ((0 < N % 8) × (N ≢ 4)) }
     ensures length { IfSome result (λ words. length words ≡ N) }
     ensures below { IfSome result (λ words. AreBelow N order words) }
     ensures value { IfSome result (λ words. AreReduced N order (λ k. sum_of_products (R.word k) u.now v.now) words) }
