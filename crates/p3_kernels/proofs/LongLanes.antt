@@ -8,10 +8,13 @@ use lib.Lanes.{zip2}
 use lib.ListN.{replicate}
 use borrow.Rule.Simd.Lanes.{act2}
 use borrow.Table.Row.{s_int}
-use mir.Syntax.{wrap_add, wrap_mul, bit_and, shl, shr, unsigned}
+use mir.Syntax.{wrap_add, wrap_mul, wrap_sub, bit_and, shl, shr, unsigned}
 
 abbrev pub plus : ℕ → ℕ → ℕ
 plus = act2 wrap_add (s_int w64) (s_int w64) (s_int w64)
+
+abbrev pub minus : ℕ → ℕ → ℕ
+minus = act2 wrap_sub (s_int w64) (s_int w64) (s_int w64)
 
 abbrev pub times : ℕ → ℕ → ℕ
 times = act2 wrap_mul (s_int w64) (s_int w64) (s_int w64)

@@ -1,11 +1,11 @@
 //! Sums of the products of rows of words below 2^31, lane by lane of two lists of rows: four products are summed up
 //! in 64 bits, and of these sums the low and the high words apart.
 ghost use Rattle.std.specs.Prelude.{◌≡◌, ℕ, ◌+◌, ◌-◌, ◌*◌, ◌/◌, ◌%◌, ◌^◌, ◌<◌, ◌≤◌, ◌≢◌, IfNone, IfSome, drop, get_or, length, slice_index};
-ghost use Rattle.p3_kernels.specs.ProductSums.{AreWordSums, sum_at};
+ghost use Rattle.p3_kernels.specs.ProductSums.{AreWordSums, low_at, sum_at};
 ghost use Rattle.p3_kernels.specs.Words.{AreBelow, AreReduced};
 ghost use Rattle.p3_theory.specs.ResidueRings.SumsOfProducts.{sum_of_products};
 
-use crate::product_sums::{add_high_words, add_low_words};
+use crate::product_sums::add_high_words;
 use crate::row_residues::residues_of_rows;
 use crate::wide_products::{high_products, low_products, sums_of_four};
 use crate::word_vectors::{EightWords, FourWords, WordVectors};
@@ -114,6 +114,25 @@ fn products_of_four_rows<
     sums_of_four::<H>(first, second, third, fourth)
 }
 
+/// Sums modulo 2^64 to which numbers are added, lane by lane.
+#[inline(always)]
+fn add_numbers<const H: usize>(totals: Simd<u64, H>, numbers: Simd<u64, H>) -> Simd<u64, H>
+    ensures width { length result ≡ H }
+    ensures lanes { (k : ℕ) → k < H → slice_index result k ≡ (slice_index totals.entry k + slice_index numbers.entry k) % 2 ^ 64 }
+{
+    totals + numbers
+}
+
+/// The sums of the low words of numbers, lane by lane, from the sums of the numbers modulo 2^64 and those of their high
+/// words.
+#[inline(always)]
+fn low_sums<const H: usize>(totals: Simd<u64, H>, highs: Simd<u64, H>) -> Simd<u64, H>
+    ensures width { length result ≡ H }
+    ensures lanes { (k : ℕ) → k < H → slice_index result k ≡ low_at totals.entry highs.entry k }
+{
+    totals - (highs << Simd::splat(32))
+}
+
 /// Of numbers at 2 H lanes the sums of the low and of the high words, those of the even and those of the odd lanes.
 pub(crate) struct LaneSums<const H: usize> {
     pub(crate) even_low: [u64; H],
@@ -143,27 +162,29 @@ pub(crate) fn lane_sums<
     ensures even { (k : ℕ) → k < H → sum_at result.even_low result.even_high k ≡ sum_of_products (R.word (lane + 2 * k)) u.now v.now }
     ensures odd { (k : ℕ) → k < H → sum_at result.odd_low result.odd_high k ≡ sum_of_products (R.word (lane + 2 * k + 1)) u.now v.now }
 {
-    let mut even_low = Simd::<u64, H>::splat(0);
+    let mut even = Simd::<u64, H>::splat(0);
     let mut even_high = Simd::<u64, H>::splat(0);
-    let mut odd_low = Simd::<u64, H>::splat(0);
+    let mut odd = Simd::<u64, H>::splat(0);
     let mut odd_high = Simd::<u64, H>::splat(0);
     let blocks = u.len() / 4;
     for i in 0..blocks {
-        let even = products_of_four_rows::<R, V, N, L, H, 0>(u, v, 4 * i, lane);
-        let odd = products_of_four_rows::<R, V, N, L, H, 1>(u, v, 4 * i, lane);
-        even_low = add_low_words::<H>(even_low, even);
-        even_high = add_high_words::<H>(even_high, even);
-        odd_low = add_low_words::<H>(odd_low, odd);
-        odd_high = add_high_words::<H>(odd_high, odd);
+        let even_sums = products_of_four_rows::<R, V, N, L, H, 0>(u, v, 4 * i, lane);
+        let odd_sums = products_of_four_rows::<R, V, N, L, H, 1>(u, v, 4 * i, lane);
+        even = add_numbers::<H>(even, even_sums);
+        even_high = add_high_words::<H>(even_high, even_sums);
+        odd = add_numbers::<H>(odd, odd_sums);
+        odd_high = add_high_words::<H>(odd_high, odd_sums);
     }
     for i in 4 * blocks..u.len() {
         let last_even = products_of_rows::<R, V, N, L, H, 0>(&u[i], &v[i], lane);
         let last_odd = products_of_rows::<R, V, N, L, H, 1>(&u[i], &v[i], lane);
-        even_low = add_low_words::<H>(even_low, last_even);
+        even = add_numbers::<H>(even, last_even);
         even_high = add_high_words::<H>(even_high, last_even);
-        odd_low = add_low_words::<H>(odd_low, last_odd);
+        odd = add_numbers::<H>(odd, last_odd);
         odd_high = add_high_words::<H>(odd_high, last_odd);
     }
+    let even_low = low_sums::<H>(even, even_high);
+    let odd_low = low_sums::<H>(odd, odd_high);
     LaneSums {
         even_low: even_low.to_array(),
         even_high: even_high.to_array(),

@@ -1,6 +1,7 @@
-use Rattle.std.proofs.Common.{◌≡◌, ◌<◌, ◌≤◌, ◌+◌, ◌*◌, ◌∙◌, ℕ, arith, length, drop, get_or, ap}
+use Rattle.std.proofs.Common.{◌≡◌, ◌<◌, ◌≤◌, ◌+◌, ◌*◌, ◌%◌, ◌^◌, ◌∙◌, ℕ, arith, length, drop, get_or, ap}
 use Rattle.p3_theory.specs.ResidueRings.SumsOfProducts.{products-drop}
-use Rattle.p3_kernels.proofs.RowProducts.{added, none-left}
+use Rattle.p3_kernels.proofs.RowProducts.{added, low_added, low_few, low_more, none-left}
+use Rattle.p3_kernels.specs.ProductSums.{low_at}
 use Rattle.p3_kernels.proofs.row_products.lane_sums.Goals as goal
 
 pub loop-i-2-preserved : goal.loop-i-2-preserved
@@ -12,6 +13,7 @@ loop-i-2-preserved g c =
     let held = c.loop-i-2.invariant in
     let inside : i < length u = c.loop-i-2-test.true in
     let inside_other : i < length v = omega (arith, inside, c.requires.lengths) in
+    let few : i < 2 ^ 16 = omega (arith, inside, c.requires.few) in
     let x = c.index-u-i.result in
     let y = c.index-v-i.result in
     let z = c.index-u-i-in-loop-i-2.result in
@@ -20,20 +22,28 @@ loop-i-2-preserved g c =
     λ k l.
     let product : get_or c.products_of_rows-last_even.result k 0 ≡ word (c.args.lane + 2 * k + 0) x * word (c.args.lane + 2 * k + 0) y = c.products_of_rows-last_even.ensures.value k l in
     product ∙ ap (λ j. word j x * word j y) (omega arith) in
-    let odd : (k : ℕ) → k < g.row.H → get_or c.products_of_rows-last_odd.result k 0 ≡ word (c.args.lane + 2 * k + 1) z * word (c.args.lane + 2 * k + 1) w = c.products_of_rows-last_odd.ensures.value in (
-      c.add_low_words-even_low-in-loop-i-2.ensures.step i held.0,
-      c.add_high_words-even_high-in-loop-i-2.ensures.step i held.1,
-      c.add_low_words-odd_low-in-loop-i-2.ensures.step i held.2,
-      c.add_high_words-odd_high-in-loop-i-2.ensures.step i held.3,
+    let odd : (k : ℕ) → k < g.row.H → get_or c.products_of_rows-last_odd.result k 0 ≡ word (c.args.lane + 2 * k + 1) z * word (c.args.lane + 2 * k + 1) w = c.products_of_rows-last_odd.ensures.value in
+    let even_low : (k : ℕ) → k < g.row.H → low_at c.add_numbers-even-in-loop-i-2.result c.add_high_words-even_high-in-loop-i-2.result k
+    ≡ low_at c.loop-i-2.even c.loop-i-2.even_high k + get_or c.products_of_rows-last_even.result k 0 % 2 ^ 32 =
+    λ k l. low_added (get_or c.products_of_rows-last_even.result k 0) (get_or c.add_numbers-even-in-loop-i-2.result k 0) (get_or c.add_high_words-even_high-in-loop-i-2.result k 0)
+    (get_or c.loop-i-2.even k 0) (get_or c.loop-i-2.even_high k 0) (c.add_numbers-even-in-loop-i-2.ensures.lanes k l) (c.add_high_words-even_high-in-loop-i-2.ensures.value k l)
+    (low_few i (low_at c.loop-i-2.even c.loop-i-2.even_high k) few (held.2 k l)) in
+    let odd_low : (k : ℕ) → k < g.row.H → low_at c.add_numbers-odd-in-loop-i-2.result c.add_high_words-odd_high-in-loop-i-2.result k
+    ≡ low_at c.loop-i-2.odd c.loop-i-2.odd_high k + get_or c.products_of_rows-last_odd.result k 0 % 2 ^ 32 =
+    λ k l. low_added (get_or c.products_of_rows-last_odd.result k 0) (get_or c.add_numbers-odd-in-loop-i-2.result k 0) (get_or c.add_high_words-odd_high-in-loop-i-2.result k 0)
+    (get_or c.loop-i-2.odd k 0) (get_or c.loop-i-2.odd_high k 0) (c.add_numbers-odd-in-loop-i-2.ensures.lanes k l) (c.add_high_words-odd_high-in-loop-i-2.ensures.value k l)
+    (low_few i (low_at c.loop-i-2.odd c.loop-i-2.odd_high k) few (held.3 k l)) in (
+      c.add_high_words-even_high-in-loop-i-2.ensures.step i held.0,
+      c.add_high_words-odd_high-in-loop-i-2.ensures.step i held.1,
+      λ k l. low_more i (low_at c.add_numbers-even-in-loop-i-2.result c.add_high_words-even_high-in-loop-i-2.result k) (low_at c.loop-i-2.even c.loop-i-2.even_high k)
+          (get_or c.products_of_rows-last_even.result k 0) (even_low k l) (held.2 k l),
+      λ k l. low_more i (low_at c.add_numbers-odd-in-loop-i-2.result c.add_high_words-odd_high-in-loop-i-2.result k) (low_at c.loop-i-2.odd c.loop-i-2.odd_high k)
+          (get_or c.products_of_rows-last_odd.result k 0) (odd_low k l) (held.3 k l),
       λ k l.
-          let low = c.add_low_words-even_low-in-loop-i-2.ensures.value k l in
-          let high = c.add_high_words-even_high-in-loop-i-2.ensures.value k l in
-          added (get_or c.products_of_rows-last_even.result k 0) _ _ _ _ _ _ _ _ low high (even k l)
+          added (get_or c.products_of_rows-last_even.result k 0) _ _ _ _ _ _ _ _ (even_low k l) (c.add_high_words-even_high-in-loop-i-2.ensures.value k l) (even k l)
           (products-drop (word (c.args.lane + 2 * k)) u v i x y inside inside_other c.index-u-i.is c.index-v-i.is) (held.4 k l),
       λ k l.
-          let low = c.add_low_words-odd_low-in-loop-i-2.ensures.value k l in
-          let high = c.add_high_words-odd_high-in-loop-i-2.ensures.value k l in
-          added (get_or c.products_of_rows-last_odd.result k 0) _ _ _ _ _ _ _ _ low high (odd k l)
+          added (get_or c.products_of_rows-last_odd.result k 0) _ _ _ _ _ _ _ _ (odd_low k l) (c.add_high_words-odd_high-in-loop-i-2.ensures.value k l) (odd k l)
           (products-drop (word (c.args.lane + 2 * k + 1)) u v i z w inside inside_other c.index-u-i-in-loop-i-2.is c.index-v-i-in-loop-i-2.is) (held.5 k l),
     )
 
