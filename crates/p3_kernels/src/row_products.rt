@@ -1,5 +1,5 @@
 //! Sums of the products of rows of words below 2^31, lane by lane of two lists of rows: four products are summed up
-//! in 64 bits, and of these sums the low and the high words apart.
+//! in 64 bits, these sums modulo 2^64, and their high words apart.
 ghost use Rattle.std.specs.Prelude.{◌≡◌, ℕ, ◌+◌, ◌-◌, ◌*◌, ◌/◌, ◌%◌, ◌^◌, ◌<◌, ◌≤◌, ◌≢◌, IfNone, IfSome, drop, get_or, length, slice_index};
 ghost use Rattle.p3_kernels.specs.ProductSums.{AreWordSums, low_at, sum_at};
 ghost use Rattle.p3_kernels.specs.Words.{AreBelow, AreReduced};

@@ -1,4 +1,4 @@
-use Rattle.std.proofs.Common.{get_or, ◌≡◌, ◌*◌, ◌∙◌, ◌<◌, ◌^◌, arith, length}
+use Rattle.std.proofs.Common.{get_or, ◌*◌, ◌∙◌, arith}
 use Rattle.p3_kernels.proofs.LaneOperations.{lane_by, width2, width_by}
 use Rattle.p3_kernels.proofs.LongLanes.{exact_product, plus, sum_lane, times}
 use Rattle.p3_kernels.proofs.SumReductions.{fits_with_product}

@@ -1,4 +1,4 @@
-use Rattle.std.proofs.Common.{get_or, ◌≡◌, ◌+◌, ◌*◌, ◌%◌, ◌^◌, ◌<◌, ◌∙◌, ℕ, ap, arith, rules}
+use Rattle.std.proofs.Common.{get_or, ◌≡◌, ◌+◌, ◌*◌, ◌%◌, ◌<◌, ◌∙◌, ℕ, ap, arith, rules}
 use Rattle.p3_kernels.proofs.SumReductions.{high_added, high_is, low_is, with_product_short}
 use Rattle.p3_kernels.proofs.row_residues.reduce_sums.Goals as goal
 
