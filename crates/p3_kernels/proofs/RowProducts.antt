@@ -52,3 +52,11 @@ low_more i low old_low n a b = omega (arith, a, b)
 -- as many words as there are rows are few
 pub low_few : (i low : ℕ) → i < 2 ^ 16 → low ≤ i * (2 ^ 32 - 1) → low ≤ (2 ^ 32 - 1) * (2 ^ 32 - 1)
 low_few i low a b = omega (arith, a, b)
+
+-- at most so many words are few where so many rows are
+pub few_words : (i new old : ℕ) → i ≤ 2 ^ 16 → new ≡ old → old ≤ i * (2 ^ 32 - 1) → new ≤ 2 ^ 16 * (2 ^ 32 - 1)
+few_words i new old a b c = omega (arith, a, b, c)
+
+-- where nothing is left, the sums come to the whole
+pub summed_up : (low high old_low old_high rest whole : ℕ) → low ≡ old_low → high ≡ old_high → rest ≡ 0 → old_low + 2 ^ 32 * old_high + rest ≡ whole → low + 2 ^ 32 * high ≡ whole
+summed_up low high old_low old_high rest whole a b c d = omega (arith, a, b, c, d)

@@ -1,7 +1,7 @@
 //! Sums of the products of rows of words below 2^31, lane by lane of two lists of rows: four products are summed up
 //! in 64 bits, these sums modulo 2^64, and their high words apart.
 ghost use Rattle.std.specs.Prelude.{◌≡◌, ℕ, ◌+◌, ◌-◌, ◌*◌, ◌/◌, ◌%◌, ◌^◌, ◌<◌, ◌≤◌, ◌≢◌, IfNone, IfSome, drop, get_or, length, slice_index};
-ghost use Rattle.p3_kernels.specs.ProductSums.{AreWordSums, low_at, sum_at};
+ghost use Rattle.p3_kernels.specs.ProductSums.{SumUp, low_at, sum_at};
 ghost use Rattle.p3_kernels.specs.Words.{AreBelow, AreReduced};
 ghost use Rattle.p3_theory.specs.ResidueRings.SumsOfProducts.{sum_of_products};
 
@@ -141,6 +141,29 @@ pub(crate) struct LaneSums<const H: usize> {
     pub(crate) odd_high: [u64; H],
 }
 
+/// The sums of the low and of the high words of numbers, from those of the numbers modulo 2^64 and of their high words.
+#[inline(always)]
+fn split_sums<const H: usize>(
+    even: Simd<u64, H>,
+    even_high: Simd<u64, H>,
+    odd: Simd<u64, H>,
+    odd_high: Simd<u64, H>,
+) -> LaneSums<H>
+    ensures even_low { (k : ℕ) → k < H → slice_index result.even_low k ≡ low_at even.entry even_high.entry k }
+    ensures even_high { result.even_high ≡ even_high.entry }
+    ensures odd_low { (k : ℕ) → k < H → slice_index result.odd_low k ≡ low_at odd.entry odd_high.entry k }
+    ensures odd_high { result.odd_high ≡ odd_high.entry }
+{
+    let even_low = low_sums::<H>(even, even_high);
+    let odd_low = low_sums::<H>(odd, odd_high);
+    LaneSums {
+        even_low: even_low.to_array(),
+        even_high: even_high.to_array(),
+        odd_low: odd_low.to_array(),
+        odd_high: odd_high.to_array(),
+    }
+}
+
 /// The sums of the products of two lists of rows at 2 H lanes from one on.
 #[inline(always)]
 pub(crate) fn lane_sums<
@@ -155,12 +178,8 @@ pub(crate) fn lane_sums<
     requires lengths { length u.now ≡ length v.now }
     requires few { length u.now ≤ 2 ^ 16 }
     requires short { (k : ℕ) (x : R) → k < N → R.word k x < 2 ^ 31 }
-    ensures even_low { AreWordSums H (2 ^ 16) result.even_low }
-    ensures even_high { AreWordSums H (2 ^ 16) result.even_high }
-    ensures odd_low { AreWordSums H (2 ^ 16) result.odd_low }
-    ensures odd_high { AreWordSums H (2 ^ 16) result.odd_high }
-    ensures even { (k : ℕ) → k < H → sum_at result.even_low result.even_high k ≡ sum_of_products (R.word (lane + 2 * k)) u.now v.now }
-    ensures odd { (k : ℕ) → k < H → sum_at result.odd_low result.odd_high k ≡ sum_of_products (R.word (lane + 2 * k + 1)) u.now v.now }
+    ensures even { SumUp H (2 ^ 16) result.even_low result.even_high (λ k. sum_of_products (R.word (lane + 2 * k)) u.now v.now) }
+    ensures odd { SumUp H (2 ^ 16) result.odd_low result.odd_high (λ k. sum_of_products (R.word (lane + 2 * k + 1)) u.now v.now) }
 {
     let mut even = Simd::<u64, H>::splat(0);
     let mut even_high = Simd::<u64, H>::splat(0);
@@ -183,14 +202,7 @@ pub(crate) fn lane_sums<
         odd = add_numbers::<H>(odd, last_odd);
         odd_high = add_high_words::<H>(odd_high, last_odd);
     }
-    let even_low = low_sums::<H>(even, even_high);
-    let odd_low = low_sums::<H>(odd, odd_high);
-    LaneSums {
-        even_low: even_low.to_array(),
-        even_high: even_high.to_array(),
-        odd_low: odd_low.to_array(),
-        odd_high: odd_high.to_array(),
-    }
+    split_sums::<H>(even, even_high, odd, odd_high)
 }
 
 /// Writes at 2 H lanes from one on what sums of low and of high words come to: those of the even lanes, and of

@@ -1,6 +1,6 @@
 use Rattle.std.proofs.Common.{◌≡◌, ◌<◌, ◌≤◌, ◌+◌, ◌*◌, ◌%◌, ◌^◌, ◌∙◌, ℕ, arith, length, drop, get_or, ap}
 use Rattle.p3_theory.specs.ResidueRings.SumsOfProducts.{products-drop}
-use Rattle.p3_kernels.proofs.RowProducts.{added, low_added, low_few, low_more, none-left}
+use Rattle.p3_kernels.proofs.RowProducts.{added, few_words, low_added, low_few, low_more, none-left, summed_up}
 use Rattle.p3_kernels.specs.ProductSums.{low_at}
 use Rattle.p3_kernels.proofs.row_products.lane_sums.Goals as goal
 
@@ -48,13 +48,31 @@ loop-i-2-preserved g c =
     )
 
 pub returns-clause-even : goal.returns-clause-even
-returns-clause-even g c k l =
-    let word = g.R.WordRow.word (c.args.lane + 2 * k) in
-    let past : length c.args.u.now ≤ c.loop-i-2.i = omega (arith, c.loop-i-2-test.false) in
-    omega (arith, c.loop-i-2.invariant.4 k l, none-left word c.loop-i-2.i c.args.u.now (drop c.loop-i-2.i c.args.v.now) past)
+returns-clause-even g c =
+    let i = c.loop-i-2.i in
+    let held = c.loop-i-2.invariant in
+    let said = c.split_sums.ensures in
+    let few : i ≤ 2 ^ 16 = omega (arith, c.loop-i-2.auto, c.requires.few) in
+    let past : length c.args.u.now ≤ i = omega (arith, c.loop-i-2-test.false) in
+    let high : (k : ℕ) → get_or c.split_sums.result.even_high k 0 ≡ get_or c.loop-i-2.even_high k 0 = λ k. ap (λ xs. get_or xs k 0) said.even_high in (
+      λ k l. few_words i (get_or c.split_sums.result.even_low k 0) (low_at c.loop-i-2.even c.loop-i-2.even_high k) few (said.even_low k l) (held.2 k l),
+      λ k l. few_words i (get_or c.split_sums.result.even_high k 0) (get_or c.loop-i-2.even_high k 0) few (high k) (held.0 k l),
+      λ k l.
+          summed_up (get_or c.split_sums.result.even_low k 0) (get_or c.split_sums.result.even_high k 0) (low_at c.loop-i-2.even c.loop-i-2.even_high k) (get_or c.loop-i-2.even_high k 0) _ _
+          (said.even_low k l) (high k) (none-left (g.R.WordRow.word (c.args.lane + 2 * k)) i c.args.u.now (drop i c.args.v.now) past) (held.4 k l),
+    )
 
 pub returns-clause-odd : goal.returns-clause-odd
-returns-clause-odd g c k l =
-    let word = g.R.WordRow.word (c.args.lane + 2 * k + 1) in
-    let past : length c.args.u.now ≤ c.loop-i-2.i = omega (arith, c.loop-i-2-test.false) in
-    omega (arith, c.loop-i-2.invariant.5 k l, none-left word c.loop-i-2.i c.args.u.now (drop c.loop-i-2.i c.args.v.now) past)
+returns-clause-odd g c =
+    let i = c.loop-i-2.i in
+    let held = c.loop-i-2.invariant in
+    let said = c.split_sums.ensures in
+    let few : i ≤ 2 ^ 16 = omega (arith, c.loop-i-2.auto, c.requires.few) in
+    let past : length c.args.u.now ≤ i = omega (arith, c.loop-i-2-test.false) in
+    let high : (k : ℕ) → get_or c.split_sums.result.odd_high k 0 ≡ get_or c.loop-i-2.odd_high k 0 = λ k. ap (λ xs. get_or xs k 0) said.odd_high in (
+      λ k l. few_words i (get_or c.split_sums.result.odd_low k 0) (low_at c.loop-i-2.odd c.loop-i-2.odd_high k) few (said.odd_low k l) (held.3 k l),
+      λ k l. few_words i (get_or c.split_sums.result.odd_high k 0) (get_or c.loop-i-2.odd_high k 0) few (high k) (held.1 k l),
+      λ k l.
+          summed_up (get_or c.split_sums.result.odd_low k 0) (get_or c.split_sums.result.odd_high k 0) (low_at c.loop-i-2.odd c.loop-i-2.odd_high k) (get_or c.loop-i-2.odd_high k 0) _ _
+          (said.odd_low k l) (high k) (none-left (g.R.WordRow.word (c.args.lane + 2 * k + 1)) i c.args.u.now (drop i c.args.v.now) past) (held.5 k l),
+    )
