@@ -12,4 +12,5 @@ pub mod SmallDotProducts
 pub mod SmallProducts
 pub mod SmallSums
 pub mod StoredBlocks
+pub mod SumReductions
 pub mod WordLanes

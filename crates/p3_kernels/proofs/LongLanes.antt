@@ -8,10 +8,13 @@ use lib.Lanes.{zip2}
 use lib.ListN.{replicate}
 use borrow.Rule.Simd.Lanes.{act2}
 use borrow.Table.Row.{s_int}
-use mir.Syntax.{wrap_add, wrap_mul, bit_and, shl, shr, unsigned}
+use mir.Syntax.{wrap_add, wrap_mul, wrap_sub, bit_and, shl, shr, unsigned}
 
 abbrev pub plus : ℕ → ℕ → ℕ
 plus = act2 wrap_add (s_int w64) (s_int w64) (s_int w64)
+
+abbrev pub minus : ℕ → ℕ → ℕ
+minus = act2 wrap_sub (s_int w64) (s_int w64) (s_int w64)
 
 abbrev pub times : ℕ → ℕ → ℕ
 times = act2 wrap_mul (s_int w64) (s_int w64) (s_int w64)
@@ -43,7 +46,7 @@ high_lane n xs ys a b f g k l =
     ∙ one_high (get_or xs k 0) (get_or ys k 0) (f k) (g k)
 
 -- a product of two words
-exact_product : (a b : ℕ) → a < 2 ^ 32 → b < 2 ^ 32 → times a b ≡ a * b
+pub exact_product : (a b : ℕ) → a < 2 ^ 32 → b < 2 ^ 32 → times a b ≡ a * b
 exact_product a b h k =
     let most = mul-le-mul (let f : a ≤ 4294967295 = omega (arith, h) in f) (let g : b ≤ 4294967295 = omega (arith, k) in g) in
     mod-eq_of_lt (omega (arith, most))

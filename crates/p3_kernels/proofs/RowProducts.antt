@@ -1,5 +1,5 @@
 -- Sums of products of rows of words, at a lane.
-use Rattle.std.proofs.Common.{get_or, ◌≡◌, ℕ, ◌+◌, ◌*◌, ◌/◌, ◌%◌, ◌<◌, ◌≤◌, ◌^◌, List, length, drop, arith, ap}
+use Rattle.std.proofs.Common.{get_or, ◌≡◌, ℕ, ◌+◌, ◌-◌, ◌*◌, ◌/◌, ◌%◌, ◌<◌, ◌≤◌, ◌^◌, List, length, drop, arith, ap}
 use Rattle.std.proofs.Math.Nat.{mul-le-mul}
 use Rattle.std.proofs.lemmas.List.{drop_all}
 use Rattle.p3_theory.specs.ResidueRings.SumsOfProducts.{sum_of_products, products-drop}
@@ -35,3 +35,28 @@ none-left word i xs ys past = ap (λ zs. sum_of_products word zs ys) (drop_all i
 pub added : (n low high old_low old_high product rest before whole : ℕ) → low ≡ old_low + n % 2 ^ 32 → high ≡ old_high + n / 2 ^ 32 → n ≡ product → before ≡ product + rest
     → old_low + 2 ^ 32 * old_high + before ≡ whole → low + 2 ^ 32 * high + rest ≡ whole
 added n low high old_low old_high product rest before whole a b c d e = omega (arith, a, b, c, d, e)
+
+-- the sum of the low words of numbers, from that of the numbers modulo 2^64 and that of their high words
+abbrev pub low_of : ℕ → ℕ → ℕ
+low_of total high = (total + (2 ^ 64 - (high * 2 ^ 32) % 2 ^ 64)) % 2 ^ 64
+
+-- one number more adds its low word
+pub low_added : (n total high old_total old_high : ℕ) → total ≡ (old_total + n) % 2 ^ 64 → high ≡ old_high + n / 2 ^ 32
+    → low_of old_total old_high ≤ (2 ^ 32 - 1) * (2 ^ 32 - 1) → low_of total high ≡ low_of old_total old_high + n % 2 ^ 32
+low_added n total high old_total old_high a b c = omega (arith, a, b, c)
+
+-- and is one word
+pub low_more : (i low old_low n : ℕ) → low ≡ old_low + n % 2 ^ 32 → old_low ≤ i * (2 ^ 32 - 1) → low ≤ (i + 1) * (2 ^ 32 - 1)
+low_more i low old_low n a b = omega (arith, a, b)
+
+-- as many words as there are rows are few
+pub low_few : (i low : ℕ) → i < 2 ^ 16 → low ≤ i * (2 ^ 32 - 1) → low ≤ (2 ^ 32 - 1) * (2 ^ 32 - 1)
+low_few i low a b = omega (arith, a, b)
+
+-- at most so many words are few where so many rows are
+pub few_words : (i new old : ℕ) → i ≤ 2 ^ 16 → new ≡ old → old ≤ i * (2 ^ 32 - 1) → new ≤ 2 ^ 16 * (2 ^ 32 - 1)
+few_words i new old a b c = omega (arith, a, b, c)
+
+-- where nothing is left, the sums come to the whole
+pub summed_up : (low high old_low old_high rest whole : ℕ) → low ≡ old_low → high ≡ old_high → rest ≡ 0 → old_low + 2 ^ 32 * old_high + rest ≡ whole → low + 2 ^ 32 * high ≡ whole
+summed_up low high old_low old_high rest whole a b c d = omega (arith, a, b, c, d)

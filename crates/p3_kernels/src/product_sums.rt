@@ -30,10 +30,7 @@ fn lanes_of_products(left: &[u32], right: &[u32]) -> u64x4
 
 /// The sums to which the low words of numbers are added, lane by lane.
 #[inline(always)]
-pub(crate) fn add_low_words<const H: usize>(
-    sums: Simd<u64, H>,
-    numbers: Simd<u64, H>,
-) -> Simd<u64, H>
+fn add_low_words<const H: usize>(sums: Simd<u64, H>, numbers: Simd<u64, H>) -> Simd<u64, H>
     requires room { AreWordSums H (2 ^ 32 - 1) sums }
     ensures width { length result ≡ H }
     ensures step { (n : ℕ) → AreWordSums H n sums.entry → AreWordSums H (n + 1) result }

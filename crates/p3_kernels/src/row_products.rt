@@ -1,16 +1,19 @@
 //! Sums of the products of rows of words below 2^31, lane by lane of two lists of rows: four products are summed up
-//! in 64 bits, and of these sums the low and the high words apart.
-ghost use Rattle.std.specs.Prelude.{◌≡◌, ℕ, ◌+◌, ◌-◌, ◌*◌, ◌/◌, ◌%◌, ◌^◌, ◌<◌, ◌≤◌, IfSome, drop, get_or, length, slice_index};
-ghost use Rattle.p3_kernels.specs.Pairs.{ArePairs};
-ghost use Rattle.p3_kernels.specs.ProductSums.{sum_at};
+//! in 64 bits, these sums modulo 2^64, and their high words apart.
+ghost use Rattle.std.specs.Prelude.{◌≡◌, ℕ, ◌+◌, ◌-◌, ◌*◌, ◌/◌, ◌%◌, ◌^◌, ◌<◌, ◌≤◌, ◌≢◌, IfNone, IfSome, drop, get_or, length, slice_index};
+ghost use Rattle.p3_kernels.specs.ProductSums.{SumUp, low_at, sum_at};
 ghost use Rattle.p3_kernels.specs.Words.{AreBelow, AreReduced};
 ghost use Rattle.p3_theory.specs.ResidueRings.SumsOfProducts.{sum_of_products};
 
-use crate::product_sums::{add_high_words, add_low_words};
+use crate::product_sums::add_high_words;
+use crate::row_residues::residues_of_rows;
 use crate::wide_products::{high_products, low_products, sums_of_four};
-use crate::word_pairs::{pairs_of_4, pairs_of_8};
+use crate::word_vectors::{EightWords, FourWords, WordVectors};
 use p3_residues::montgomery::montgomery_sum;
 use std::simd::prelude::*;
+
+/// Orders from which on a sum of products of 2^16 pairs of rows is reduced by vectors.
+const LONG_ORDERS: u32 = 0x2_0000;
 
 /// A row of N words.
 pub trait WordRow<const N: usize> {
@@ -21,40 +24,6 @@ pub trait WordRow<const N: usize> {
     fn word_at(&self, lane: usize) -> u32
         requires { lane < N }
         ensures { result ≡ word lane self.now };
-}
-
-/// Vectors of L words, which are 2 H.
-trait WordVectors<const L: usize, const H: usize> {
-    /// The pairs of the words.
-    fn pairs(words: Simd<u32, L>) -> Simd<u64, H>
-        ensures width { length result ≡ H }
-        ensures pairs { ArePairs H words.entry result };
-}
-
-/// Vectors of four words.
-struct FourWords;
-
-impl WordVectors<4, 2> for FourWords {
-    #[inline(always)]
-    fn pairs(words: u32x4) -> u64x2
-        ensures width { length result ≡ 2 }
-        ensures pairs { ArePairs 2 words result }
-    {
-        pairs_of_4(words)
-    }
-}
-
-/// Vectors of eight words.
-struct EightWords;
-
-impl WordVectors<8, 4> for EightWords {
-    #[inline(always)]
-    fn pairs(words: u32x8) -> u64x4
-        ensures width { length result ≡ 4 }
-        ensures pairs { ArePairs 4 words result }
-    {
-        pairs_of_8(words)
-    }
 }
 
 /// The words of L lanes of a row from one on.
@@ -145,31 +114,117 @@ fn products_of_four_rows<
     sums_of_four::<H>(first, second, third, fourth)
 }
 
-/// Writes at 2 H lanes from one on what the sums of low and of high words come to: those of the even lanes, and of
+/// Sums modulo 2^64 to which numbers are added, lane by lane.
+#[inline(always)]
+fn add_numbers<const H: usize>(totals: Simd<u64, H>, numbers: Simd<u64, H>) -> Simd<u64, H>
+    ensures width { length result ≡ H }
+    ensures lanes { (k : ℕ) → k < H → slice_index result k ≡ (slice_index totals.entry k + slice_index numbers.entry k) % 2 ^ 64 }
+{
+    totals + numbers
+}
+
+/// The sums of the low words of numbers, lane by lane, from the sums of the numbers modulo 2^64 and those of their high
+/// words.
+#[inline(always)]
+fn low_sums<const H: usize>(totals: Simd<u64, H>, highs: Simd<u64, H>) -> Simd<u64, H>
+    ensures width { length result ≡ H }
+    ensures lanes { (k : ℕ) → k < H → slice_index result k ≡ low_at totals.entry highs.entry k }
+{
+    totals - (highs << Simd::splat(32))
+}
+
+/// Of numbers at 2 H lanes the sums of the low and of the high words, those of the even and those of the odd lanes.
+pub(crate) struct LaneSums<const H: usize> {
+    pub(crate) even_low: [u64; H],
+    pub(crate) even_high: [u64; H],
+    pub(crate) odd_low: [u64; H],
+    pub(crate) odd_high: [u64; H],
+}
+
+/// The sums of the low and of the high words of numbers, from those of the numbers modulo 2^64 and of their high words.
+#[inline(always)]
+fn split_sums<const H: usize>(
+    even: Simd<u64, H>,
+    even_high: Simd<u64, H>,
+    odd: Simd<u64, H>,
+    odd_high: Simd<u64, H>,
+) -> LaneSums<H>
+    ensures even_low { (k : ℕ) → k < H → slice_index result.even_low k ≡ low_at even.entry even_high.entry k }
+    ensures even_high { result.even_high ≡ even_high.entry }
+    ensures odd_low { (k : ℕ) → k < H → slice_index result.odd_low k ≡ low_at odd.entry odd_high.entry k }
+    ensures odd_high { result.odd_high ≡ odd_high.entry }
+{
+    let even_low = low_sums::<H>(even, even_high);
+    let odd_low = low_sums::<H>(odd, odd_high);
+    LaneSums {
+        even_low: even_low.to_array(),
+        even_high: even_high.to_array(),
+        odd_low: odd_low.to_array(),
+        odd_high: odd_high.to_array(),
+    }
+}
+
+/// The sums of the products of two lists of rows at 2 H lanes from one on.
+#[inline(always)]
+pub(crate) fn lane_sums<
+    R: WordRow<N>,
+    V: WordVectors<L, H>,
+    const N: usize,
+    const L: usize,
+    const H: usize,
+>(u: &[R], v: &[R], lane: usize) -> LaneSums<H>
+    requires inside { lane + L ≤ N }
+    requires pairs { L ≡ 2 * H }
+    requires lengths { length u.now ≡ length v.now }
+    requires few { length u.now ≤ 2 ^ 16 }
+    requires short { (k : ℕ) (x : R) → k < N → R.word k x < 2 ^ 31 }
+    ensures even { SumUp H (2 ^ 16) result.even_low result.even_high (λ k. sum_of_products (R.word (lane + 2 * k)) u.now v.now) }
+    ensures odd { SumUp H (2 ^ 16) result.odd_low result.odd_high (λ k. sum_of_products (R.word (lane + 2 * k + 1)) u.now v.now) }
+{
+    let mut even = Simd::<u64, H>::splat(0);
+    let mut even_high = Simd::<u64, H>::splat(0);
+    let mut odd = Simd::<u64, H>::splat(0);
+    let mut odd_high = Simd::<u64, H>::splat(0);
+    let blocks = u.len() / 4;
+    for i in 0..blocks {
+        let even_sums = products_of_four_rows::<R, V, N, L, H, 0>(u, v, 4 * i, lane);
+        let odd_sums = products_of_four_rows::<R, V, N, L, H, 1>(u, v, 4 * i, lane);
+        even = add_numbers::<H>(even, even_sums);
+        even_high = add_high_words::<H>(even_high, even_sums);
+        odd = add_numbers::<H>(odd, odd_sums);
+        odd_high = add_high_words::<H>(odd_high, odd_sums);
+    }
+    for i in 4 * blocks..u.len() {
+        let last_even = products_of_rows::<R, V, N, L, H, 0>(&u[i], &v[i], lane);
+        let last_odd = products_of_rows::<R, V, N, L, H, 1>(&u[i], &v[i], lane);
+        even = add_numbers::<H>(even, last_even);
+        even_high = add_high_words::<H>(even_high, last_even);
+        odd = add_numbers::<H>(odd, last_odd);
+        odd_high = add_high_words::<H>(odd_high, last_odd);
+    }
+    split_sums::<H>(even, even_high, odd, odd_high)
+}
+
+/// Writes at 2 H lanes from one on what sums of low and of high words come to: those of the even lanes, and of
 /// the odd ones between them.
 #[inline(always)]
-fn write_sums<const H: usize>(
-    totals: &mut [u128],
-    lane: usize,
-    even_low: Simd<u64, H>,
-    even_high: Simd<u64, H>,
-    odd_low: Simd<u64, H>,
-    odd_high: Simd<u64, H>,
-)
+fn write_sums<const H: usize>(totals: &mut [u128], lane: usize, sums: LaneSums<H>)
     requires inside { lane + 2 * H ≤ length totals.old }
     ensures length { length totals.new ≡ length totals.old }
     ensures value { (number : ℕ → ℕ) → ((j : ℕ) → j < lane → slice_index totals.old j ≡ number j)
-        → ((k : ℕ) → k < H → sum_at even_low.entry even_high.entry k ≡ number (lane + 2 * k))
-        → ((k : ℕ) → k < H → sum_at odd_low.entry odd_high.entry k ≡ number (lane + 2 * k + 1))
+        → ((k : ℕ) → k < H → sum_at sums.entry.even_low sums.entry.even_high k ≡ number (lane + 2 * k))
+        → ((k : ℕ) → k < H → sum_at sums.entry.odd_low sums.entry.odd_high k ≡ number (lane + 2 * k + 1))
         → (j : ℕ) → j < lane + 2 * H → slice_index totals.new j ≡ number j }
 {
-    let even_lows = even_low.to_array();
-    let even_highs = even_high.to_array();
-    let odd_lows = odd_low.to_array();
-    let odd_highs = odd_high.to_array();
+    let LaneSums {
+        even_low,
+        even_high,
+        odd_low,
+        odd_high,
+    } = sums;
     for k in 0..H {
-        totals[lane + 2 * k] = even_lows[k] as u128 + 0x1_0000_0000 * even_highs[k] as u128;
-        totals[lane + 2 * k + 1] = odd_lows[k] as u128 + 0x1_0000_0000 * odd_highs[k] as u128;
+        totals[lane + 2 * k] = even_low[k] as u128 + 0x1_0000_0000 * even_high[k] as u128;
+        totals[lane + 2 * k + 1] = odd_low[k] as u128 + 0x1_0000_0000 * odd_high[k] as u128;
     }
 }
 
@@ -191,28 +246,8 @@ fn write_lanes<R: WordRow<N>, V: WordVectors<L, H>, const N: usize, const L: usi
     ensures value { ((j : ℕ) → j < lane → slice_index totals.old j ≡ sum_of_products (R.word j) u.now v.now)
         → (j : ℕ) → j < lane + 2 * H → slice_index totals.new j ≡ sum_of_products (R.word j) u.now v.now }
 {
-    let mut even_low = Simd::<u64, H>::splat(0);
-    let mut even_high = Simd::<u64, H>::splat(0);
-    let mut odd_low = Simd::<u64, H>::splat(0);
-    let mut odd_high = Simd::<u64, H>::splat(0);
-    let blocks = u.len() / 4;
-    for i in 0..blocks {
-        let even = products_of_four_rows::<R, V, N, L, H, 0>(u, v, 4 * i, lane);
-        let odd = products_of_four_rows::<R, V, N, L, H, 1>(u, v, 4 * i, lane);
-        even_low = add_low_words::<H>(even_low, even);
-        even_high = add_high_words::<H>(even_high, even);
-        odd_low = add_low_words::<H>(odd_low, odd);
-        odd_high = add_high_words::<H>(odd_high, odd);
-    }
-    for i in 4 * blocks..u.len() {
-        let last_even = products_of_rows::<R, V, N, L, H, 0>(&u[i], &v[i], lane);
-        let last_odd = products_of_rows::<R, V, N, L, H, 1>(&u[i], &v[i], lane);
-        even_low = add_low_words::<H>(even_low, last_even);
-        even_high = add_high_words::<H>(even_high, last_even);
-        odd_low = add_low_words::<H>(odd_low, last_odd);
-        odd_high = add_high_words::<H>(odd_high, last_odd);
-    }
-    write_sums::<H>(totals, lane, even_low, even_high, odd_low, odd_high);
+    let sums = lane_sums::<R, V, N, L, H>(u, v, lane);
+    write_sums::<H>(totals, lane, sums);
 }
 
 /// The sums of the products of two lists of rows, lane by lane. `None` where the number of lanes is neither four
@@ -222,6 +257,7 @@ pub fn sums_of_rows<R: WordRow<N>, const N: usize>(u: &[R], v: &[R]) -> Option<[
     requires lengths { length u.now ≡ length v.now }
     requires few { length u.now ≤ 2 ^ 16 }
     requires short { (k : ℕ) (x : R) → k < N → R.word k x < 2 ^ 31 }
+    ensures none { IfNone result ((0 < N % 8) × (N ≢ 4)) }
     ensures length { IfSome result (λ sums. length sums ≡ N) }
     ensures value { IfSome result (λ sums. (k : ℕ) → k < N → slice_index sums k ≡ sum_of_products (R.word k) u.now v.now) }
 {
@@ -240,6 +276,35 @@ pub fn sums_of_rows<R: WordRow<N>, const N: usize>(u: &[R], v: &[R]) -> Option<[
 }
 
 /// The residues that are, lane by lane, the sums of the products of two lists of rows once they are multiplied by
+/// 2^32: each sum is reduced by itself. `None` as `sums_of_rows`.
+fn residues_of_sums<R: WordRow<N>, const N: usize>(
+    u: &[R],
+    v: &[R],
+    order: u32,
+    inverse: u32,
+) -> Option<[u32; N]>
+    requires above { 1 < order }
+    requires fits { order < 2 ^ 31 }
+    requires inverse { (order * inverse) % 2 ^ 32 ≡ 1 }
+    requires lanes { N ≤ 64 }
+    requires lengths { length u.now ≡ length v.now }
+    requires few { length u.now ≤ 2 ^ 16 }
+    requires short { (k : ℕ) (x : R) → k < N → R.word k x < 2 ^ 31 }
+    ensures none { IfNone result ((0 < N % 8) × (N ≢ 4)) }
+    ensures length { IfSome result (λ words. length words ≡ N) }
+    ensures below { IfSome result (λ words. AreBelow N order words) }
+    ensures value { IfSome result (λ words. AreReduced N order (λ k. sum_of_products (R.word k) u.now v.now) words) }
+{
+    let totals = sums_of_rows::<R, N>(u, v)?;
+    let mut words = [0u32; N];
+    for k in 0..N {
+        let word = montgomery_sum(totals[k], order, inverse);
+        words[k] = word;
+    }
+    Some(words)
+}
+
+/// The residues that are, lane by lane, the sums of the products of two lists of rows once they are multiplied by
 /// 2^32. `None` as `sums_of_rows`.
 #[inline(always)]
 pub fn montgomery_sums_of_rows<R: WordRow<N>, const N: usize>(
@@ -255,15 +320,14 @@ pub fn montgomery_sums_of_rows<R: WordRow<N>, const N: usize>(
     requires lengths { length u.now ≡ length v.now }
     requires few { length u.now ≤ 2 ^ 16 }
     requires short { (k : ℕ) (x : R) → k < N → R.word k x < 2 ^ 31 }
+    ensures none { IfNone result ((0 < N % 8) × (N ≢ 4)) }
     ensures length { IfSome result (λ words. length words ≡ N) }
     ensures below { IfSome result (λ words. AreBelow N order words) }
     ensures value { IfSome result (λ words. AreReduced N order (λ k. sum_of_products (R.word k) u.now v.now) words) }
 {
-    let totals = sums_of_rows::<R, N>(u, v)?;
-    let mut words = [0u32; N];
-    for k in 0..N {
-        let word = montgomery_sum(totals[k], order, inverse);
-        words[k] = word;
+    if order < LONG_ORDERS {
+        residues_of_sums::<R, N>(u, v, order, inverse)
+    } else {
+        residues_of_rows::<R, N>(u, v, order, inverse)
     }
-    Some(words)
 }

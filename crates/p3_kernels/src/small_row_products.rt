@@ -1,5 +1,5 @@
 //! Sums of the products of rows of words below 2^8, lane by lane of two lists of at most 2^16 rows, which 32 bits hold.
-ghost use Rattle.std.specs.Prelude.{◌≡◌, ℕ, ◌+◌, ◌*◌, ◌^◌, ◌<◌, ◌≤◌, IfSome, get_or, length, slice_index};
+ghost use Rattle.std.specs.Prelude.{◌≡◌, ℕ, ◌+◌, ◌*◌, ◌%◌, ◌^◌, ◌<◌, ◌≤◌, ◌≢◌, IfNone, IfSome, get_or, length, slice_index};
 ghost use Rattle.p3_kernels.specs.Words.{AreBelow, product_at};
 ghost use Rattle.p3_kernels.specs.Residues.{AreResidues};
 ghost use Rattle.p3_theory.specs.ResidueRings.SumsOfProducts.{sum_of_products};
@@ -103,6 +103,7 @@ pub fn small_sums_of_rows<R: WordRow<N>, const N: usize>(
     requires lengths { length u.now ≡ length v.now }
     requires few { length u.now ≤ 2 ^ 16 }
     requires short { (k : ℕ) (x : R) → k < N → R.word k x < 2 ^ 8 }
+    ensures none { IfNone result ((0 < N % 8) × (N ≢ 4)) }
     ensures length { IfSome result (λ words. length words ≡ N) }
     ensures value { IfSome result (λ words. AreResidues N order (λ k. sum_of_products (R.word k) u.now v.now) words) }
 {

@@ -9,8 +9,8 @@ loop-k-preserved g c =
     let i = c.args.lane + 2 * c.loop-k.k in
     let vs = c.loop-k.totals in
     let held = c.loop-k.invariant in
-    let even = sum_at c.args.even_low c.args.even_high c.loop-k.k in
-    let odd = sum_at c.args.odd_low c.args.odd_high c.loop-k.k in
+    let even = sum_at c.args.sums.even_low c.args.sums.even_high c.loop-k.k in
+    let odd = sum_at c.args.sums.odd_low c.args.sums.odd_high c.loop-k.k in
     let room : i + 1 < length vs = omega (arith, held.0, c.requires.inside, c.loop-k-test.true) in (
       length-set (slice_set vs i even) (i + 1) odd ∙ length-set vs i even ∙ held.0,
       λ number before evens odds j l.

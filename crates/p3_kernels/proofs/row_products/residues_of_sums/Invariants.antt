@@ -1,6 +1,6 @@
 use Rattle.std.proofs.Common.{◌≡◌, length, get_or}
 use Rattle.p3_kernels.specs.Words.{AreBelow, AreReduced}
-use Rattle.p3_kernels.proofs.row_products.montgomery_sums_of_rows.Given as goal
+use Rattle.p3_kernels.proofs.row_products.residues_of_sums.Given as goal
 
 abbrev pub invariant-loop-k : goal.invariant-loop-k
 invariant-loop-k g l =
