@@ -1,5 +1,5 @@
 -- Streams side by side: the rows that a call makes are the streams of the columns.
-use Rattle.std.specs.Prelude.{slice_get, slice_index, slice_index_or}
+use Rattle.std.specs.Prelude.{slice_get, slice_index, slice_index_or, get_or}
 use Rattle.std.specs.List.{flat_map, cons_option}
 use Rattle.std.proofs.Common.{◌≡◌, ◌<◌, ◌≤◌, ◌+◌, ◌-◌, ◌*◌, ℕ, zero, suc, List, [], ◌∷◌, ◌++◌, length, take, drop, map, replicate, Option, Some, None, refl, ap, ap₂, sym, subst, ◌∙◌, arith, length-append}
 use Rattle.std.proofs.lemmas.List.{length-map}
@@ -215,9 +215,9 @@ map-by_indices f (x ∷ xs) [] l h = absurd (omega (arith, l))
 map-by_indices f (x ∷ xs) (y ∷ ys) l h = ap₂ (λ z zs. z ∷ zs) (h 0 x (omega arith)) (map-by_indices f xs ys (omega (arith, l)) (λ k d b. h (suc k) d (omega arith)))
 
 -- one more entry, written at its index
-pub wrote_entry : (s : ℕ → ℕ) (i : ℕ) (ws : List ℕ) (v : ℕ) → i < length ws → ((k : ℕ) → k < i → slice_index ws k ≡ s k) → v ≡ s i
-    → (k : ℕ) → k < i + 1 → slice_index (set ws i v) k ≡ s k
-wrote_entry s i ws v b h e =
-    below_more (λ k. slice_index (set ws i v) k ≡ s k) i
-    (λ k w. get_or-set_other ws i k v 0 (omega arith) ∙ h k w)
-    (get_or-set_same ws i v 0 (omega arith) ∙ e)
+pub wrote_entry : {A : Type 0} (d : A) (s : ℕ → A) (i : ℕ) (ws : List A) (v : A) → i < length ws → ((k : ℕ) → k < i → get_or ws k d ≡ s k) → v ≡ s i
+    → (k : ℕ) → k < i + 1 → get_or (set ws i v) k d ≡ s k
+wrote_entry d s i ws v b h e =
+    below_more (λ k. get_or (set ws i v) k d ≡ s k) i
+    (λ k w. get_or-set_other ws i k v d (omega arith) ∙ h k w)
+    (get_or-set_same ws i v d (omega arith) ∙ e)

@@ -1,6 +1,7 @@
 ghost use Rattle.std.specs.Prelude.{◌≡◌, ◌<◌, ◌≤◌, ◌*◌, ℕ, List, [], ◌∷◌, length, map, replicate, slice_index, MatchOption, OnSome, IfNone};
 ghost use Rattle.std.specs.Bool.{MatchBool};
 ghost use Rattle.std.specs.Iterator.{IsFinite, size, count_map, count_unless};
+ghost use Rattle.p3_theory.specs.Polynomials.Polynomial.{tabulate};
 ghost use Rattle.p3_spaces.specs.Streams.{YieldsExactly, DrawnFrom, AllOfLength, AreParallel, column, byte_stream, row_bytes, left_of, word_stream, group_count, GathersGroup, ReadsGroup, row_words};
 
 use p3_spaces::array_chunks::next_chunk_padded;
@@ -230,15 +231,10 @@ impl<const N: usize> ParallelWord<N> for u32 {
         source: &mut I,
         is_over: &mut bool,
     ) -> Option<[u32; N]> {
-        let chunk: [[u8; N]; 4] = match next_chunk_padded(source, is_over, [0; N]) {
-            None => return None,
-            Some(chunk) => chunk,
-        };
-        let mut words = [0; N];
-        for j in 0..N {
-            words[j] = u32::from_le_bytes(column_bytes(&chunk, j));
+        match next_chunk_padded(source, is_over, [0; N]) {
+            None => None,
+            Some(chunk) => Some(words_by_index::<u32, 4, N>(&chunk, 0)),
         }
-        Some(words)
     }
 }
 
@@ -256,15 +252,10 @@ impl<const N: usize> ParallelWord<N> for u64 {
         source: &mut I,
         is_over: &mut bool,
     ) -> Option<[u64; N]> {
-        let chunk: [[u8; N]; 8] = match next_chunk_padded(source, is_over, [0; N]) {
-            None => return None,
-            Some(chunk) => chunk,
-        };
-        let mut words = [0; N];
-        for j in 0..N {
-            words[j] = u64::from_le_bytes(column_bytes(&chunk, j));
+        match next_chunk_padded(source, is_over, [0; N]) {
+            None => None,
+            Some(chunk) => Some(words_by_index::<u64, 8, N>(&chunk, 0)),
         }
-        Some(words)
     }
 }
 
@@ -310,6 +301,42 @@ impl<W: ParallelWord<N>, I: Iterator<Item = W::Bytes>, const N: usize> Iterator
     {
         words_hint(self.is_over, W::BYTES, self.source.size_hint())
     }
+}
+
+/// A word of M bytes. This project's own.
+trait WordOfBytes<const M: usize>: StreamWord {
+    /// The word with these bytes, the lowest first.
+    fn of_bytes(bytes: [u8; M]) -> Self
+        ensures { result ≡ read bytes };
+}
+
+impl WordOfBytes<4> for u32 {
+    #[inline]
+    fn of_bytes(bytes: [u8; 4]) -> u32 {
+        u32::from_le_bytes(bytes)
+    }
+}
+
+impl WordOfBytes<8> for u64 {
+    #[inline]
+    fn of_bytes(bytes: [u8; 8]) -> u64 {
+        u64::from_le_bytes(bytes)
+    }
+}
+
+/// At each index the word of the bytes that the rows have there. This project's own.
+#[inline]
+fn words_by_index<W: WordOfBytes<M>, const M: usize, const N: usize>(
+    rows: &[[u8; N]; M],
+    zero: W,
+) -> [W; N]
+    ensures { result ≡ tabulate N (λ j. W.read (map (λ row. slice_index row j) rows.now)) }
+{
+    let mut words = [zero; N];
+    for j in 0..N {
+        words[j] = W::of_bytes(column_bytes(rows, j));
+    }
+    words
 }
 
 /// The bytes at index j of the rows. This project's own.

@@ -1,5 +1,4 @@
 mod NextTerm
-mod DoubledTerms
 mod EightFurther
 mod PackedGroups
 mod SumParts

@@ -3,7 +3,8 @@
 ghost use Rattle.std.specs.Prelude.{◌≡◌, ◌<◌, ◌≤◌, ◌+◌, ◌*◌, ◌-◌, ◌^◌, ℕ, min, true, false, None, Some, IfSome, IsSomeAnd};
 ghost use Rattle.std.specs.Option.{option_map};
 ghost use Rattle.std.specs.Iterator.Adapters.{inner_items_left};
-ghost use Rattle.std.specs.Iterator.SizeHint.{IsExactHint};
+ghost use Rattle.std.specs.Iterator.{Count, UpTo, count_map, count_unless};
+ghost use Rattle.std.specs.Iterator.SizeHint.{IsExactHint, IsWithinCount};
 ghost use Rattle.p3_spaces.specs.Streams.{group_count};
 
 /// The hint of the reader in hand. One with no upper bound counts as 0 or more. This project's own.
@@ -66,6 +67,8 @@ pub fn words_hint(is_over: bool, n: usize, bytes: (usize, Option<usize>)) -> (us
     ensures over { is_over ≡ true → result ≡ (0, Some 0) }
     ensures lower { is_over ≡ false → result.0 ≡ group_count n bytes.0 }
     ensures upper { is_over ≡ false → result.1 ≡ option_map (group_count n) bytes.1 }
+    ensures least { (left : Count) → IsWithinCount bytes.0 left → IsWithinCount result.0 (count_unless is_over (count_map (group_count n) left)) }
+    ensures most { (left : Count) → IfSome bytes.1 (UpTo left) → IfSome result.1 (UpTo (count_unless is_over (count_map (group_count n) left))) }
 {
     if is_over {
         return (0, Some(0));

@@ -11,6 +11,7 @@ pub mod ConvolutionSums
 pub mod Text
 pub mod TextSteps
 pub mod HornerFold
+pub mod BlockValues
 pub mod BaseProduct
 pub mod ScalarSums
 pub mod IntegerPolynomials

@@ -5,3 +5,4 @@ pub mod Residues
 pub mod RootsOfUnity
 pub mod BitLength
 pub mod ResidueGenerators
+pub mod Reciprocals

@@ -9,6 +9,7 @@ pub mod Accumulation
 pub mod BooleanForms
 pub mod PowerProducts
 pub mod GeometricSequence
+pub mod DoubledTerms
 pub mod DotProduct
 pub mod MixedDotProduct
 pub mod AdditiveMaps

@@ -7,6 +7,5 @@ pub mod PackedDigits
 pub mod Injective
 pub mod Sizes
 pub mod SplitDigits
-pub mod BlockValues
 pub mod TurningStrands
 pub mod YieldedItems

@@ -1,7 +1,8 @@
 use Rattle.std.proofs.Common.{get_or, ℕ, ◌<◌, arith}
 use Rattle.std.proofs.lemmas.Simd.{Each1-all, Each2-splat}
+use Rattle.p3_theory.specs.ResidueRings.Reciprocals.{products_short}
 use Rattle.p3_kernels.proofs.LaneOperations.{lane_by, width_by}
-use Rattle.p3_kernels.proofs.ShortRemainders.{products_short, remainder}
+use Rattle.p3_kernels.proofs.ShortRemainders.{remainder}
 use Rattle.p3_kernels.proofs.short_remainders.short_remainders.Goals as goal
 
 pub remainders_by_reciprocal-requires : goal.remainders_by_reciprocal-requires
