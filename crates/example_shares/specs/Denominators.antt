@@ -99,10 +99,10 @@ module _ {A : Type 0} (R : Ring A) where
       other_difference (get_or xs i d) d xs i j other hj (subst Unit (are.products d i hi) (each_factor ds u d i at))
 
   pub invertible : (xs ds : List A) → AreDenominators R.ops xs ds → AreApart R.ops xs → Unit (product_list R.ops ds)
-  invertible xs ds are told = all_factors ds (λ d i h.
+  invertible xs ds are known = all_factors ds (λ d i h.
       let at : i < length xs = omega (arith, h, are.sized) in
       subst Unit (sym (are.products d i at))
-      (other_differences (get_or xs i d) d xs i (λ j n hj. told d j i hj at (λ e. n (sym e)))))
+      (other_differences (get_or xs i d) d xs i (λ j n hj. known d j i hj at (λ e. n (sym e)))))
 
   length-reduced : (a : A) (xs ws : List A) → length ws ≡ length xs → length (reduced R.ops a xs ws) ≡ length xs
   length-reduced a [] ws h = refl

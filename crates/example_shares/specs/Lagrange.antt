@@ -236,4 +236,4 @@ module _ {A : Type 0} (R : Ring A) where
 
   -- so the formula is the secret
   pub secret : (xs ys ws : List A) (s : A) → AreWeights R.ops xs ws → s ≡ L xs ys ws → IsSecret R.ops xs ys s
-  secret xs ys ws s h e c le told = e ∙ ap (λ l. L xs l ws) told ∙ interpolates xs ws h c le ∙ value-zero c
+  secret xs ys ws s h e c le known = e ∙ ap (λ l. L xs l ws) known ∙ interpolates xs ws h c le ∙ value-zero c

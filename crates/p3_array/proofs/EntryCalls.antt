@@ -39,10 +39,10 @@ module _ {S F A B : Type 0} (h : Mut S (ℕ × Unit {0}) B) (g : Mut F (A × Uni
   callable-entries takes f kept c =
       record {
         at = λ is t q i u y folds s.
-            let told = turns is 0 t f q kept y folds in
+            let known = turns is 0 t f q kept y folds in
             let below : t < length xs = omega (arith, s.0, sized) in
-            let may = c.at told.0 (drop t xs) (callee q) (get_or xs t d) (drop (suc t) xs) told.1 told.2 (drop-cons xs t d below) in
-            subst (λ j. Takes h q (j, tt)) (sym s.1) (takes q t told.3 s.0 may);
+            let may = c.at known.0 (drop t xs) (callee q) (get_or xs t d) (drop (suc t) xs) known.1 known.2 (drop-cons xs t d below) in
+            subst (λ j. Takes h q (j, tt)) (sym s.1) (takes q t known.3 s.0 may);
       }
 
   maps : (ys : List B) (m i : ℕ) (p : S) → i + m ≤ n → I p → IsFromFnResultFrom h p ys i m → MapsFrom g (callee p) xs ys i m

@@ -76,23 +76,23 @@ ends_so r w x y end bytes text status p q h = subst (λ (v : Bool). RunEnds v w 
 
 -- the text and how the run ends, for some bytes that were read
 abbrev pub Outlook : Bool → Bool → Type 0 → Option (List ℕ) → Option (List ℕ) → List ℕ → ℕ → Type 0
-Outlook r w end told_old told_new bytes status = (text : List ℕ) × Appends told_old told_new text × RunEnds r w end bytes text status
+Outlook r w end sink_old sink_new bytes status = (text : List ℕ) × Appends sink_old sink_new text × RunEnds r w end bytes text status
 
 pub after_cut : (m : Machine) (r f g : Bool) (end : Type 0) (a b c : Option (List ℕ)) (bytes text : List ℕ) (status : ℕ) → r ≡ true → f ≡ false → RunSoFar m bytes text → Appends a b text
     → Ended b c f g (fault_line m.number ReadFault) 1 status → Outlook r g end a c bytes status
-after_cut m r f g end a b c bytes text status er ef st told h =
+after_cut m r f g end a b c bytes text status er ef st known h =
     let line = fault_line m.number ReadFault in
     elim h [
       | inl p ↦ (
         text ++ line,
-        Appends-trans a b c text line told p.2,
+        Appends-trans a b c text line known p.2,
         ends_so r g true false end bytes (text ++ line) status er (p.1 ∙ ef) (p.0, cut_short m bytes text st),
       )
       | inr p ↦
           let front = take p.2.0 line in
           let joined : (text ++ front) ++ drop p.2.0 line ≡ text ++ line = append_assoc text front (drop p.2.0 line) ∙ ap (λ l. text ++ l) (take-append-drop p.2.0 line) in (
             text ++ front,
-            Appends-trans a b c text front told p.2.2,
+            Appends-trans a b c text front known p.2.2,
             ends_so r g true true end bytes (text ++ front) status er p.1
                 (p.0, (drop p.2.0 line, subst (λ (l : List ℕ). IsCutShort bytes l) (sym joined) (cut_short m bytes text st))),
           )
@@ -100,9 +100,9 @@ after_cut m r f g end a b c bytes text status er ef st told h =
 
 pub after_finish : (m : Machine) (r f g : Bool) (end : Type 0) (a b c : Option (List ℕ)) (bytes text : List ℕ) (status : ℕ) → r ≡ false → f ≡ false → end → RunSoFar m bytes text → Appends a b text
     → Finishes m b c f g status → Outlook r g end a c bytes status
-after_finish m r f g end a b c bytes text status er ef at st told h =
+after_finish m r f g end a b c bytes text status er ef at st known h =
     let x = h bytes text st in
-    let all = Appends-trans a b c text x.0 told x.1 in
+    let all = Appends-trans a b c text x.0 known x.1 in
     elim x.2 [
       | inl p ↦ (text ++ x.0, all, ends_so r g false false end bytes (text ++ x.0) status er (p.0 ∙ ef) (inl (at, p.1)))
       | inr p ↦ (text ++ x.0, all, ends_so r g false true end bytes (text ++ x.0) status er p.1 (p.0, inl (at, p.2)))
@@ -111,38 +111,38 @@ after_finish m r f g end a b c bytes text status er ef at st told h =
 -- after some more bytes
 after_fault : (old new : Machine) (k : Fault) (r f g h : Bool) (end : Type 0) (a b c d : Option (List ℕ)) (bytes more text : List ℕ) (status : ℕ) → r ≡ false → f ≡ false → g ≡ f → RunSoFar old bytes text → Appends a b text
     → TakesBytes old new b c (Err (AtFault k)) more → Ended c d g h (fault_line new.number k) 1 status → Outlook r h end a d (bytes ++ more) status
-after_fault old new k r f g h end a b c d bytes more text status er ef eg st told takes e =
+after_fault old new k r f g h end a b c d bytes more text status er ef eg st known takes e =
     let line = fault_line new.number k in
     let x = takes bytes text st in
     let before = text ++ x.0 in
-    let so_told = Appends-trans a b c text x.0 told x.1 in
+    let all_written = Appends-trans a b c text x.0 known x.1 in
     elim e [
       | inl p ↦ (
         before ++ line,
-        Appends-trans a c d before line so_told p.2,
+        Appends-trans a c d before line all_written p.2,
         ends_so r h false false end (bytes ++ more) (before ++ line) status er (p.1 ∙ eg ∙ ef) (inr (p.0, x.2)),
       )
       | inr p ↦ (
         before ++ take p.2.0 line,
-        Appends-trans a c d before (take p.2.0 line) so_told p.2.2,
+        Appends-trans a c d before (take p.2.0 line) all_written p.2.2,
         ends_so r h false true end (bytes ++ more) (before ++ take p.2.0 line) status er p.1 (p.0, inr (λ m. (drop p.2.0 line, 1, subst (λ (t : List ℕ). IsText (lines_of ((bytes ++ more) ++ m)) t 1) (sym (front_rest before line p.2.0)) (x.2 m)))),
       )
     ]
 
 after_stop : (old new : Machine) (r g : Bool) (end : Type 0) (a b c : Option (List ℕ)) (bytes more text : List ℕ) → r ≡ false → g ≡ true → RunSoFar old bytes text → Appends a b text
     → TakesBytes old new b c (Err AtWrite) more → Outlook r g end a c (bytes ++ more) 2
-after_stop old new r g end a b c bytes more text er eg st told takes =
+after_stop old new r g end a b c bytes more text er eg st known takes =
     let x = takes bytes text st in (
       text ++ x.0,
-      Appends-trans a b c text x.0 told x.1,
+      Appends-trans a b c text x.0 known x.1,
       ends_so r g false true end (bytes ++ more) (text ++ x.0) 2 er eg (refl, inr x.2),
     )
 
 pub after_err : (old new : Machine) (e : Stop) (r f g h : Bool) (end : Type 0) (a b c d : Option (List ℕ)) (bytes more text : List ℕ) (status : ℕ) → r ≡ false → f ≡ false → StopsAtFailure (Err e) f g → RunSoFar old bytes text → Appends a b text
     → TakesBytes old new b c (Err e) more → EndedAt e new.number c d g h status → Outlook r h end a d (bytes ++ more) status
-after_err old new (AtFault k) r f g h end a b c d bytes more text status er ef eg st told takes e = after_fault old new k r f g h end a b c d bytes more text status er ef eg st told takes e
-after_err old new AtWrite r f g h end a b c d bytes more text status er ef eg st told takes e =
-    let out = after_stop old new r h end a b c bytes more text er (e.1 ∙ eg) st told takes in
+after_err old new (AtFault k) r f g h end a b c d bytes more text status er ef eg st known takes e = after_fault old new k r f g h end a b c d bytes more text status er ef eg st known takes e
+after_err old new AtWrite r f g h end a b c d bytes more text status er ef eg st known takes e =
+    let out = after_stop old new r h end a b c bytes more text er (e.1 ∙ eg) st known takes in
     subst (λ (s : ℕ). Outlook r h end a d (bytes ++ more) s) (sym e.0) (subst (λ (o : Option (List ℕ)). Outlook r h end a o (bytes ++ more) 2) (sym e.2) out)
 
 pub whole : (old new : Option (List ℕ)) (bytes text : List ℕ) (status : ℕ) → Consumes old new bytes → RunEnds false false (IsAtEnd new) bytes text status → IfSome old (λ input. IsText (lines_of input) text status)

@@ -44,8 +44,8 @@ RunAfter machine (Err AtWrite) bytes text = (more : List ℕ) → BeginsText (li
 
 -- the bytes were taken, and what was written for them follows what was written before
 abbrev pub TakesBytes : Machine → Machine → Option (List ℕ) → Option (List ℕ) → Result (Unit {0}) Stop → List ℕ → Type 0
-TakesBytes old new told_old told_new result bytes = (before text : List ℕ) → RunSoFar old before text
-    → (out : List ℕ) × Appends told_old told_new out × RunAfter new result (before ++ bytes) (text ++ out)
+TakesBytes old new sink_old sink_new result bytes = (before text : List ℕ) → RunSoFar old before text
+    → (out : List ℕ) × Appends sink_old sink_new out × RunAfter new result (before ++ bytes) (text ++ out)
 
 -- a run stops for the writer only where a write failed
 abbrev pub StopsAtFailure : Result (Unit {0}) Stop → Bool → Bool → Type 0
@@ -55,18 +55,18 @@ StopsAtFailure (Err AtWrite) old new = new ≡ true
 
 -- all of the line was written, with this status, or a front of it, with status 2
 abbrev pub Ended : Option (List ℕ) → Option (List ℕ) → Bool → Bool → List ℕ → ℕ → ℕ → Type 0
-Ended told_old told_new failed_old failed_new line good status =
-    ((status ≡ good) × (failed_new ≡ failed_old) × Appends told_old told_new line)
-    ⊎ ((status ≡ 2) × (failed_new ≡ true) × AppendsFront told_old told_new line)
+Ended sink_old sink_new failed_old failed_new line good status =
+    ((status ≡ good) × (failed_new ≡ failed_old) × Appends sink_old sink_new line)
+    ⊎ ((status ≡ 2) × (failed_new ≡ true) × AppendsFront sink_old sink_new line)
 
 -- after a stop: the line of the fault, or nothing more
 abbrev pub EndedAt : Stop → ℕ → Option (List ℕ) → Option (List ℕ) → Bool → Bool → ℕ → Type 0
-EndedAt (AtFault fault) number told_old told_new failed_old failed_new status = Ended told_old told_new failed_old failed_new (fault_line number fault) 1 status
-EndedAt AtWrite number told_old told_new failed_old failed_new status = (status ≡ 2) × (failed_new ≡ failed_old) × (told_new ≡ told_old)
+EndedAt (AtFault fault) number sink_old sink_new failed_old failed_new status = Ended sink_old sink_new failed_old failed_new (fault_line number fault) 1 status
+EndedAt AtWrite number sink_old sink_new failed_old failed_new status = (status ≡ 2) × (failed_new ≡ failed_old) × (sink_new ≡ sink_old)
 
 -- the pending bytes were the last line
 abbrev pub Finishes : Machine → Option (List ℕ) → Option (List ℕ) → Bool → Bool → ℕ → Type 0
-Finishes old told_old told_new failed_old failed_new status = (bytes text : List ℕ) → RunSoFar old bytes text
-    → (out : List ℕ) × Appends told_old told_new out
+Finishes old sink_old sink_new failed_old failed_new status = (bytes text : List ℕ) → RunSoFar old bytes text
+    → (out : List ℕ) × Appends sink_old sink_new out
     × (((failed_new ≡ failed_old) × IsText (lines_of bytes) (text ++ out) status)
     ⊎ ((status ≡ 2) × (failed_new ≡ true) × BeginsText (lines_of bytes) (text ++ out)))

@@ -27,17 +27,17 @@ column_of_answers g f ys d c rows n long h I kept step =
 -- an answer told of equal rows and an equal index
 pub entry_answer : {A : Type 0} (d : A) (xs ys : List (List A)) (i j k : ℕ) (y : A) → xs ≡ ys → i ≡ j
     → ((d e : A) → y ≡ get_or (column d i xs) k e) → y ≡ get_or (column d j ys) k d
-entry_answer d xs ys i j k y rows_are index_is told =
-    told d d ∙ ap (λ l. get_or (column d i l) k d) rows_are ∙ ap (λ m. get_or (column d m ys) k d) index_is
+entry_answer d xs ys i j k y rows_are index_is known =
+    known d d ∙ ap (λ l. get_or (column d i l) k d) rows_are ∙ ap (λ m. get_or (column d m ys) k d) index_is
 
 -- a column told of equal rows
 pub column_answer : {A : Type 0} (d : A) (xs ys : List (List A)) (i : ℕ) (column_read : List A) → xs ≡ ys → column_read ≡ column d i xs → column_read ≡ column d i ys
-column_answer d xs ys i read rows_are told = told ∙ ap (column d i) rows_are
+column_answer d xs ys i read rows_are known = known ∙ ap (column d i) rows_are
 
--- lane l of a packing told of equal packings and an equal lane
-pub lane_told : {P A : Type 0} (lanes : P → List A) (xs ys : List P) (i l m : ℕ) (y : A) → xs ≡ ys → l ≡ m
+-- what holds of a lane of packings, for equal packings and an equal lane
+pub lane_by_equal : {P A : Type 0} (lanes : P → List A) (xs ys : List P) (i l m : ℕ) (y : A) → xs ≡ ys → l ≡ m
     → ((p : P) → slice_get (lanes (get_or xs i p)) l ≡ Some y) → (p : P) → slice_get (lanes (get_or ys i p)) m ≡ Some y
-lane_told lanes xs ys i l m y packings_are lane_is told p = sym (ap₂ (λ zs k. slice_get (lanes (get_or zs i p)) k) packings_are lane_is) ∙ told p
+lane_by_equal lanes xs ys i l m y packings_are lane_is known p = sym (ap₂ (λ zs k. slice_get (lanes (get_or zs i p)) k) packings_are lane_is) ∙ known p
 
 entry_of_row : {A : Type 0} (d : A) (c : ℕ) (rows : List (List A)) (k : ℕ) → get_or (column d c rows) k d ≡ get_or (get_or rows k []) c d
 entry_of_row d c rows k = get_or-map (λ row. get_or row c d) rows k []

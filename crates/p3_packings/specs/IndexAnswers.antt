@@ -31,7 +31,7 @@ pub lanes_of_answers : {F R X A : Type 0} (g : Mut F (ℕ × Unit {0}) A) (f : F
     → A → (l : ℕ) → l < n → (x : X) × Gives r l x × (slice_get ys l ≡ Some (value c x))
 lanes_of_answers {F} {R} {X} {A} g f ys n Gives value r c r_of c_of h kept step d l below =
     let Holds : ℕ → A → Type 0 = λ i y. (x : X) × Gives r i x × (y ≡ value c x) in
-    let told : Holds l (slice_index_or ys l d) = each_answer g (λ p. (r_of p ≡ r) × (c_of p ≡ c)) Holds
+    let known : Holds l (slice_index_or ys l d) = each_answer g (λ p. (r_of p ≡ r) × (c_of p ≡ c)) Holds
     (λ p i y q k call.
     let s = step p i y q call in
     let P : R → Type 0 = λ z. (x : X) × Gives z i x × (y ≡ value c x) in
@@ -39,4 +39,4 @@ lanes_of_answers {F} {R} {X} {A} g f ys n Gives value r c r_of c_of h kept step 
     (subst P k.0 (subst Q k.1 s.0), (s.1 ∙ k.0, s.2 ∙ k.1)))
     f ys n kept h l d below in
     let inside : l < length ys = omega (arith, h.long, below) in
-    (told.0, told.1, slice_get-get_or ys l d inside ∙ ap (λ y. Some y) told.2)
+    (known.0, known.1, slice_get-get_or ys l d inside ∙ ap (λ y. Some y) known.2)

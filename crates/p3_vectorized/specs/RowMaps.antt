@@ -68,5 +68,5 @@ called_tabulate g f ys m h I s kept step d = answers-tabulate g I s step d f ys 
 -- an answer told of equal rows and an equal index
 pub column_answer : {A : Type 0} {n : ℕ} (z : A) (xs ys : List (Row A n)) (i j k : ℕ) (y : A) → xs ≡ ys → i ≡ j
     → ((e : A) → y ≡ get_or (map (λ v. get_or v.items i z) xs) k e) → y ≡ get_or (map (λ v. get_or v.items j z) ys) k z
-column_answer z xs ys i j k y rows_are index_is told =
-    told z ∙ ap (λ l. get_or (map (λ v. get_or v.items i z) l) k z) rows_are ∙ ap (λ m. get_or (map (λ v. get_or v.items m z) ys) k z) index_is
+column_answer z xs ys i j k y rows_are index_is known =
+    known z ∙ ap (λ l. get_or (map (λ v. get_or v.items i z) l) k z) rows_are ∙ ap (λ m. get_or (map (λ v. get_or v.items m z) ys) k z) index_is

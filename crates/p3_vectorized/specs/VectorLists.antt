@@ -90,12 +90,12 @@ module _ {P B : Type 0} (O : Ops P) (Q : Ops B) (lanes : P → List B) (w : ℕ)
     -- packings of the first m groups of a list
     pub lanes-groups : (v : Row P n) (xs : List P) (s : List B) (m : ℕ) → v.items ≡ xs → m * w ≤ lane_count w n
         → ((d : P) (k : ℕ) → k < m → lanes (get_or xs k d) ≡ slice_range s (k * w) (k * w + w)) → HoldsBelow (at Q s) Q.zero (vector_lanes O Q lanes w v) (m * w)
-    lanes-groups v xs s m e l told i h =
+    lanes-groups v xs s m e l known i h =
         let turned : m * w ≡ w * m = mul_comm m w in
         let b : i < w * m = omega (arith, h, turned) in
         let counted : i < lane_count w n = omega (arith, h, l) in
         get-tabulate (lane_count w n) (λ k. vector_lane O Q lanes w k v) i Q.zero counted ∙ ap (λ k. lane_at k i) e
-        ∙ ap (λ r. get_or r (i % w) Q.zero) (told O.zero (i / w) (part-below w m i b))
+        ∙ ap (λ r. get_or r (i % w) Q.zero) (known O.zero (i / w) (part-below w m i b))
         ∙ range-item s (i / w * w) w (i % w) Q.zero (mod-lt i (some-width w m i b))
         ∙ ap (λ k. get_or s k Q.zero) (div-add-mod' i w)
 
@@ -120,10 +120,10 @@ module _ {P B : Type 0} (O : Ops P) (Q : Ops B) (lanes : P → List B) (w : ℕ)
   pub group-loaded : (s : List B) (xs : List P) (i : ℕ) (x : P) → i < length xs → lanes x ≡ slice_range s (i * w) (i * w + w)
       → ((d : P) (k : ℕ) → k < i → lanes (get_or xs k d) ≡ slice_range s (k * w) (k * w + w))
       → (d : P) (k : ℕ) → k < i + 1 → lanes (get_or (slice_set xs i x) k d) ≡ slice_range s (k * w) (k * w + w)
-  group-loaded s xs i x b told h d =
+  group-loaded s xs i x b known h d =
       below_more (λ k. lanes (get_or (slice_set xs i x) k d) ≡ slice_range s (k * w) (k * w + w)) i
       (λ k c. ap lanes (get_or-set_other xs i k x d (omega (arith, c))) ∙ h d k c)
-      (ap lanes (get_or-set_same xs i x d b) ∙ told)
+      (ap lanes (get_or-set_same xs i x d b) ∙ known)
 
   -- one group more is written
   pub group-written : (xs : List P) (old new : List B) (i : ℕ) (x : P) → i < length xs → x ≡ get_or xs i x → slice_range new (i * w) (i * w + w) ≡ lanes x → take (i * w) new ≡ take (i * w) old

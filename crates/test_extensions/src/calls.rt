@@ -64,7 +64,7 @@ fn base_value_agrees<F: Field + Residue, EF: ExtensionField<F>>(x: EF, answer: &
 }
 
 /// Whether values are those that a text tells, with spaces between them.
-pub fn are_told<T: Listed>(values: &[T], text: &str) -> bool {
+pub fn agree_with<T: Listed>(values: &[T], text: &str) -> bool {
     let mut count: usize = 0;
     for word in text.split_ascii_whitespace() {
         match values.get(count) {
@@ -82,7 +82,7 @@ fn orbit_agrees<F: Field, EF: HasFrobenius<F> + Listed>(
     case: Case<'_>,
 ) -> Result<bool, AllocError> {
     let orbit = EF::of_list(&case.list(0)).galois_orbit(alloc)?;
-    Ok(are_told(&orbit, case.answer))
+    Ok(agree_with(&orbit, case.answer))
 }
 
 /// Whether the text of a value is this one.
@@ -138,7 +138,7 @@ fn zeros_agree<T: PrimeCharacteristicRing + Listed>(
     case: Case<'_>,
 ) -> Result<bool, AllocError> {
     let zeros: Vec<T> = T::zero_vec(alloc, case.number(0) as usize)?;
-    Ok(are_told(&zeros, case.answer))
+    Ok(agree_with(&zeros, case.answer))
 }
 
 /// The text of `a + b X`, written by hand.

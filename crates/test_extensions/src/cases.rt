@@ -165,18 +165,18 @@ impl<'a> Case<'a> {
 
     /// Whether these coefficients are the answer, or none are.
     pub fn answers(self, found: Option<List>) -> bool {
-        is_told(found, self.answer)
+        agrees_with(found, self.answer)
     }
 
     /// Whether a root, or none, and a count of turns are the answer.
     pub fn answers_root(self, root: Option<List>, turns: u32) -> bool {
-        is_told(root, part(self.answer, 0))
+        agrees_with(root, part(self.answer, 0))
             && list_of_text(part(self.answer, 1)) == Some([turns as u64, 0, 0, 0, 0, 0, 0, 0])
     }
 }
 
 /// Whether a text tells these coefficients, or is `None` where there are none.
-pub fn is_told(found: Option<List>, text: &str) -> bool {
+pub fn agrees_with(found: Option<List>, text: &str) -> bool {
     match found {
         Some(list) => list_of_text(text) == Some(list),
         None => text == "None",

@@ -1,7 +1,7 @@
 //! Order, hash and default of extension values, and lists of their coefficients, at one type. What is called at
 //! an extension is so over a marker: a test at a marker's name passes the field's constants alone.
 
-use crate::calls::are_told;
+use crate::calls::agree_with;
 use crate::lists::{List, ZERO};
 use crate::values::{Listed, Residue, coefficients};
 use p3_base::packed_traits::Packable;
@@ -124,7 +124,7 @@ where
 {
     let flat = flat_numbers::<Fp<W>, Quartic<W>>(alloc, lists)?;
     let back = reconstituted::<Fp<W>, Quartic<W>>(alloc, numbers)?;
-    Ok(flat.as_slice() == numbers && are_told::<Quartic<W>>(&back, text))
+    Ok(flat.as_slice() == numbers && agree_with::<Quartic<W>>(&back, text))
 }
 
 #[test]

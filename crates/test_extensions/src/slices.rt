@@ -277,9 +277,9 @@ fn agrees(line: &str) -> Option<bool> {
     let (ring, call) = head.split_once(' ')?;
     let a = list_of_text(part(arguments, 0))?;
     let b = list_of_text(part(arguments, 1))?;
-    let told = list_of_text(answer)?;
+    let expected = list_of_text(answer)?;
     let found = answer_in(ring_of(ring)?, call_of(call)?, &a, &b);
-    Some(found == told)
+    Some(found == expected)
 }
 
 /// Asserts that the call of each line has its answer.

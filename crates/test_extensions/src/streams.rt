@@ -23,7 +23,7 @@ fn are_words(words: &[u64], text: &str) -> bool {
     let mut count: usize = 0;
     for word in text.split(',') {
         match (words.get(count), word.parse::<u64>()) {
-            (Some(found), Ok(told)) if *found == told => {}
+            (Some(found), Ok(expected)) if *found == expected => {}
             _ => return false,
         }
         count = count.wrapping_add(1);

@@ -1,7 +1,7 @@
 //! Powers as packings one after the other, lists of powers that are made by packings, and the growths that such
 //! lists ask for, refused in turn.
 use crate::cases::{Call, Case};
-use crate::numbered::{Numbered, holds_at, number_at, value, values_told};
+use crate::numbered::{Numbered, holds_at, number_at, value, value_count};
 use p3_base::field::Field;
 use p3_base::packed_traits::PackedField;
 use p3_ring::packed_ring::PackedRing;
@@ -40,7 +40,7 @@ fn are_powers<R: PrimeCharacteristicRing + Numbered>(
     mut powers: Powers<R>,
     answer: &[u64],
 ) -> bool {
-    for index in 0..values_told::<R>(answer) {
+    for index in 0..value_count::<R>(answer) {
         if !next_holds(&mut powers, answer, index) {
             return false;
         }

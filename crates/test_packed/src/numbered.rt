@@ -120,14 +120,14 @@ pub(crate) fn value_at<T: Numbered>(numbers: &[u32], index: usize) -> T {
 }
 
 /// How many values a list of numbers tells.
-pub(crate) fn values_told<T: Numbered>(numbers: &[u32]) -> usize {
+pub(crate) fn value_count<T: Numbered>(numbers: &[u32]) -> usize {
     numbers.len().checked_div(T::count()).unwrap_or(0)
 }
 
 /// The values that a list of numbers tells.
 pub(crate) fn values<T: Numbered>(alloc: Global, numbers: &[u32]) -> Result<Vec<T>, AllocError> {
     let mut values = Vec::new(alloc);
-    for index in 0..values_told::<T>(numbers) {
+    for index in 0..value_count::<T>(numbers) {
         values.push(value_at::<T>(numbers, index))?;
     }
     Ok(values)

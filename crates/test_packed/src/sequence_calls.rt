@@ -1,6 +1,6 @@
 //! Powers of an extension value as packings, and the values of packings one after the other.
 use crate::cases::{Call, Case};
-use crate::numbered::{Numbered, holds_at, value, values, values_told};
+use crate::numbered::{Numbered, holds_at, value, value_count, values};
 use p3_base::field::Field;
 use p3_packings::packed_field_extension::PackedFieldExtension;
 use p3_ring::powers::{BoundedPowers, Powers};
@@ -51,7 +51,7 @@ fn are_powers<R: PrimeCharacteristicRing + Numbered>(
     mut powers: Powers<R>,
     answer: &[u32],
 ) -> bool {
-    for index in 0..values_told::<R>(answer) {
+    for index in 0..value_count::<R>(answer) {
         if !next_holds(&mut powers, answer, index) {
             return false;
         }
@@ -64,7 +64,7 @@ fn are_all_powers<R: PrimeCharacteristicRing + Numbered>(
     mut powers: BoundedPowers<R>,
     answer: &[u32],
 ) -> bool {
-    for index in 0..values_told::<R>(answer) {
+    for index in 0..value_count::<R>(answer) {
         match powers.next() {
             Some(power) if holds_at(&power, answer, index) => {}
             _ => return false,
@@ -87,5 +87,5 @@ where
         }
         index = index.wrapping_add(1);
     }
-    index == values_told::<EF>(answer)
+    index == value_count::<EF>(answer)
 }

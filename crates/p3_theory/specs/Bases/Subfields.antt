@@ -27,7 +27,7 @@ embedded-scalar O D x (suc k) h = dite (dec_le D (suc k)) (λ past. get_or_past 
     below n = omega (arith, n)
 
 -- what is told by the coefficients is told of the embedding
-pub told_embedded : {A B : Type 0} (O : Ops A) (D : ℕ) (coefficients : B → List A) (e : A → B) → ((x : A) → coefficients (e x) ≡ embed O D x)
+pub embedded_exactly : {A B : Type 0} (O : Ops A) (D : ℕ) (coefficients : B → List A) (e : A → B) → ((x : A) → coefficients (e x) ≡ embed O D x)
     → (v : B) (r : Option A) → (IsSome r ↔ IsScalar O (coefficients v)) → IfSome r (λ s. e s ≡ v) → MatchOption r ((s : A) → e s ≢ v) (λ s. e s ≡ v)
-told_embedded O D coefficients e scalars v (Some x) exact here = here
-told_embedded O D coefficients e scalars v None exact here = λ s h. false≢true (exact.1 (subst (IsScalar O) (sym (scalars s) ∙ ap coefficients h) (embedded-scalar O D s)))
+embedded_exactly O D coefficients e scalars v (Some x) exact here = here
+embedded_exactly O D coefficients e scalars v None exact here = λ s h. false≢true (exact.1 (subst (IsScalar O) (sym (scalars s) ∙ ap coefficients h) (embedded-scalar O D s)))

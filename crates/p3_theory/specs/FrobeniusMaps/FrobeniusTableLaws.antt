@@ -137,7 +137,7 @@ module _ {A : Type 0} (R : Ring A) (d : ℕ) (f : List A) (m : IsMonic R.ops (su
       ∙ ap (λ y. E.add (emb R d f m x) (E.mul phi y)) (V.horner-zero R E (emb R d f m) (Sg.hom R d f m) phi d)
       ∙ ap (E.add (emb R d f m x)) (Basics.mul-zero E phi) ∙ E.add_zero _
 
-  -- a map that keeps sums, products and the base is told by the image of X
+  -- a map that keeps sums, products, the base and X fixes every value
   module _ (g : Ext R d f m → Ext R d f m) (g-add : (a b : Ext R d f m) → g (E.add a b) ≡ E.add (g a) (g b))
       (g-mul : (a b : Ext R d f m) → g (E.mul a b) ≡ E.mul (g a) (g b)) (g-emb : (x : A) → g (emb R d f m x) ≡ emb R d f m x) where
     g-horner : (p : Ext R d f m) (n : ℕ) (s : ℕ → A)
@@ -145,8 +145,8 @@ module _ {A : Type 0} (R : Ring A) (d : ℕ) (f : List A) (m : IsMonic R.ops (su
     g-horner p zero s = g-emb 𝟎
     g-horner p (suc n) s = g-add _ _ ∙ ap₂ E.add (g-emb (s zero)) (g-mul _ _ ∙ ap (E.mul (g p)) (g-horner p n (tail R s)))
 
-    told : g (Sg.var R d f m) ≡ Sg.var R d f m → (a : Ext R d f m) → g a ≡ a
-    told e a = ap g (sym is) ∙ g-horner (Sg.var R d f m) (length a.0) (at R.ops a.0)
+    fixes : g (Sg.var R d f m) ≡ Sg.var R d f m → (a : Ext R d f m) → g a ≡ a
+    fixes e a = ap g (sym is) ∙ g-horner (Sg.var R d f m) (length a.0) (at R.ops a.0)
         ∙ ap (λ p. horner R E (emb R d f m) (Sg.hom R d f m) p (length a.0) (at R.ops a.0)) e ∙ is
       where
         is : horner R E (emb R d f m) (Sg.hom R d f m) (Sg.var R d f m) (length a.0) (at R.ops a.0) ≡ a
@@ -166,8 +166,8 @@ module _ {A : Type 0} (R : Ring A) (d : ℕ) (f : List A) (m : IsMonic R.ops (su
     it-emb zero x = refl
     it-emb (suc n) x = ap (iterate s n) (s-emb x) ∙ it-emb n x
 
-    pub it-told : (n : ℕ) → iterate s n (Sg.var R d f m) ≡ Sg.var R d f m → (a : Ext R d f m) → iterate s n a ≡ a
-    it-told n = told (iterate s n) (it-add n) (it-mul n) (it-emb n)
+    pub iterate-fixes : (n : ℕ) → iterate s n (Sg.var R d f m) ≡ Sg.var R d f m → (a : Ext R d f m) → iterate s n a ≡ a
+    iterate-fixes n = fixes (iterate s n) (it-add n) (it-mul n) (it-emb n)
 
   module _ (phi : List A) (table dual : List (List A)) (T : TableProof R.ops D f phi table dual) where
     abbrev p : Ext R d f m
@@ -204,7 +204,7 @@ module _ {A : Type 0} (R : Ring A) (d : ℕ) (f : List A) (m : IsMonic R.ops (su
       mul = λ a b la lb. sym (frobenius-list p (E.mul (a, la) (b, lb))) ∙ ap (λ z. z.0) (mul-list (a, la) (b, lb))
           ∙ ap₂ (quotient_mul R.ops D f) (frobenius-list p (a, la)) (frobenius-list p (b, lb));
       embedded = λ x. sym (frobenius-list p (emb R d f m x)) ∙ ap (λ z. z.0) (sigma_embedded p x);
-      order = λ a la. sym (iterate-list D (a, la)) ∙ ap (λ z. z.0) (it-told sig (Sg.sigma_add R d f m p) mul-list (sigma_embedded p) D var-back (a, la));
+      order = λ a la. sym (iterate-list D (a, la)) ∙ ap (λ z. z.0) (iterate-fixes sig (Sg.sigma_add R d f m p) mul-list (sigma_embedded p) D var-back (a, la));
       fixed = λ a la e. (
         at R.ops a zero,
         F.ext R _ _ (la ∙ sym (X.length-embed R d f m (at R.ops a zero)))

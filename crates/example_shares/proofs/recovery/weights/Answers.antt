@@ -6,11 +6,11 @@ use Rattle.example_shares.specs.ShareLists.{points}
 use Rattle.example_shares.proofs.recovery.weights.Goals as goal
 
 pub returns-in-None-clause-inverse : goal.returns-in-None-clause-inverse
-returns-in-None-clause-inverse g c e told =
+returns-in-None-clause-inverse g c e known =
     let o = g.F.PrimeCharacteristicRing.ops in
     let ds = c.in_ok-products.products.items in
     let whole : c.product-whole.result ≡ product_list o ds = c.product-whole.ensures ∙ ap (product_list o) c.deref.ensures.value in
-    let unit = invertible (ring_of g.met.F.PrimeCharacteristicRing.ring) (points c.args.shares.now) ds c.in_ok-products.ensures told in
+    let unit = invertible (ring_of g.met.F.PrimeCharacteristicRing.ring) (points c.args.shares.now) ds c.in_ok-products.ensures known in
     c.in-None.ensures unit.0 (ap (λ z. o.mul z unit.0) whole ∙ unit.1)
 
 pub batch_multiplicative_inverse-requires : goal.batch_multiplicative_inverse-requires

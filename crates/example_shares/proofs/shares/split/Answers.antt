@@ -12,10 +12,10 @@ use Rattle.example_shares.proofs.shares.split.Goals as goal
 pushed : {F : Type 0} (o : Ops F) (c : List F) (i : ℕ) (old new : List (Share F)) (share : Share F) → new ≡ old ++ (share ∷ [])
     → share.point ≡ of_nat o (i + 1) → share.value ≡ value_at o c share.point → points old ≡ first_points o i → values old ≡ map (value_at o c) (points old)
     → (points new ≡ first_points o (i + 1)) × (values new ≡ map (value_at o c) (points new))
-pushed o c i old new share e point value at told =
+pushed o c i old new share e point value at known =
     let more : points new ≡ points old ++ (share.point ∷ []) = ap points e ∙ map-append (λ s. s.point) old (share ∷ []) in (
       more ∙ tabulate-more i (λ k. of_nat o (suc k)) (points old) share.point at (point ∙ ap (of_nat o) (add-one i)),
-      ap values e ∙ map-append (λ s. s.value) old (share ∷ []) ∙ ap₂ (λ l v. l ++ (v ∷ [])) told value
+      ap values e ∙ map-append (λ s. s.value) old (share ∷ []) ∙ ap₂ (λ l v. l ++ (v ∷ [])) known value
           ∙ sym (map-append (value_at o c) (points old) (share.point ∷ [])) ∙ sym (ap (map (value_at o c)) more),
     )
 

@@ -23,9 +23,9 @@ returns-in-Err g c = λ bytes text st.
 pub returns-in-Ok-write_all : goal.returns-in-Ok-write_all
 returns-in-Ok-write_all g c = λ bytes text st.
     let m = c.args.machine.now in
-    let told = g.W.Sink.contents in
+    let contents = g.W.Sink.contents in
     let out = c.in-Ok.text.items in
-    let written = subst (λ (l : List ℕ). Appends (told c.args.writer.now) (told c.write_all.new.writer) l) c.deref.ensures.value c.in-Ok-write_all.ensures.all in (
+    let written = subst (λ (l : List ℕ). Appends (contents c.args.writer.now) (contents c.write_all.new.writer) l) c.deref.ensures.value c.in-Ok-write_all.ensures.all in (
       out,
       written,
       inl (
@@ -37,9 +37,9 @@ returns-in-Ok-write_all g c = λ bytes text st.
 pub returns : goal.returns
 returns g c = λ bytes text st.
     let m = c.args.machine.now in
-    let told = g.W.Sink.contents in
+    let contents = g.W.Sink.contents in
     let out = c.in-Ok.text.items in
     let front = c.in-Err-write_all.ensures.front in
-    let written = subst (λ (l : List ℕ). Appends (told c.args.writer.now) (told c.write_all.new.writer) (take front.0 l)) c.deref.ensures.value front.2 in
+    let written = subst (λ (l : List ℕ). Appends (contents c.args.writer.now) (contents c.write_all.new.writer) (take front.0 l)) c.deref.ensures.value front.2 in
     let whole = last_line m bytes text out 0 st (some_pending m c.if-machine-eq0.false) (Continues (state_of c.step.new.bank) out, c.in-Ok.ensures.may, ([], (refl, refl), sym (append-nil out))) in
     (take front.0 out, written, inr (refl, c.in-Err-write_all.ensures.failed, (drop front.0 out, 0, rw (front_rest text out front.0) whole)))

@@ -5,33 +5,33 @@ use Rattle.p3_field_bench.proofs.run.take_all.Goals as goal
 
 pub returns-in-Err-clause-takes : goal.returns-in-Err-clause-takes
 returns-in-Err-clause-takes g c =
-    let told = g.W.Sink.contents in
+    let contents = g.W.Sink.contents in
     let l = c.loop-at in
     let t = c.take_letters-at in
-    let letters = over_letters c.args.machine.now l.machine _ (told c.args.writer.now) (told l.writer) c.args.bytes.now l.at t.result l.invariant.3 t.ensures.letters refl refl t.ensures.bytes in
-    stop c.args.machine.now _ c.take_byte.new.machine (told c.args.writer.now) (told l.writer) (told c.take_byte.new.writer) c.in-Err.stop c.args.bytes.now (l.at + t.result) c.if-at-bytes.true letters c.in-Err.ensures.takes
+    let letters = over_letters c.args.machine.now l.machine _ (contents c.args.writer.now) (contents l.writer) c.args.bytes.now l.at t.result l.invariant.3 t.ensures.letters refl refl t.ensures.bytes in
+    stop c.args.machine.now _ c.take_byte.new.machine (contents c.args.writer.now) (contents l.writer) (contents c.take_byte.new.writer) c.in-Err.stop c.args.bytes.now (l.at + t.result) c.if-at-bytes.true letters c.in-Err.ensures.takes
 
 pub loop-at-preserved-in-Ok : goal.loop-at-preserved-in-Ok
 loop-at-preserved-in-Ok g c =
-    let told = g.W.Sink.contents in
+    let contents = g.W.Sink.contents in
     let l = c.loop-at in
     let t = c.take_letters-at in
-    let letters = over_letters c.args.machine.now l.machine _ (told c.args.writer.now) (told l.writer) c.args.bytes.now l.at t.result l.invariant.3 t.ensures.letters refl refl t.ensures.bytes in (
+    let letters = over_letters c.args.machine.now l.machine _ (contents c.args.writer.now) (contents l.writer) c.args.bytes.now l.at t.result l.invariant.3 t.ensures.letters refl refl t.ensures.bytes in (
       omega (arith, c.if-at-bytes.true),
       omega (arith, l.invariant.1, c.take_byte.ensures.number),
       c.in-Ok.ensures.failure ∙ l.invariant.2,
-      turn c.args.machine.now _ c.take_byte.new.machine (told c.args.writer.now) (told l.writer) (told c.take_byte.new.writer) c.args.bytes.now (l.at + t.result) c.if-at-bytes.true letters c.in-Ok.ensures.takes,
+      turn c.args.machine.now _ c.take_byte.new.machine (contents c.args.writer.now) (contents l.writer) (contents c.take_byte.new.writer) c.args.bytes.now (l.at + t.result) c.if-at-bytes.true letters c.in-Ok.ensures.takes,
     )
 
 pub loop-at-preserved : goal.loop-at-preserved
 loop-at-preserved g c =
-    let told = g.W.Sink.contents in
+    let contents = g.W.Sink.contents in
     let l = c.loop-at in
     let t = c.take_letters-at in (
       still_within c.args.bytes.now l.at t.result l.invariant.0 t.ensures.count,
       omega (arith, l.invariant.1),
       l.invariant.2,
-      over_letters c.args.machine.now l.machine _ (told c.args.writer.now) (told l.writer) c.args.bytes.now l.at t.result l.invariant.3 t.ensures.letters refl refl t.ensures.bytes,
+      over_letters c.args.machine.now l.machine _ (contents c.args.writer.now) (contents l.writer) c.args.bytes.now l.at t.result l.invariant.3 t.ensures.letters refl refl t.ensures.bytes,
     )
 
 pub loop-at-init : goal.loop-at-init
@@ -39,6 +39,6 @@ loop-at-init g c = (omega arith, omega arith, refl, carries_none c.args.machine.
 
 pub returns-clause-takes : goal.returns-clause-takes
 returns-clause-takes g c =
-    let told = g.W.Sink.contents in
+    let contents = g.W.Sink.contents in
     let l = c.loop-at in
-    done c.args.machine.now l.machine (told c.args.writer.now) (told l.writer) c.args.bytes.now l.at c.loop-at-test.false l.invariant.3
+    done c.args.machine.now l.machine (contents c.args.writer.now) (contents l.writer) c.args.bytes.now l.at c.loop-at-test.false l.invariant.3

@@ -2,7 +2,7 @@ use Rattle.std.specs.Prelude.{refl, None}
 use Rattle.std.proofs.Common.{◌∙◌, sym, get_or}
 use borrow.Author.Count.{below_more}
 use Rattle.p3_theory.specs.Lists.ByIndex.{read_at}
-use Rattle.p3_theory.specs.Bases.Subfields.{IsEmbedded, told_embedded}
+use Rattle.p3_theory.specs.Bases.Subfields.{IsEmbedded, embedded_exactly}
 use Rattle.p3_ext.specs.Values.{constant}
 use Rattle.p3_ext.proofs.subfield.ExtFieldHasSubfield.all_in_subfield.Goals as goal
 
@@ -10,7 +10,7 @@ pub returns-in-None : goal.returns-in-None
 returns-in-None g c =
     let o = g.F.PrimeCharacteristicRing.ops in
     let x = c.index-values-i.result in
-    let none = told_embedded o g.row.D (λ v. v.value) (constant o) (λ s. refl) x None c.in-None.ensures.exact c.in-None.ensures.embedded in
+    let none = embedded_exactly o g.row.D (λ v. v.value) (constant o) (λ s. refl) x None c.in-None.ensures.exact c.in-None.ensures.embedded in
     (λ h. absurd (cc h), λ all. let e = all c.loop-i.i x c.loop-i-test.true in absurd (none e.0 (e.1 ∙ sym c.index-values-i.is)))
 
 pub loop-i-preserved : goal.loop-i-preserved
