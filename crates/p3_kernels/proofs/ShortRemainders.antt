@@ -1,5 +1,5 @@
 -- Remainders of 16 bits, lane by lane: by the vector's own operation, and by products with a reciprocal.
-use Rattle.std.proofs.Common.{get_or, ◌≡◌, ℕ, ◌+◌, ◌*◌, ◌/◌, ◌%◌, ◌^◌, ◌<◌, List, length, map, arith, ◌∙◌, sym, ap, subst, w16, w32}
+use Rattle.std.proofs.Common.{get_or, ◌≡◌, ℕ, ◌+◌, ◌*◌, ◌/◌, ◌%◌, ◌^◌, ◌<◌, ◌≤◌, List, length, map, arith, ◌∙◌, sym, ap, subst, w16, w32}
 use Rattle.std.proofs.Math.Nat.{mod-eq_of_lt, mul-le-mul}
 use Rattle.std.proofs.lemmas.List.{get_or-map, length-map}
 use Rattle.std.proofs.lemmas.Simd.{Each1-from_get_or}

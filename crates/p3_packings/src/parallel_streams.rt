@@ -2,7 +2,7 @@ ghost use Rattle.std.specs.Prelude.{◌≡◌, ◌<◌, ◌≤◌, ◌*◌, ℕ,
 ghost use Rattle.std.specs.Bool.{MatchBool};
 ghost use Rattle.std.specs.Iterator.{IsFinite, size, count_map, count_unless};
 ghost use Rattle.p3_theory.specs.Polynomials.Polynomial.{tabulate};
-ghost use Rattle.p3_spaces.specs.Streams.{YieldsExactly, DrawnFrom, AllOfLength, AreParallel, column, byte_stream, row_bytes, left_of, word_stream, group_count, GathersGroup, ReadsGroup, row_words};
+ghost use Rattle.p3_spaces.specs.Streams.{YieldsExactly, DrawnFrom, AllOfLength, AreParallel, column, byte_stream, row_bytes, left_of, little_endian, word_stream, group_count, GathersGroup, ReadsGroup, row_words};
 
 use p3_spaces::array_chunks::next_chunk_padded;
 use p3_spaces::hints::{bytes_hint, words_hint};
@@ -312,14 +312,18 @@ trait WordOfBytes<const M: usize>: StreamWord {
 
 impl WordOfBytes<4> for u32 {
     #[inline]
-    fn of_bytes(bytes: [u8; 4]) -> u32 {
+    fn of_bytes(bytes: [u8; 4]) -> u32
+        ensures { result ≡ little_endian bytes }
+    {
         u32::from_le_bytes(bytes)
     }
 }
 
 impl WordOfBytes<8> for u64 {
     #[inline]
-    fn of_bytes(bytes: [u8; 8]) -> u64 {
+    fn of_bytes(bytes: [u8; 8]) -> u64
+        ensures { result ≡ little_endian bytes }
+    {
         u64::from_le_bytes(bytes)
     }
 }
