@@ -307,7 +307,7 @@ impl<W: ParallelWord<N>, I: Iterator<Item = W::Bytes>, const N: usize> Iterator
 trait WordOfBytes<const M: usize>: StreamWord {
     /// The word with these bytes, the lowest first.
     fn of_bytes(bytes: [u8; M]) -> Self
-        ensures { result ≡ Self.read bytes };
+        ensures { result ≡ Self.read bytes.entry };
 }
 
 impl WordOfBytes<4> for u32 {
