@@ -477,13 +477,17 @@ pub trait Algebra<F: PrimeCharacteristicRing>: PrimeCharacteristicRing
 
     ghost mixed_mul_assigns: { Gives ⟦<Self as MulAssign<F>>⟧.can_mul_assign ⟦<Self as MulAssign<F>>⟧.mul_assign_gives (λ x f. Self.ops.mul x (embed f)) };
 
-    /// The sum of the products of values and elements of F, position by position, in chunks of
-    /// `BATCHED_LC_CHUNK`. The slices have one length.
+    /// The sum of the products of values and elements of F, position by position: in chunks of
+    /// `BATCHED_LC_CHUNK`, and all at once where lists are multiplied by vectors, whose sums of products are
+    /// reduced once. The slices have one length.
     #[inline]
     final fn batched_linear_combination(values: &[Self], coeffs: &[F]) -> Self
         requires { length values.now ≡ length coeffs.now }
         ensures { result ≡ dot Self.ops values.now (map embed coeffs.now) }
     {
+        if !values.is_empty() && values[0].multiplies_by_vectors() {
+            return Self::mixed_dot_product(values, coeffs);
+        }
         match Self::BATCHED_LC_CHUNK {
             1 => chunked_linear_combination::<1, Self, F>(values, coeffs),
             2 => chunked_linear_combination::<2, Self, F>(values, coeffs),

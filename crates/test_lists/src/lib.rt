@@ -1,5 +1,5 @@
-//! Tests of lists of values: batch inversion, the growths of memory that calls ask for, cosets, and the values of
-//! polynomials.
+//! Tests of lists of values: batch inversion, the growths of memory that calls ask for, cosets, the values of
+//! polynomials, and values of a small prime field packed as limbs of a large one.
 #![tactic(auto)]
 
 #[cfg(test)]
@@ -16,6 +16,8 @@ mod fields;
 mod growths;
 #[cfg(test)]
 mod inverses;
+#[cfg(test)]
+mod limbs;
 #[cfg(test)]
 mod points;
 #[cfg(test)]

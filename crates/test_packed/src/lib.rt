@@ -1,4 +1,4 @@
-//! Tests of packings and packed extensions.
+//! Tests of packings and packed extensions: rows of tables, and calls at types that are named, as a user writes them.
 #![tactic(auto)]
 
 #[cfg(test)]
@@ -23,6 +23,10 @@ mod lane_calls;
 mod numbered;
 #[cfg(test)]
 mod operation_calls;
+#[cfg(test)]
+mod own_field;
+#[cfg(test)]
+mod quadratic;
 #[cfg(test)]
 mod row_calls;
 #[cfg(test)]

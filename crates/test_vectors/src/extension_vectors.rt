@@ -1,13 +1,14 @@
 //! Vectors of two values of the extension of the residues modulo 17 by `X^2 = 3`, and of two residues. Expected
 //! values by hand.
 use crate::values::{Canonical, Listed};
+use p3_base::field::Field;
 use p3_base::packed_traits::{Inhabited, Packable};
 use p3_bench_prime::binomial_constants::BinomialConstants;
 use p3_bench_prime::form::{Form, OverModulus, Plain};
 use p3_bench_prime::fp::Fp;
 use p3_bench_prime::small::M17;
 use p3_ext::extension::{Binomial, ExtField, ExtensionShape, FrobeniusExtendable};
-use p3_ring::ring::PrimeCharacteristicRing;
+use p3_ring::ring::{Algebra, PrimeCharacteristicRing};
 use p3_vectorized::vectorized::Vectorized;
 use p3_vectorized::vectorized_ext::VectorizedExt;
 
@@ -30,8 +31,11 @@ enum Call {
     OfResidues(Operation),
 }
 
-/// A vector of two values of an extension of degree 2.
-type Two<F, S> = VectorizedExt<F, ExtField<F, 2, S, F>, ExtField<F, 2, S, F>, 2>;
+/// A value of an extension of degree 2.
+type Pair<F, S> = ExtField<F, 2, S, F>;
+
+/// A vector of two such values.
+type Two<F, S> = VectorizedExt<F, Pair<F, S>, Pair<F, S>, 2>;
 
 /// The numbers of the coefficients of two values.
 type Numbers = ((u64, u64), (u64, u64));
@@ -60,17 +64,30 @@ fn numbers<F: FrobeniusExtendable<2, S> + Packable + Canonical, S: ExtensionShap
     ((a[0], a[1]), (b[0], b[1]))
 }
 
+/// An operation on a vector of packings and one of residues.
+fn mixed<F: PrimeCharacteristicRing + Inhabited, EF: Field, PE: Inhabited + Algebra<F>>(
+    operation: Operation,
+    v: VectorizedExt<F, EF, PE, 2>,
+    w: Vectorized<F, F, 2>,
+) -> VectorizedExt<F, EF, PE, 2> {
+    match operation {
+        Operation::Add => v + w,
+        Operation::Sub => v - w,
+        Operation::Mul => v * w,
+    }
+}
+
 /// The values of `start`, and a vector of the residues 5 and 6 where there is an operation.
 fn of_values<F: FrobeniusExtendable<2, S> + Packable + Canonical, S: ExtensionShape>(
     _vector: Option<Two<F, S>>,
     operation: Option<Operation>,
 ) -> Numbers {
     let v = start::<F, S>();
-    let w = residues::<F>(5, 6);
     match operation {
-        Some(Operation::Add) => numbers::<F, S>(v + w),
-        Some(Operation::Sub) => numbers::<F, S>(v - w),
-        Some(Operation::Mul) => numbers::<F, S>(v * w),
+        Some(operation) => {
+            let w = residues::<F>(5, 6);
+            numbers::<F, S>(mixed::<F, Pair<F, S>, Pair<F, S>>(operation, v, w))
+        }
         None => numbers::<F, S>(v),
     }
 }

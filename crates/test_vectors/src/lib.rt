@@ -10,8 +10,6 @@ mod extensions;
 #[cfg(test)]
 mod field_vectors;
 #[cfg(test)]
-mod four_lanes;
-#[cfg(test)]
 mod packings;
 #[cfg(test)]
 mod residues;

@@ -1,9 +1,11 @@
 //! Calls on limbs told by lines of three texts: the call, its arguments and its answer. Arguments stand between
 //! bars, values of a list between commas.
+mod calls;
+mod tables;
+
 ghost use Rattle.std.specs.Prelude.{◌≤◌, ◌^◌};
 
-use crate::calls::{Call, Count, Reduction, Row, Split};
-use crate::tables;
+use calls::{Call, Count, Reduction, Row, Split};
 use p3_base::field::{PrimeField, PrimeField32};
 use p3_bench_prime::baby_bear::BabyBearModulus;
 use p3_bench_prime::form::{Form, Plain, ShortForm, Word};
