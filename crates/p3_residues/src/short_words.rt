@@ -2,7 +2,7 @@
 ghost use Rattle.std.specs.Prelude.{◌≡◌, ◌<◌, ◌+◌, ◌-◌, ◌%◌, ◌^◌};
 
 /// The sum of two residues: of the sum and that less the order, wrapping, the smaller one, which vectors
-/// have as one step.
+/// have as one step. Modulo 2 its last bit, so that a compiler sees that doubles are zero.
 #[inline]
 pub fn add_words(left: u32, right: u32, order: u32) -> u32
     requires fits { order < 2 ^ 31 }
@@ -12,6 +12,9 @@ pub fn add_words(left: u32, right: u32, order: u32) -> u32
     ensures value { result ≡ (left + right) % order }
 {
     let sum = left + right;
+    if order == 2 {
+        return sum % 2;
+    }
     sum.min(sum.wrapping_sub(order))
 }
 
