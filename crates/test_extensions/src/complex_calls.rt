@@ -127,19 +127,15 @@ fn two_adic_coefficient<F: HasTwoAdicComplexBinomialExtension<2>>(
     }
 }
 
-/// The inverse of a value, if there is one.
-fn inverse_of<F: BinomiallyExtendable<2>>(
-    y: BinomialExtensionField<F, 2>,
-) -> Option<BinomialExtensionField<F, 2>> {
-    y.try_inverse()
-}
-
-/// The product of two values.
-fn product_of<F: BinomiallyExtendable<2>>(
+/// The inverse of a value, if there is one, and its product with a second value.
+fn inverse_and_product<F: BinomiallyExtendable<2>>(
     y: BinomialExtensionField<F, 2>,
     z: BinomialExtensionField<F, 2>,
-) -> BinomialExtensionField<F, 2> {
-    y * z
+) -> (
+    Option<BinomialExtensionField<F, 2>>,
+    BinomialExtensionField<F, 2>,
+) {
+    (y.try_inverse(), y * z)
 }
 
 /// A value of the extension over complex values. Of an argument of this type it is known that such values have
@@ -162,14 +158,12 @@ fn tower_answers<F: HasComplexBinomialExtension<2> + Residue>(
     y: [Pair; 2],
     z: [Pair; 2],
 ) -> (Option<[Pair; 2]>, [Pair; 2]) {
-    let inverse = match inverse_of::<Complex<F>>(tower(y)) {
+    let (inverse, product) = inverse_and_product::<Complex<F>>(tower(y), tower(z));
+    let inverse = match inverse {
         Some(inverse) => Some(tower_pairs(inverse)),
         None => None,
     };
-    (
-        inverse,
-        tower_pairs(product_of::<Complex<F>>(tower(y), tower(z))),
-    )
+    (inverse, tower_pairs(product))
 }
 
 /// The name of the extension over complex values as an algebra.
