@@ -80,6 +80,7 @@ pub use Rattle.p3_theory.specs.RingSolver.Reify
 pub use Rattle.p3_theory.specs.RingSolver.Solver
 pub use Rattle.p3_theory.specs.RingSolver.StraightLine
 pub use Rattle.p3_theory.specs.Rings.Accumulation
+pub use Rattle.p3_theory.specs.Rings.Basics
 pub use Rattle.p3_theory.specs.Rings.BooleanForms
 pub use Rattle.p3_theory.specs.Rings.ColumnwiseProducts
 pub use Rattle.p3_theory.specs.Rings.DotProduct

@@ -4,7 +4,7 @@ use mathlib.Core.HLevel.{Σ_prop_path}
 use Rattle.std.proofs.Math.Nat.{mod-lt, mod-eq_of_lt}
 use Rattle.std.proofs.Math.Bridge.{le_prop}
 use Rattle.std.proofs.lemmas.Bool.{eqb-true, ltb-true}
-use Rattle.p3_theory.specs.RingSolver.SolverSound.{and_true, mul_zero}
+use Rattle.p3_theory.specs.RingSolver.SolverSound.{and_true}
 use Rattle.p3_theory.specs.Rings.Ring.{Ops, RingLaws, ring_of}
 use Rattle.p3_theory.specs.Rings.Powers.{power}
 use Rattle.p3_theory.specs.Rings.Homomorphism.{length-map, at-map}
@@ -25,7 +25,7 @@ represented : {A : Type 0} (s : FieldSpec) (O : Ops A) (c : A → List ℕ) → 
 represented s O c R L = record {
   above_one = R.above_one;
   zero_is = subst (IsValue s) R.keeps.zero (R.valid O.zero);
-  zero_square = sym (ap₂ (ops s).mul R.keeps.zero R.keeps.zero) ∙ sym (R.keeps.mul O.zero O.zero) ∙ ap c (mul_zero O L O.zero) ∙ R.keeps.zero;
+  zero_square = sym (ap₂ (ops s).mul R.keeps.zero R.keeps.zero) ∙ sym (R.keeps.mul O.zero O.zero) ∙ ap c (mul-zero (ring_of L) O.zero) ∙ R.keeps.zero;
   one_is = subst (IsValue s) R.keeps.one (R.valid O.one);
   sum = λ x y v w. let a = R.every x v in let b = R.every y w in subst (IsValue s) (R.keeps.add a.0 b.0 ∙ ap₂ (ops s).add a.1 b.1) (R.valid (O.add a.0 b.0));
   negation = λ x v. let a = R.every x v in subst (IsValue s) (R.keeps.neg a.0 ∙ ap (ops s).neg a.1) (R.valid (O.neg a.0));

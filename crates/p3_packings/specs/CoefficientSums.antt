@@ -9,7 +9,7 @@ use Rattle.std.proofs.lemmas.List.{map-append, length-replicate, get_or-replicat
 use Rattle.p3_theory.specs.Rings.Ring.{Ops, RingLaws, ring_of}
 use Rattle.p3_theory.specs.Rings.Operators.{sum_list}
 use Rattle.p3_theory.specs.Rings.DotProduct.{sum_list-append}
-use Rattle.p3_theory.specs.Polynomials.Sequences.{zero-mul}
+use Rattle.p3_theory.specs.Rings.Basics.{zero-mul}
 use Rattle.p3_theory.specs.Polynomials.Polynomial.{tabulate, at}
 use Rattle.p3_theory.specs.Polynomials.Coefficients.{length-tabulate}
 use Rattle.p3_theory.specs.Lists.ByIndex.{to-tabulate, get-tabulate, read_at}

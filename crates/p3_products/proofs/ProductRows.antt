@@ -8,7 +8,7 @@ use Rattle.p3_theory.specs.Lists.ByIndex.{get-tabulate}
 use Rattle.p3_theory.specs.Polynomials.BaseProduct.{scaled}
 use Rattle.p3_theory.specs.Polynomials.Coefficients.{length-tabulate}
 use Rattle.p3_theory.specs.Polynomials.ConvolutionSums.{first_sum, first-sum}
-use Rattle.p3_theory.specs.Polynomials.Sequences.{zero-mul}
+use Rattle.p3_theory.specs.Rings.Basics.{zero-mul}
 use Rattle.p3_theory.specs.Products.ProductCoefficients.{product_coefficient}
 
 module _ {A : Type 0} (o : Ops A) where

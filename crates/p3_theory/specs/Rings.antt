@@ -1,5 +1,6 @@
 -- Commutative rings: operations, laws, maps between rings, powers, sums and dot products.
 pub mod Ring
+pub mod Basics
 pub mod Powers
 pub mod Homomorphism
 pub mod Operators

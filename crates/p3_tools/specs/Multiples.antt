@@ -6,7 +6,7 @@ use Rattle.p3_theory.specs.Rings.Ring.{Ops, Ring}
 use Rattle.p3_theory.specs.Rings.Multiples.{of_nat, of_nat-add}
 use Rattle.p3_theory.specs.Rings.Powers.{eval}
 use Rattle.p3_theory.specs.Rings.Homomorphism.{identity, map-of_nat}
-use Rattle.p3_theory.specs.Polynomials.Sequences as Sequences
+use Rattle.p3_theory.specs.Rings.Basics as Basics
 use Rattle.p3_theory.specs.Polynomials.HornerFold.{eval-cons}
 use Rattle.p3_theory.specs.ResidueRings.Modular.{add-mod_second}
 use Rattle.p3_theory.specs.ResidueRings.Residues.{AreResidues, residues}
@@ -14,11 +14,11 @@ use Rattle.p3_tools.specs.Digits.{num}
 
 module _ {A : Type 0} (R : Ring A) where
   pub of_nat-mul : (m n : ℕ) → of_nat R.ops (m * n) ≡ R.mul (of_nat R.ops m) (of_nat R.ops n)
-  of_nat-mul zero n = (let e : zero * n ≡ zero = omega arith in ap (of_nat R.ops) e) ∙ sym (Sequences.zero-mul R (of_nat R.ops n))
+  of_nat-mul zero n = (let e : zero * n ≡ zero = omega arith in ap (of_nat R.ops) e) ∙ sym (Basics.zero-mul R (of_nat R.ops n))
   of_nat-mul (suc m) n =
       (let e : suc m * n ≡ n + m * n = omega arith in ap (of_nat R.ops) e) ∙ of_nat-add R n (m * n)
       ∙ ap₂ R.add (sym (R.mul_comm R.one (of_nat R.ops n) ∙ R.mul_one (of_nat R.ops n))) (of_nat-mul m n)
-      ∙ sym (Sequences.add-mul R R.one (of_nat R.ops m) (of_nat R.ops n))
+      ∙ sym (Basics.add-mul R R.one (of_nat R.ops m) (of_nat R.ops n))
 
   -- digits as coefficients have their number as the value at the radix
   pub eval-digits : (ds : List ℕ) (b : ℕ) → eval R.ops R.ops (λ x. x) (of_nat R.ops b) (map (of_nat R.ops) ds) ≡ of_nat R.ops (num ds b)

@@ -7,7 +7,7 @@ use Rattle.p3_theory.specs.Lists.ByIndex.{get-tabulate, to-tabulate, read_at}
 use Rattle.std.proofs.lemmas.List.{get_or_past}
 use Rattle.std.proofs.Math.Decide.{dec_le}
 use mathlib.Core.Logic.{dite}
-use Rattle.p3_theory.specs.Polynomials.Sequences.{zero-add}
+use Rattle.p3_theory.specs.Rings.Basics.{zero-add}
 use Rattle.p3_theory.specs.Bases.Coordinates.{basis_element}
 use Rattle.p3_theory.specs.Rings.DotProduct.{dot, dot-step, dot-end}
 

@@ -4,7 +4,7 @@ use Rattle.p3_theory.specs.Rings.Ring.{Ring, Invertible}
 use Rattle.p3_theory.specs.Polynomials.Polynomial.{at, IsMonic, quotient_add, quotient_mul, embed, binomial}
 use Rattle.p3_theory.specs.Rings.Powers.{power, scale_powers}
 use Rattle.p3_theory.specs.FrobeniusMaps.Frobenius.{iterate, IsFrobenius, orbit_product}
-use Rattle.p3_theory.specs.Polynomials.Sequences as Basics
+use Rattle.p3_theory.specs.Rings.Basics as Basics
 use Rattle.p3_theory.specs.Polynomials.Coefficients as F
 use Rattle.p3_theory.specs.Polynomials.Congruence as Q
 use Rattle.p3_theory.specs.Polynomials.QuotientRing as X

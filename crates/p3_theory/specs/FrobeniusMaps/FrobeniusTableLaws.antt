@@ -8,7 +8,7 @@ use Rattle.p3_theory.specs.Polynomials.Polynomial.{tabulate, at, IsMonic, quotie
 use Rattle.p3_theory.specs.Rings.Powers.{power, sum_of, eval}
 use Rattle.p3_theory.specs.Lists.ByIndex.{get-tabulate, tabulate-entry, tabulate-same}
 use Rattle.p3_theory.specs.FrobeniusMaps.Frobenius.{iterate}
-use Rattle.p3_theory.specs.Polynomials.Sequences as Basics
+use Rattle.p3_theory.specs.Rings.Basics as Basics
 use Rattle.p3_theory.specs.Polynomials.Sequences.{add_sequences, scale, tail, zero_sequence}
 use Rattle.p3_theory.specs.Polynomials.Coefficients as F
 use Rattle.p3_theory.specs.Polynomials.Congruence as Q
@@ -49,7 +49,7 @@ module _ {A : Type 0} (R : Ring A) where
 
   sum-add : (n : ℕ) (s t : ℕ → A) → sum_of R.ops n (λ i. s i ⊕ t i) ≡ sum_of R.ops n s ⊕ sum_of R.ops n t
   sum-add zero s t = sym (R.add_zero 𝟎)
-  sum-add (suc n) s t = ap (λ x. s zero ⊕ t zero ⊕ x) (sum-add n (tail R s) (tail R t)) ∙ Basics.swap4 R _ _ _ _
+  sum-add (suc n) s t = ap (λ x. s zero ⊕ t zero ⊕ x) (sum-add n (tail R s) (tail R t)) ∙ Basics.swap_four R _ _ _ _
 
   sum-swap : (n m : ℕ) (g : ℕ → ℕ → A) → sum_of R.ops n (λ j. sum_of R.ops m (λ i. g i j)) ≡ sum_of R.ops m (λ i. sum_of R.ops n (λ j. g i j))
   sum-swap zero m g = sym (sum-zero m)

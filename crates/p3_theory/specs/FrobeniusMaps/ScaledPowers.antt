@@ -4,7 +4,7 @@ use Rattle.p3_theory.specs.Rings.Ring.{Ring}
 use Rattle.p3_theory.specs.Polynomials.Polynomial.{at}
 use Rattle.p3_theory.specs.Rings.Powers.{power, scale_powers}
 use Rattle.p3_theory.specs.FrobeniusMaps.Frobenius.{iterate}
-use Rattle.p3_theory.specs.Polynomials.Sequences.{one-mul}
+use Rattle.p3_theory.specs.Rings.Basics.{one-mul}
 use Rattle.p3_theory.specs.Polynomials.Coefficients.{length-tabulate}
 use Rattle.p3_theory.specs.Lists.ByIndex.{get-tabulate, to-tabulate}
 

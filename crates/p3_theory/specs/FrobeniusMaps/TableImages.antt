@@ -7,7 +7,7 @@ use Rattle.p3_theory.specs.Rings.Powers.{sum_of}
 use Rattle.p3_theory.specs.Lists.ByIndex.{get-tabulate, to-tabulate}
 use Rattle.p3_theory.specs.Lists.TabulatedEntries.{HoldsBelow}
 use Rattle.p3_theory.specs.FrobeniusMaps.FrobeniusTable.{row_sum}
-use Rattle.p3_theory.specs.Polynomials.Sequences.{mul-zero, zero-add}
+use Rattle.p3_theory.specs.Rings.Basics.{mul-zero, zero-add}
 use Rattle.p3_theory.specs.Polynomials.ConvolutionSums.{first_sum, first-sum}
 
 -- what the coefficients from X on give to index k

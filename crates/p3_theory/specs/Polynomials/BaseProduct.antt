@@ -4,7 +4,8 @@ use mathlib.Core.Path.{fun_ext}
 use native.Mathlib.Omega.{arith}
 use Rattle.p3_theory.specs.Rings.Ring.{Ops, Ring}
 use Rattle.p3_theory.specs.Polynomials.Polynomial.{tabulate, at, convolve, IsMonic, quotient_mul, embed}
-use Rattle.p3_theory.specs.Polynomials.Sequences.{conv_comm, zero-mul}
+use Rattle.p3_theory.specs.Rings.Basics.{zero-mul}
+use Rattle.p3_theory.specs.Polynomials.Sequences.{conv_comm}
 use Rattle.p3_theory.specs.Polynomials.Coefficients as F
 use Rattle.p3_theory.specs.Polynomials.QuotientRing as Q
 

@@ -5,7 +5,8 @@ use native.Mathlib.Omega.{arith}
 use Rattle.std.proofs.lemmas.List.{get_or_past, ext_get_or}
 use Rattle.p3_theory.specs.Rings.Ring.{Ring}
 use Rattle.p3_theory.specs.Polynomials.Polynomial.{tabulate, at, convolve, convolution}
-use Rattle.p3_theory.specs.Polynomials.Sequences as B
+use Rattle.p3_theory.specs.Rings.Basics as Basics
+use Rattle.p3_theory.specs.Polynomials.Sequences as Sequences
 use Rattle.p3_theory.specs.Polynomials.Sequences.{sequences, add_sequences, scale, tail, zero_sequence, one_sequence}
 
 pub length-tabulate : {A : Type 0} (n : ℕ) (s : ℕ → A) → length (tabulate n s) ≡ n
@@ -39,17 +40,17 @@ module _ {A : Type 0} (R : Ring A) where
   add-ends n s t hs ht k le = ap₂ (λ x y. x ⊕ y) (hs k le) (ht k le) ∙ R.add_zero 𝟎
 
   pub neg-zero : neg 𝟎 ≡ 𝟎
-  neg-zero = sym (B.zero-add R (neg 𝟎)) ∙ R.add_neg 𝟎
+  neg-zero = sym (Basics.zero-add R (neg 𝟎)) ∙ R.add_neg 𝟎
 
   pub neg-ends : (n : ℕ) (s : ℕ → A) → Ends n s → Ends n (λ k. neg (s k))
   neg-ends n s h k le = ap neg (h k le) ∙ neg-zero
 
   pub convolve-ends : (a : List A) (n : ℕ) (t : ℕ → A) → Ends n t → Ends (length a + n) (convolve R.ops (at R.ops a) t)
-  convolve-ends [] n t h k le = ap (λ s. s k) (B.zero_sequence-mul R t)
-  convolve-ends (x ∷ a) n t h zero le = ap (λ y. x ⊗ y) (h zero (omega arith)) ∙ B.mul-zero R x
+  convolve-ends [] n t h k le = ap (λ s. s k) (Sequences.zero_sequence-mul R t)
+  convolve-ends (x ∷ a) n t h zero le = ap (λ y. x ⊗ y) (h zero (omega arith)) ∙ Basics.mul-zero R x
   convolve-ends (x ∷ a) n t h (suc k) le =
       ap₂ (λ y z. x ⊗ y ⊕ z) (h (suc k) (omega arith)) (convolve-ends a n t h k (omega arith))
-      ∙ ap (λ y. y ⊕ 𝟎) (B.mul-zero R x) ∙ R.add_zero 𝟎
+      ∙ ap (λ y. y ⊕ 𝟎) (Basics.mul-zero R x) ∙ R.add_zero 𝟎
 
   pub at-convolution : (a b : List A) → at R.ops (convolution R.ops a b) ≡ convolve R.ops (at R.ops a) (at R.ops b)
   at-convolution a b = at-tabulate (length a + length b) _ (convolve-ends a (length b) (at R.ops b) (at-ends b))

@@ -4,7 +4,8 @@ use mathlib.Core.Path.{fun_ext}
 use native.Mathlib.Omega.{arith}
 use Rattle.p3_theory.specs.Rings.Ring.{Ring}
 use Rattle.p3_theory.specs.Polynomials.Polynomial.{at, convolve, convolution, IsMonic, IsRemainder, remainder}
-use Rattle.p3_theory.specs.Polynomials.Sequences as B
+use Rattle.p3_theory.specs.Rings.Basics as Basics
+use Rattle.p3_theory.specs.Polynomials.Sequences as Sequences
 use Rattle.p3_theory.specs.Polynomials.Sequences.{sequences, add_sequences, scale, tail, zero_sequence, one_sequence}
 use Rattle.p3_theory.specs.Polynomials.Coefficients as F
 use Rattle.p3_theory.specs.Polynomials.Coefficients.{Ends}
@@ -17,17 +18,17 @@ module _ {A : Type 0} (R : Ring A) where
   infixl 70 ◌⊗◌
   -- what is taken away comes back
   pub take_away : (x t : A) → x ≡ t ⊕ (x ⊕ neg t)
-  take_away x t = sym (B.add_left_comm R t x (neg t) ∙ rw-it)
+  take_away x t = sym (Basics.add_left_comm R t x (neg t) ∙ rw-it)
     where
       rw-it : x ⊕ (t ⊕ neg t) ≡ x
       rw-it = ap (λ w. x ⊕ w) (R.add_neg t) ∙ R.add_zero x
 
   pub add_cong-mul : (h g f t : A) → h ⊗ f ⊕ (g ⊗ f ⊕ t) ≡ (h ⊕ g) ⊗ f ⊕ t
-  add_cong-mul h g f t = sym (R.add_assoc _ _ _) ∙ ap (λ w. w ⊕ t) (sym (B.add-mul R h g f))
+  add_cong-mul h g f t = sym (R.add_assoc _ _ _) ∙ ap (λ w. w ⊕ t) (sym (Basics.add-mul R h g f))
 
   pub neg-back : (h f t : A) → neg h ⊗ f ⊕ (h ⊗ f ⊕ t) ≡ t
   neg-back h f t = add_cong-mul (neg h) h f t ∙ ap (λ w. w ⊗ f ⊕ t) (R.add_comm (neg h) h ∙ R.add_neg h)
-      ∙ ap (λ w. w ⊕ t) (B.zero-mul R f) ∙ B.zero-add R t
+      ∙ ap (λ w. w ⊕ t) (Basics.zero-mul R f) ∙ Basics.zero-add R t
 
 module _ {A : Type 0} (R : Ring A) where
   open R use {zero as 𝟎, one as 𝟏, add as ◌⊕◌, mul as ◌⊗◌, neg}
@@ -43,7 +44,7 @@ module _ {A : Type 0} (R : Ring A) where
     pub is : s ≡ add_sequences R (convolve R.ops (at R.ops by) f) t
 
   pub cong_refl : (f s : ℕ → A) → Cong f s s
-  cong_refl f s = record { by = []; is = sym (ap (λ w. add_sequences R w s) (B.zero_sequence-mul R f) ∙ B.zero-add S s) }
+  cong_refl f s = record { by = []; is = sym (ap (λ w. add_sequences R w s) (Sequences.zero_sequence-mul R f) ∙ Basics.zero-add S s) }
 
   pub cong_trans : (f s t u : ℕ → A) → Cong f s t → Cong f t u → Cong f s u
   cong_trans f s t u p q = record {
@@ -61,14 +62,14 @@ module _ {A : Type 0} (R : Ring A) where
   pub cong_add : (f s s' t t' : ℕ → A) → Cong f s s' → Cong f t t' → Cong f (add_sequences R s t) (add_sequences R s' t')
   cong_add f s s' t t' p q = record {
     by = F.list_add R p.by q.by;
-    is = ap₂ (add_sequences R) p.is q.is ∙ B.swap4 S _ s' _ t'
-        ∙ ap (λ w. add_sequences R w (add_sequences R s' t')) (sym (B.add-mul S (at R.ops p.by) (at R.ops q.by) f) ∙ ap (λ w. convolve R.ops w f) (sym (F.at-list_add R p.by q.by)));
+    is = ap₂ (add_sequences R) p.is q.is ∙ Basics.swap_four S _ s' _ t'
+        ∙ ap (λ w. add_sequences R w (add_sequences R s' t')) (sym (Basics.add-mul S (at R.ops p.by) (at R.ops q.by) f) ∙ ap (λ w. convolve R.ops w f) (sym (F.at-list_add R p.by q.by)));
   }
 
   pub cong_mul : (f s s' : ℕ → A) (b : List A) → Cong f s s' → Cong f (convolve R.ops s (at R.ops b)) (convolve R.ops s' (at R.ops b))
   cong_mul f s s' b p = record {
     by = convolution R.ops p.by b;
-    is = ap (λ w. convolve R.ops w (at R.ops b)) p.is ∙ B.add-mul S _ s' (at R.ops b)
+    is = ap (λ w. convolve R.ops w (at R.ops b)) p.is ∙ Basics.add-mul S _ s' (at R.ops b)
         ∙ ap (λ w. add_sequences R w (convolve R.ops s' (at R.ops b)))
         (S.mul_assoc (at R.ops p.by) f (at R.ops b) ∙ ap (convolve R.ops (at R.ops p.by)) (S.mul_comm f (at R.ops b))
         ∙ sym (S.mul_assoc (at R.ops p.by) (at R.ops b) f) ∙ ap (λ w. convolve R.ops w f) (sym (F.at-convolution R p.by b)));
@@ -81,12 +82,12 @@ module _ {A : Type 0} (R : Ring A) where
   no_multiple d f one ends (x ∷ h) e = fun_ext (all (no_multiple d f one ends h low))
     where
       low : Ends R (suc d) (convolve R.ops (at R.ops h) f)
-      low k le = sym (B.zero-add R _) ∙ ap (λ w. w ⊕ convolve R.ops (at R.ops h) f k) (sym (B.mul-zero R x) ∙ ap (λ w. x ⊗ w) (sym (ends (suc k) (omega arith))))
+      low k le = sym (Basics.zero-add R _) ∙ ap (λ w. w ⊕ convolve R.ops (at R.ops h) f k) (sym (Basics.mul-zero R x) ∙ ap (λ w. x ⊗ w) (sym (ends (suc k) (omega arith))))
           ∙ e (suc k) (omega arith)
 
       first : at R.ops h ≡ zero_sequence R → x ≡ 𝟎
       first rest = sym (R.mul_one x) ∙ ap (λ w. x ⊗ w) (sym one) ∙ sym (R.add_zero _)
-          ∙ ap (λ w. x ⊗ f (suc d) ⊕ w) (sym (ap (λ s. convolve R.ops s f d) rest ∙ ap (λ s. s d) (B.zero_sequence-mul R f)))
+          ∙ ap (λ w. x ⊗ f (suc d) ⊕ w) (sym (ap (λ s. convolve R.ops s f d) rest ∙ ap (λ s. s d) (Sequences.zero_sequence-mul R f)))
           ∙ e (suc d) (omega arith)
 
       all : at R.ops h ≡ zero_sequence R → (k : ℕ) → at R.ops (x ∷ h) k ≡ 𝟎
@@ -97,7 +98,7 @@ module _ {A : Type 0} (R : Ring A) where
   pub cong_small : (d : ℕ) (f s t : ℕ → A) → f (suc d) ≡ 𝟏 → Ends R (suc (suc d)) f → Ends R (suc d) s → Ends R (suc d) t
       → Cong f s t → s ≡ t
   cong_small d f s t one ends hs ht p =
-      p.is ∙ ap (λ w. add_sequences R (convolve R.ops w f) t) (no_multiple d f one ends p.by small) ∙ ap (λ w. add_sequences R w t) (B.zero_sequence-mul R f) ∙ B.zero-add S t
+      p.is ∙ ap (λ w. add_sequences R (convolve R.ops w f) t) (no_multiple d f one ends p.by small) ∙ ap (λ w. add_sequences R w t) (Sequences.zero_sequence-mul R f) ∙ Basics.zero-add S t
     where
       small : Ends R (suc d) (convolve R.ops (at R.ops p.by) f)
       small k le = sym (R.add_zero _) ∙ ap (λ w. convolve R.ops (at R.ops p.by) f k ⊕ w) (sym (ht k le))
@@ -128,10 +129,10 @@ module _ {A : Type 0} (R : Ring A) where
       where
         go : (d ≡ k) ⊎ (d < k) → at R.ops r k ⊕ neg (at R.ops r d ⊗ at R.ops f (suc k)) ≡ 𝟎
         go (inl e) = rw (← e, m.leading, R.mul_one) (R.add_neg (at R.ops r d))
-        go (inr lt) = rw (f-ends (suc k) (suc-le-suc lt), small r l k lt, B.mul-zero R, F.neg-zero R) (R.add_zero 𝟎)
+        go (inr lt) = rw (f-ends (suc k) (suc-le-suc lt), small r l k lt, Basics.mul-zero R, F.neg-zero R) (R.add_zero 𝟎)
 
     pub remainder-cong : (c : List A) → Cong (at R.ops f) (at R.ops c) (at R.ops (remainder R.ops (suc d) f c))
-    remainder-cong [] = record { by = []; is = sym (ap₂ (add_sequences R) (B.zero_sequence-mul R (at R.ops f)) (F.at-tabulate R (suc d) (at R.ops []) (λ k le. refl)) ∙ S.add_zero (at R.ops [])) }
+    remainder-cong [] = record { by = []; is = sym (ap₂ (add_sequences R) (Sequences.zero_sequence-mul R (at R.ops f)) (F.at-tabulate R (suc d) (at R.ops []) (λ k le. refl)) ∙ S.add_zero (at R.ops [])) }
     remainder-cong (x ∷ c) = record {
       by = at R.ops (remainder R.ops (suc d) f c) d ∷ (remainder-cong c).by;
       is = fun_ext (places (remainder R.ops (suc d) f c) (remainder-cong c)) ∙ ap (add_sequences R _) (sym (F.at-tabulate R (suc d) (step x (remainder R.ops (suc d) f c)) (step-ends x (remainder R.ops (suc d) f c) (length-remainder c))));
@@ -141,7 +142,7 @@ module _ {A : Type 0} (R : Ring A) where
             ≡ convolve R.ops (at R.ops (at R.ops r d ∷ p.by)) (at R.ops f) k ⊕ (at R.ops (x ∷ r) k ⊕ neg (at R.ops r d ⊗ at R.ops f k))
         places r p zero = take_away R x _
         places r p (suc k) = ap (λ s. s k) p.is ∙ ap (λ w. convolve R.ops (at R.ops p.by) (at R.ops f) k ⊕ w) (take_away R (at R.ops r k) (at R.ops r d ⊗ at R.ops f (suc k)))
-            ∙ B.add_left_comm R _ _ _ ∙ sym (R.add_assoc _ _ _)
+            ∙ Basics.add_left_comm R _ _ _ ∙ sym (R.add_assoc _ _ _)
 
     -- the remainder is one
     pub remainder-is : (c : List A) → IsRemainder R.ops (suc d) f c (remainder R.ops (suc d) f c)

@@ -5,7 +5,7 @@ use native.Mathlib.Omega.{arith}
 use Rattle.p3_theory.specs.Rings.Ring.{Ring}
 use Rattle.p3_theory.specs.Polynomials.Polynomial.{convolve}
 use Rattle.p3_theory.specs.Rings.Powers.{sum_of}
-use Rattle.p3_theory.specs.Polynomials.Sequences as B
+use Rattle.p3_theory.specs.Rings.Basics as Basics
 use Rattle.p3_theory.specs.Polynomials.Sequences.{tail}
 use Rattle.p3_theory.specs.Polynomials.Coefficients.{Ends}
 
@@ -46,7 +46,7 @@ module _ {A : Type 0} (R : Ring A) where
   conv-shift zero m a b h = ap₂ (λ s j. convolve R.ops s b j) (fun_ext (λ i. ap a (omega arith))) (omega arith)
   conv-shift (suc n) m a b h = ap (convolve R.ops a b) more
       ∙ ap (λ v. a zero ⊗ v ⊕ convolve R.ops (tail R a) b (n + m)) (h (suc (n + m)) (omega arith))
-      ∙ ap (λ v. v ⊕ convolve R.ops (tail R a) b (n + m)) (B.mul-zero R (a zero)) ∙ B.zero-add R _
+      ∙ ap (λ v. v ⊕ convolve R.ops (tail R a) b (n + m)) (Basics.mul-zero R (a zero)) ∙ Basics.zero-add R _
       ∙ conv-shift n m (tail R a) b h ∙ ap (λ s. convolve R.ops s b m) (fun_ext (λ i. ap a (next i)))
     where
       more : suc n + m ≡ suc (n + m)
@@ -75,7 +75,7 @@ module _ {A : Type 0} (R : Ring A) where
       s i = a (k + 1 + i) ⊗ b (d - i)
 
       gone : (i : ℕ) → d - k ≤ i → s i ≡ 𝟎
-      gone i le = ap (λ v. v ⊗ b (d - i)) (ha (k + 1 + i) (omega arith)) ∙ B.zero-mul R _
+      gone i le = ap (λ v. v ⊗ b (d - i)) (ha (k + 1 + i) (omega arith)) ∙ Basics.zero-mul R _
 
       all : suc k + (d - k) ≡ suc d
       all = omega arith

@@ -5,7 +5,8 @@ use native.Mathlib.Omega.{arith}
 use Rattle.p3_theory.specs.Rings.Ring.{Ring, Hom}
 use Rattle.p3_theory.specs.Polynomials.Polynomial.{at, convolve}
 use Rattle.p3_theory.specs.Rings.Powers.{power, sum_of}
-use Rattle.p3_theory.specs.Polynomials.Sequences as Basics
+use Rattle.p3_theory.specs.Rings.Basics as Basics
+use Rattle.p3_theory.specs.Polynomials.Sequences as Sequences
 use Rattle.p3_theory.specs.Polynomials.Sequences.{add_sequences, scale, tail, zero_sequence}
 use Rattle.p3_theory.specs.Polynomials.Coefficients as F
 use Rattle.p3_theory.specs.Polynomials.Coefficients.{Ends}
@@ -51,7 +52,7 @@ module _ {A B : Type 0} (R : Ring A) (E : Ring B) (e : A → B) (hom : Hom R.ops
   pub horner-add : (n : ℕ) (s t : ℕ → A) → horner n (add_sequences R s t) ≡ horner n s ⊕ horner n t
   horner-add zero s t = sym (E.add_zero 𝟎)
   horner-add (suc n) s t = ap₂ (λ x y. x ⊕ phi ⊗ y) (hom.add _ _) (horner-add n (tail R s) (tail R t))
-      ∙ ap (λ w. e (s zero) ⊕ e (t zero) ⊕ w) (E.mul_add phi _ _) ∙ Basics.swap4 E _ _ _ _
+      ∙ ap (λ w. e (s zero) ⊕ e (t zero) ⊕ w) (E.mul_add phi _ _) ∙ Basics.swap_four E _ _ _ _
 
   pub horner-scale : (x : A) (n : ℕ) (s : ℕ → A) → horner n (scale R x s) ≡ e x ⊗ horner n s
   horner-scale x zero s = sym (Basics.mul-zero E (e x))
@@ -63,7 +64,7 @@ module _ {A B : Type 0} (R : Ring A) (E : Ring B) (e : A → B) (hom : Hom R.ops
 
   pub horner-mul : (a : List A) (n : ℕ) (t : ℕ → A) → Ends R n t
       → horner (length a + n) (convolve R.ops (at R.ops a) t) ≡ horner (length a) (at R.ops a) ⊗ horner n t
-  horner-mul [] n t h = ap (horner (zero + n)) (Basics.zero_sequence-mul R t) ∙ horner-zero (zero + n) ∙ sym (Basics.zero-mul E (horner n t))
+  horner-mul [] n t h = ap (horner (zero + n)) (Sequences.zero_sequence-mul R t) ∙ horner-zero (zero + n) ∙ sym (Basics.zero-mul E (horner n t))
   horner-mul (x ∷ a) n t h = ap (λ k. horner k (convolve R.ops (at R.ops (x ∷ a)) t)) (suc-add (length a) n)
       ∙ ap₂ (λ y z. y ⊕ phi ⊗ z) (hom.mul x (t zero)) (horner-add N (scale R x (tail R t)) (convolve R.ops (at R.ops a) t)
       ∙ ap₂ (λ y z. y ⊕ z) (horner-scale x N (tail R t)) (horner-mul a n t h))

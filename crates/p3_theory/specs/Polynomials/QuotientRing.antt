@@ -6,7 +6,8 @@ use mathlib.Core.HLevel.{Σ_prop_path}
 use Rattle.std.proofs.Math.Nat.{ℕ_set}
 use Rattle.p3_theory.specs.Rings.Ring.{Ring}
 use Rattle.p3_theory.specs.Polynomials.Polynomial.{at, convolve, convolution, IsMonic, quotient_add, quotient_neg, quotient_mul, embed}
-use Rattle.p3_theory.specs.Polynomials.Sequences as B
+use Rattle.p3_theory.specs.Rings.Basics as Basics
+use Rattle.p3_theory.specs.Polynomials.Sequences as Sequences
 use Rattle.p3_theory.specs.Polynomials.Sequences.{sequences, add_sequences, scale, tail, zero_sequence, one_sequence}
 use Rattle.p3_theory.specs.Polynomials.Coefficients as F
 use Rattle.p3_theory.specs.Polynomials.Coefficients.{Ends}
@@ -107,7 +108,7 @@ module _ {A : Type 0} (R : Ring A) (d : ℕ) (f : List A) (m : IsMonic R.ops (su
   -- a constant scales
   pub const-scale : (x : A) (t : ℕ → A) (k : ℕ) → convolve R.ops (at R.ops (x ∷ [])) t k ≡ x ⊗ t k
   const-scale x t zero = refl
-  const-scale x t (suc k) = ap (λ w. x ⊗ t (suc k) ⊕ w) (ap (λ s. s k) (B.zero_sequence-mul R t)) ∙ R.add_zero _
+  const-scale x t (suc k) = ap (λ w. x ⊗ t (suc k) ⊕ w) (ap (λ s. s k) (Sequences.zero_sequence-mul R t)) ∙ R.add_zero _
 
   const-one : at R.ops (𝟏 ∷ []) ≡ one_sequence R
   const-one = fun_ext go
@@ -135,7 +136,7 @@ module _ {A : Type 0} (R : Ring A) (d : ℕ) (f : List A) (m : IsMonic R.ops (su
     where
       go : (k : ℕ) → at R.ops ((x ⊗ y) ∷ []) k ≡ convolve R.ops (at R.ops (x ∷ [])) (at R.ops (y ∷ [])) k
       go zero = refl
-      go (suc k) = sym (const-scale x (at R.ops (y ∷ [])) (suc k) ∙ B.mul-zero R x)
+      go (suc k) = sym (const-scale x (at R.ops (y ∷ [])) (suc k) ∙ Basics.mul-zero R x)
 
   -- the carrier: lists of length D
   abbrev pub Ext : Type 0

@@ -2,6 +2,7 @@
 use Rattle.std.proofs.Common.{◌≡◌, ℕ, zero, suc, refl, sym, ap, ◌∙◌, ap₂}
 use mathlib.Core.Path.{fun_ext}
 use Rattle.p3_theory.specs.Rings.Ring.{Ring, Hom}
+use Rattle.p3_theory.specs.Rings.Basics.{add-mul, cancel, one-mul, swap_four, zero-mul}
 use Rattle.p3_theory.specs.Polynomials.Polynomial.{convolve}
 
 module _ {A : Type 0} (R : Ring A) where
@@ -9,33 +10,6 @@ module _ {A : Type 0} (R : Ring A) where
 
   infixl 60 ◌⊕◌
   infixl 70 ◌⊗◌
-  pub add_left_comm : (x y z : A) → x ⊕ (y ⊕ z) ≡ y ⊕ (x ⊕ z)
-  add_left_comm x y z = sym (R.add_assoc x y z) ∙ ap (λ w. w ⊕ z) (R.add_comm x y) ∙ R.add_assoc y x z
-
-  pub swap4 : (x y z w : A) → (x ⊕ y) ⊕ (z ⊕ w) ≡ (x ⊕ z) ⊕ (y ⊕ w)
-  swap4 x y z w = simp (R.add_assoc, add_left_comm)
-
-  pub zero-add : (x : A) → 𝟎 ⊕ x ≡ x
-  zero-add x = R.add_comm 𝟎 x ∙ R.add_zero x
-
-  pub cancel : (x y z : A) → x ⊕ y ≡ x ⊕ z → y ≡ z
-  cancel x y z e = sym (back y) ∙ ap (λ w. R.neg x ⊕ w) e ∙ back z
-    where
-      back : (w : A) → R.neg x ⊕ (x ⊕ w) ≡ w
-      back w = sym (R.add_assoc (R.neg x) x w) ∙ ap (λ v. v ⊕ w) (R.add_comm (R.neg x) x ∙ R.add_neg x) ∙ zero-add w
-
-  pub mul-zero : (x : A) → x ⊗ 𝟎 ≡ 𝟎
-  mul-zero x = cancel (x ⊗ 𝟎) (x ⊗ 𝟎) 𝟎 (sym (R.mul_add x 𝟎 𝟎) ∙ ap (λ w. x ⊗ w) (R.add_zero 𝟎) ∙ sym (R.add_zero (x ⊗ 𝟎)))
-
-  pub zero-mul : (x : A) → 𝟎 ⊗ x ≡ 𝟎
-  zero-mul x = R.mul_comm 𝟎 x ∙ mul-zero x
-
-  pub one-mul : (x : A) → 𝟏 ⊗ x ≡ x
-  one-mul x = R.mul_comm 𝟏 x ∙ R.mul_one x
-
-  pub add-mul : (x y z : A) → (x ⊕ y) ⊗ z ≡ x ⊗ z ⊕ y ⊗ z
-  add-mul x y z = R.mul_comm (x ⊕ y) z ∙ R.mul_add z x y ∙ ap₂ (λ a b. a ⊕ b) (R.mul_comm z x) (R.mul_comm z y)
-
   -- sequences, index by index
   abbrev pub add_sequences : (ℕ → A) → (ℕ → A) → ℕ → A
   add_sequences s t k = s k ⊕ t k
@@ -71,9 +45,9 @@ module _ {A : Type 0} (R : Ring A) where
   conv_comm s t = fun_ext (conv_comm_at s t)
 
   pub conv_add_at : (s t u : ℕ → A) (k : ℕ) → convolve R.ops (add_sequences s t) u k ≡ convolve R.ops s u k ⊕ convolve R.ops t u k
-  conv_add_at s t u zero = add-mul (s zero) (t zero) (u zero)
-  conv_add_at s t u (suc k) = ap₂ (λ a b. a ⊕ b) (add-mul (s zero) (t zero) (u (suc k))) (conv_add_at (tail s) (tail t) u k)
-      ∙ swap4 _ _ _ _
+  conv_add_at s t u zero = add-mul R (s zero) (t zero) (u zero)
+  conv_add_at s t u (suc k) = ap₂ (λ a b. a ⊕ b) (add-mul R (s zero) (t zero) (u (suc k))) (conv_add_at (tail s) (tail t) u k)
+      ∙ swap_four R _ _ _ _
 
   conv_scale_at : (x : A) (s t : ℕ → A) (k : ℕ) → convolve R.ops (scale x s) t k ≡ x ⊗ convolve R.ops s t k
   conv_scale_at x s t zero = R.mul_assoc x (s zero) (t zero)
@@ -90,12 +64,12 @@ module _ {A : Type 0} (R : Ring A) where
       ∙ ap (λ w. w ⊕ convolve R.ops (tail s) (convolve R.ops t u) k) (sym (R.mul_add _ _ _))
 
   conv_zero_at : (t : ℕ → A) (k : ℕ) → convolve R.ops zero_sequence t k ≡ 𝟎
-  conv_zero_at t zero = zero-mul (t zero)
-  conv_zero_at t (suc k) = ap₂ (λ a b. a ⊕ b) (zero-mul (t (suc k))) (conv_zero_at t k) ∙ R.add_zero 𝟎
+  conv_zero_at t zero = zero-mul R (t zero)
+  conv_zero_at t (suc k) = ap₂ (λ a b. a ⊕ b) (zero-mul R (t (suc k))) (conv_zero_at t k) ∙ R.add_zero 𝟎
 
   pub conv_one_at : (t : ℕ → A) (k : ℕ) → convolve R.ops one_sequence t k ≡ t k
-  conv_one_at t zero = one-mul (t zero)
-  conv_one_at t (suc k) = ap₂ (λ a b. a ⊕ b) (one-mul (t (suc k))) (conv_zero_at t k) ∙ R.add_zero (t (suc k))
+  conv_one_at t zero = one-mul R (t zero)
+  conv_one_at t (suc k) = ap₂ (λ a b. a ⊕ b) (one-mul R (t (suc k))) (conv_zero_at t k) ∙ R.add_zero (t (suc k))
 
   -- the sequences are a commutative ring
   abbrev pub sequences : Ring (ℕ → A)
@@ -124,6 +98,6 @@ ring_hom R E h zeros ones sums products = record {
   zero = zeros;
   one = ones;
   add = sums;
-  neg = λ x. cancel E (h x) (h (R.neg x)) (E.neg (h x)) (sym (sums x (R.neg x)) ∙ ap h (R.add_neg x) ∙ zeros ∙ sym (E.add_neg (h x)));
+  neg = λ x. cancel R E (h x) (h (R.neg x)) (E.neg (h x)) (sym (sums x (R.neg x)) ∙ ap h (R.add_neg x) ∙ zeros ∙ sym (E.add_neg (h x)));
   mul = products;
 }

@@ -5,7 +5,8 @@ use native.Mathlib.Omega.{arith}
 use Rattle.p3_theory.specs.Rings.Ring.{Ring, Hom}
 use Rattle.p3_theory.specs.Polynomials.Polynomial.{at, convolve, IsMonic, remainder, quotient_add, quotient_mul, embed}
 use Rattle.p3_theory.specs.Rings.Powers.{eval}
-use Rattle.p3_theory.specs.Polynomials.Sequences as Basics
+use Rattle.p3_theory.specs.Rings.Basics as Basics
+use Rattle.p3_theory.specs.Polynomials.Sequences as Sequences
 use Rattle.p3_theory.specs.Polynomials.Sequences.{sequences, add_sequences, scale, tail, zero_sequence}
 use Rattle.p3_theory.specs.Polynomials.Coefficients as F
 use Rattle.p3_theory.specs.Polynomials.Coefficients.{Ends}
@@ -30,7 +31,7 @@ module _ {A : Type 0} (R : Ring A) (d : ℕ) (f : List A) (m : IsMonic R.ops (su
   emb x = (embed R.ops (suc d) x, X.length-embed R d f m x)
 
   pub hom : Hom R.ops E.ops emb
-  hom = Basics.ring_hom R E emb refl refl (λ x y. X.Ext-path R d f m _ _ (X.embed_add R d f m x y)) (λ x y. X.Ext-path R d f m _ _ (X.embed_mul R d f m x y))
+  hom = Sequences.ring_hom R E emb refl refl (λ x y. X.Ext-path R d f m _ _ (X.embed_add R d f m x y)) (λ x y. X.Ext-path R d f m _ _ (X.embed_mul R d f m x y))
 
   -- the value at phi of the polynomial whose coefficients are those of a
   abbrev pub sigma_of : Ext R d f m → Ext R d f m → Ext R d f m

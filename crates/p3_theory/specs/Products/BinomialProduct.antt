@@ -4,7 +4,8 @@ use mathlib.Core.Path.{fun_ext}
 use native.Mathlib.Omega.{arith}
 use Rattle.p3_theory.specs.Rings.Ring.{Ring}
 use Rattle.p3_theory.specs.Polynomials.Polynomial.{tabulate, at, convolve, IsMonic, quotient_mul, monomial, binomial}
-use Rattle.p3_theory.specs.Polynomials.Sequences as Basics
+use Rattle.p3_theory.specs.Rings.Basics as Basics
+use Rattle.p3_theory.specs.Polynomials.Sequences as Sequences
 use Rattle.p3_theory.specs.Polynomials.Sequences.{sequences, add_sequences, tail, zero_sequence}
 use Rattle.p3_theory.specs.Polynomials.Coefficients as F
 use Rattle.p3_theory.specs.Polynomials.Coefficients.{Ends}
@@ -29,14 +30,14 @@ module _ {A : Type 0} (R : Ring A) where
 
   monomial-mul : (d : ℕ) (s : ℕ → A) (k : ℕ) → convolve R.ops (at R.ops (monomial R.ops d)) s k ≡ up d s k
   monomial-mul zero s zero = Basics.one-mul R (s zero)
-  monomial-mul zero s (suc k) = ap₂ (λ x y. x ⊕ y) (Basics.one-mul R (s (suc k))) (ap (λ t. t k) (Basics.zero_sequence-mul R s)) ∙ R.add_zero _
+  monomial-mul zero s (suc k) = ap₂ (λ x y. x ⊕ y) (Basics.one-mul R (s (suc k))) (ap (λ t. t k) (Sequences.zero_sequence-mul R s)) ∙ R.add_zero _
   monomial-mul (suc d) s zero = Basics.zero-mul R (s zero)
   monomial-mul (suc d) s (suc k) = ap (λ x. x ⊕ convolve R.ops (at R.ops (monomial R.ops d)) s k) (Basics.zero-mul R (s (suc k)))
       ∙ Basics.zero-add R _ ∙ monomial-mul d s k
 
   -- (X^D - w) * s
   binomial-mul : (d : ℕ) (w : A) (s : ℕ → A) (k : ℕ) → convolve R.ops s (at R.ops (binomial R.ops (suc d) w)) k ≡ neg w ⊗ s k ⊕ up (suc d) s k
-  binomial-mul d w s k = ap (λ t. t k) (Basics.conv_comm R s (at R.ops (binomial R.ops (suc d) w))) ∙ go k
+  binomial-mul d w s k = ap (λ t. t k) (Sequences.conv_comm R s (at R.ops (binomial R.ops (suc d) w))) ∙ go k
     where
       go : (k : ℕ) → convolve R.ops (at R.ops (binomial R.ops (suc d) w)) s k ≡ neg w ⊗ s k ⊕ up (suc d) s k
       go zero = sym (R.add_zero _)
@@ -55,10 +56,6 @@ module _ {A : Type 0} (R : Ring A) where
   places : (x t u y : A) → x ≡ t ⊕ y → x ≡ (neg u ⊕ y) ⊕ (t ⊕ u)
   places x t u y e = e ∙ sym (ap (λ v. v ⊕ (t ⊕ u)) (R.add_comm (neg u) y) ∙ R.add_assoc y (neg u) (t ⊕ u)
       ∙ ap (λ v. y ⊕ v) (Basics.add_left_comm R (neg u) t u ∙ ap (λ v. t ⊕ v) (R.add_comm (neg u) u ∙ R.add_neg u) ∙ R.add_zero t) ∙ R.add_comm y t)
-
-  neg-mul : (x y : A) → neg x ⊗ y ≡ neg (x ⊗ y)
-  neg-mul x y = Basics.cancel R (x ⊗ y) (neg x ⊗ y) (neg (x ⊗ y))
-      (sym (Basics.add-mul R x (neg x) y) ∙ ap (λ v. v ⊗ y) (R.add_neg x) ∙ Basics.zero-mul R y ∙ sym (R.add_neg (x ⊗ y)))
 
   tabulate-add : (w : A) (n : ℕ) (s t : ℕ → A) (k : ℕ) → at R.ops (tabulate n (λ i. s i ⊕ w ⊗ t i)) k
       ≡ at R.ops (tabulate n s) k ⊕ w ⊗ at R.ops (tabulate n t) k
@@ -90,5 +87,5 @@ module _ {A : Type 0} (R : Ring A) where
       go : (k : ℕ) → s k ≡ convolve R.ops (at R.ops (tabulate (suc d) t)) (at R.ops f) k ⊕ at R.ops (tabulate (suc d) (fold (suc d) w s)) k
       go k = places (s k) (at R.ops (tabulate (suc d) s) k) (w ⊗ t k) (up (suc d) t k) (first-up (suc d) s k)
           ∙ ap₂ (λ x y. x ⊕ y)
-          (ap (λ x. x ⊕ up (suc d) t k) (sym (neg-mul w (t k))) ∙ sym (binomial-mul d w t k) ∙ ap (λ v. convolve R.ops v (at R.ops f) k) (sym q))
+          (ap (λ x. x ⊕ up (suc d) t k) (sym (Basics.neg-mul R w (t k))) ∙ sym (binomial-mul d w t k) ∙ ap (λ v. convolve R.ops v (at R.ops f) k) (sym q))
           (ap (λ v. at R.ops (tabulate (suc d) s) k ⊕ w ⊗ v k) (sym q) ∙ sym (tabulate-add w (suc d) s t k))

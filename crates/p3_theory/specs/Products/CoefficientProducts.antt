@@ -8,7 +8,7 @@ use Rattle.p3_theory.specs.Polynomials.ConvolutionSums.{first_sum}
 use Rattle.p3_theory.specs.Products.ProductCoefficients.{product_coefficient, product_by_each_coefficient}
 use Rattle.p3_theory.specs.Polynomials.Coefficients.{length-tabulate}
 use Rattle.p3_theory.specs.Lists.ByIndex.{get-tabulate, to-tabulate, length-remainder}
-use Rattle.p3_theory.specs.Polynomials.Sequences.{zero-add, zero-mul}
+use Rattle.p3_theory.specs.Rings.Basics.{zero-add, zero-mul}
 
 module _ {A : Type 0} (R : Ring A) where
   -- what is added to zeros stays as it is

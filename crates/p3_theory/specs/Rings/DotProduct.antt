@@ -4,7 +4,7 @@ use Rattle.std.proofs.lemmas.List.{drop_more, drop-drop, take-append-drop, lengt
 use Rattle.std.proofs.Math.ListN.{drop_of_length-le}
 use Rattle.p3_theory.specs.Rings.Ring.{Ops, RingLaws, ring_of}
 use Rattle.p3_theory.specs.Rings.Operators.{sum_list}
-use Rattle.p3_theory.specs.Polynomials.Sequences.{zero-add}
+use Rattle.p3_theory.specs.Rings.Basics.{zero-add}
 
 -- the sum of the products of two lists, up to the end of the shorter one
 abbrev pub dot : {A : Type 0} → Ops A → List A → List A → A

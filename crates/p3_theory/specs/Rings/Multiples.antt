@@ -3,7 +3,7 @@ use Rattle.std.specs.Prelude.{◌≡◌, ℕ, zero, suc, ◌+◌, ◌*◌, ◌%�
 use Rattle.std.proofs.Common.{ap, ap₂, sym, ◌∙◌, arith}
 use Rattle.std.proofs.Math.Nat.{mod-add-div, mod-lt}
 use Rattle.p3_theory.specs.Rings.Ring.{Ops, Ring, RingLaws, ring_of}
-use Rattle.p3_theory.specs.Polynomials.Sequences as Sequences
+use Rattle.p3_theory.specs.Rings.Basics as Basics
 
 -- one added n times
 abbrev pub of_nat : {A : Type 0} → Ops A → ℕ → A
@@ -30,7 +30,7 @@ IsCanonical z n = (m : ℕ) × (m < n) × (z ≡ pos m)
 
 module _ {A : Type 0} (R : Ring A) where
   pub of_nat-add : (m n : ℕ) → of_nat R.ops (m + n) ≡ R.add (of_nat R.ops m) (of_nat R.ops n)
-  of_nat-add zero n = (let e : zero + n ≡ n = omega arith in ap (of_nat R.ops) e) ∙ sym (Sequences.zero-add R (of_nat R.ops n))
+  of_nat-add zero n = (let e : zero + n ≡ n = omega arith in ap (of_nat R.ops) e) ∙ sym (Basics.zero-add R (of_nat R.ops n))
   of_nat-add (suc m) n = (let e : suc m + n ≡ suc (m + n) = omega arith in ap (of_nat R.ops) e)
       ∙ ap (R.add R.one) (of_nat-add m n) ∙ sym (R.add_assoc _ _ _)
 
@@ -51,7 +51,7 @@ module _ {A : Type 0} (R : Ring A) where
   of_int-remainder n h e (negsuc a) =
       let below : a % n < n = mod-lt a h in
       let whole : suc a + (n - 1 - a % n) ≡ n * suc (a / n) = omega (arith, mod-add-div a n) in
-      Sequences.cancel R (of_nat R.ops (suc a)) _ _
+      Basics.cancel R (of_nat R.ops (suc a)) _ _
       (sym (of_nat-add (suc a) (n - 1 - a % n)) ∙ ap (of_nat R.ops) whole ∙ of_nat-multiple n e (suc (a / n)) ∙ sym (R.add_neg _))
 
 -- what is made from a residue is one taken as many times as the whole number says

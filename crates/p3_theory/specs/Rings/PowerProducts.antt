@@ -1,19 +1,17 @@
 -- Powers of products and of inverses, and fixed small powers.
 use Rattle.std.proofs.Common.{◌≡◌, ℕ, ◌+◌, ◌*◌, ◌^◌, zero, suc, [], ◌∷◌, refl, sym, ap, ap₂, ◌∙◌, add-one, arith}
 use Rattle.std.proofs.Math.Nat.{pow-succ'}
-use Rattle.p3_theory.specs.Rings.Ring.{Ops, RingLaws}
+use Rattle.p3_theory.specs.Rings.Ring.{Ops, RingLaws, ring_of}
+use Rattle.p3_theory.specs.Rings.Basics.{swap_factors}
 use Rattle.p3_theory.specs.Rings.Powers.{power}
 use Rattle.p3_theory.specs.Rings.PowerLaws.{power-add}
 use Rattle.p3_theory.specs.Rings.Multiples.{two}
 use Rattle.p3_theory.specs.RingSolver.Reify.{by_laws, reads, yes}
 
 module _ {A : Type 0} {O : Ops A} (l : RingLaws O) where
-  swap_products : (x y z w : A) → O.mul (O.mul x y) (O.mul z w) ≡ O.mul (O.mul x z) (O.mul y w)
-  swap_products x y z w = by_laws O l (x ∷ y ∷ z ∷ w ∷ []) (search reads depth 99 fits 99999) (search reads depth 99 fits 99999) yes
-
   pub power-mul : (x y : A) (n : ℕ) → power O (O.mul x y) n ≡ O.mul (power O x n) (power O y n)
   power-mul x y zero = sym (l.mul_one O.one)
-  power-mul x y (suc n) = ap (O.mul (O.mul x y)) (power-mul x y n) ∙ swap_products x y (power O x n) (power O y n)
+  power-mul x y (suc n) = ap (O.mul (O.mul x y)) (power-mul x y n) ∙ swap_factors (ring_of l) x y (power O x n) (power O y n)
 
   pub power_of_one : (n : ℕ) → power O O.one n ≡ O.one
   power_of_one zero = refl

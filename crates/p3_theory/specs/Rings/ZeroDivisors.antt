@@ -4,7 +4,7 @@ use Rattle.std.proofs.Common.{refl, ap, arith, ◌∙◌, sym, subst, inl, inr, 
 use Rattle.std.proofs.lemmas.Bool.{cases_lt}
 use Rattle.std.proofs.Math.Nat.{mod-eq_of_lt}
 use Rattle.p3_theory.specs.Rings.Ring.{Ops, RingLaws, Ring, ring_of}
-use Rattle.p3_theory.specs.Polynomials.Sequences.{cancel, mul-zero}
+use Rattle.p3_theory.specs.Rings.Basics.{cancel, mul-zero}
 use Rattle.p3_theory.specs.RingSolver.SolverSound.{and_true}
 use Rattle.p3_theory.specs.ResidueRings.Residues.{IsResidues, residue_ops, canon-below, same_canon}
 

@@ -3,7 +3,7 @@ use Rattle.std.specs.Prelude.{◌≡◌, ◌≢◌, ◌<◌, ◌≤◌, ◌+◌,
 use Rattle.std.proofs.Common.{ap, arith, ◌∙◌, sym, inl, inr, [], ◌∷◌, lit<, pow-add}
 use Rattle.std.proofs.Math.Nat.{pow-suc, mul_comm}
 use Rattle.p3_theory.specs.Rings.Ring.{Ops, RingLaws, Ring, ring_of}
-use Rattle.p3_theory.specs.Polynomials.Sequences.{cancel}
+use Rattle.p3_theory.specs.Rings.Basics.{cancel}
 use Rattle.p3_theory.specs.Polynomials.Coefficients.{length-tabulate}
 use Rattle.p3_theory.specs.Lists.ByIndex.{get-tabulate}
 use Rattle.p3_theory.specs.Rings.Powers.{power}

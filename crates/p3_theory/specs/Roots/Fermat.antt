@@ -6,7 +6,7 @@ use Rattle.p3_theory.specs.Rings.Ring.{Ops, RingLaws, ring_of}
 use Rattle.p3_theory.specs.Rings.Powers.{power}
 use Rattle.p3_theory.specs.Rings.Operators.{product_list}
 use Rattle.p3_theory.specs.Rings.Homomorphism.{length-map}
-use Rattle.p3_theory.specs.Polynomials.Sequences.{mul-zero}
+use Rattle.p3_theory.specs.Rings.Basics.{mul-zero}
 use Rattle.p3_theory.specs.Roots.ValueLists.{IsIn, HasNoRepeats, ValueList, from-map, no_repeats-map}
 use Rattle.p3_theory.specs.Rings.ZeroDivisors.{HasNoZeroDivisors, mul_cancel}
 

@@ -6,7 +6,7 @@ use Rattle.p3_theory.specs.Rings.Ring.{Ops, RingLaws, ring_of}
 use Rattle.p3_theory.specs.Rings.Powers.{power}
 use Rattle.p3_theory.specs.Rings.PowerChains.{power-power}
 use Rattle.p3_theory.specs.Rings.PowerProducts.{power_of_one}
-use Rattle.p3_theory.specs.Polynomials.Sequences.{mul-zero}
+use Rattle.p3_theory.specs.Rings.Basics.{mul-zero}
 use Rattle.p3_theory.specs.ResidueRings.Residues.{IsResidues, residue_ops, residue_laws, same_canon}
 use Rattle.p3_theory.specs.Roots.ValueLists.{ValueList, values-residues}
 use Rattle.p3_theory.specs.Rings.ZeroDivisors.{HasNoZeroDivisors}

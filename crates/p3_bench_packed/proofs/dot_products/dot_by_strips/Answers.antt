@@ -2,7 +2,7 @@ use Rattle.std.proofs.Common.{arith, ap, ap₂, ◌∙◌}
 use Rattle.std.proofs.lemmas.List.{take_rest}
 use Rattle.p3_theory.specs.Rings.DotProduct.{dot}
 use Rattle.p3_theory.specs.Rings.Ring.{ring_of}
-use Rattle.p3_theory.specs.Polynomials.Sequences.{zero-add}
+use Rattle.p3_theory.specs.Rings.Basics.{zero-add}
 use Rattle.p3_theory.specs.Lanes.RowRing.{row_ops, row_laws, written_sum, filled}
 use Rattle.p3_bench_packed.specs.Values.{packed_rows}
 use Rattle.p3_bench_packed.proofs.LaneDotProducts.{dot-block}

@@ -3,7 +3,7 @@ use Rattle.std.specs.Prelude.{◌+◌, ◌-◌, get_or}
 use Rattle.p3_theory.specs.Rings.Ring.{ring_of}
 use Rattle.p3_theory.specs.Lists.ByIndex.{read_at}
 use Rattle.p3_theory.specs.Polynomials.ConvolutionSums.{first_sum}
-use Rattle.p3_theory.specs.Polynomials.Sequences.{zero-add}
+use Rattle.p3_theory.specs.Rings.Basics.{zero-add}
 use Rattle.p3_products.proofs.FirstSums.{first_sum-more}
 use Rattle.p3_products.proofs.binomial_extension.products_at.Goals as goal
 

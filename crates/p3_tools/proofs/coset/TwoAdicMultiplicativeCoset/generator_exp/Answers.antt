@@ -3,7 +3,7 @@ use Rattle.std.proofs.Math.Nat.{mod-lt}
 use Rattle.std.proofs.lemmas.Nat.{pow_pos}
 use Rattle.p3_theory.specs.Rings.Ring.{ring_of}
 use Rattle.p3_theory.specs.Rings.Powers.{power}
-use Rattle.p3_theory.specs.Polynomials.Sequences.{one-mul}
+use Rattle.p3_theory.specs.Rings.Basics.{one-mul}
 use Rattle.p3_theory.specs.Roots.Cosets.{digit_is_one, digit_is_zero, halved_digits}
 use Rattle.p3_tools.proofs.coset.TwoAdicMultiplicativeCoset.generator_exp.Goals as goal
 use Rattle.p3_tools.proofs.coset.TwoAdicMultiplicativeCoset.generator_exp.Goals.{then-rest-eq1, else-rest-eq1}
