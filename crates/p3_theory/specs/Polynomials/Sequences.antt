@@ -98,6 +98,6 @@ ring_hom R E h zeros ones sums products = record {
   zero = zeros;
   one = ones;
   add = sums;
-  neg = λ x. cancel R E (h x) (h (R.neg x)) (E.neg (h x)) (sym (sums x (R.neg x)) ∙ ap h (R.add_neg x) ∙ zeros ∙ sym (E.add_neg (h x)));
+  neg = λ x. cancel E (h x) (h (R.neg x)) (E.neg (h x)) (sym (sums x (R.neg x)) ∙ ap h (R.add_neg x) ∙ zeros ∙ sym (E.add_neg (h x)));
   mul = products;
 }
