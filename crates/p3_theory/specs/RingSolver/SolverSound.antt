@@ -68,7 +68,7 @@ module _ {A : Type 0} (o : Ops A) (L : RingLaws o) where
 
   con_nat : (n : ℕ) → con n 0 ≡ nat o n
   unfolding con
-  con_nat n = ap (add (nat o n)) Basics.neg-zero R ∙ add_zero (nat o n)
+  con_nat n = ap (add (nat o n)) (Basics.neg-zero R) ∙ add_zero (nat o n)
 
   -- the value of a polynomial
   abbrev value : List A → Poly → A
