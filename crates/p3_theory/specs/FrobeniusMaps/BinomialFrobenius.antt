@@ -8,7 +8,6 @@ use Rattle.p3_theory.specs.Polynomials.Polynomial.{tabulate, at, IsMonic, embed,
 use Rattle.p3_theory.specs.Rings.Powers.{power, eval}
 use Rattle.p3_theory.specs.FrobeniusMaps.Frobenius.{iterate, IsFrobenius, orbit_product}
 use Rattle.p3_theory.specs.Rings.Basics as Basics
-use Rattle.p3_theory.specs.Polynomials.Sequences.{sequences, add_sequences, scale, tail, zero_sequence}
 use Rattle.p3_theory.specs.Polynomials.Coefficients as F
 use Rattle.p3_theory.specs.Polynomials.Congruence as Q
 use Rattle.p3_theory.specs.Polynomials.Congruence.{Cong}

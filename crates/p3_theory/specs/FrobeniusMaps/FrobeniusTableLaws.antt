@@ -9,7 +9,7 @@ use Rattle.p3_theory.specs.Rings.Powers.{power, sum_of, eval}
 use Rattle.p3_theory.specs.Lists.ByIndex.{get-tabulate, tabulate-entry, tabulate-same}
 use Rattle.p3_theory.specs.FrobeniusMaps.Frobenius.{iterate}
 use Rattle.p3_theory.specs.Rings.Basics as Basics
-use Rattle.p3_theory.specs.Polynomials.Sequences.{add_sequences, scale, tail, zero_sequence}
+use Rattle.p3_theory.specs.Polynomials.Sequences.{scale, tail}
 use Rattle.p3_theory.specs.Polynomials.Coefficients as F
 use Rattle.p3_theory.specs.Polynomials.Congruence as Q
 use Rattle.p3_theory.specs.Polynomials.QuotientRing as X
