@@ -1,5 +1,6 @@
 //! Worked runs with each growth of memory refused in turn: fault 8 at a line that shows a register, and at
-//! no other.
+//! no other. An engine that ends with fault 8 at every such line meets its contract; it fails here, where no growth
+//! is refused.
 
 use crate::example_runs::EXAMPLE_FILES;
 use crate::lines::{cut_text, show_line, values_shown};

@@ -1,4 +1,5 @@
-//! The calls that take memory: each of the growths that a call asks for is refused in turn, at many lengths.
+//! The calls that take memory: each of the growths that a call asks for is refused in turn, at many lengths. A body
+//! that always answers `Err` meets every contract; it fails here, where no growth is refused.
 mod calls;
 mod numbers;
 mod table;
