@@ -1,4 +1,4 @@
-use Rattle.std.proofs.Common.{rules, ap, ◌∙◌}
+use Rattle.std.proofs.Common.{rules, ◌∙◌}
 use Rattle.p3_spaces.specs.StreamLemmas.{from_bytes}
 use Rattle.p3_packings.proofs.parallel_streams.U32WordOfBytes4.of_bytes.Goals as goal
 
