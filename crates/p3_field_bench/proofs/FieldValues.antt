@@ -6,6 +6,7 @@ use Rattle.std.proofs.Math.Bridge.{le_prop}
 use Rattle.std.proofs.lemmas.Bool.{eqb-true, ltb-true}
 use Rattle.p3_theory.specs.RingSolver.SolverSound.{and_true}
 use Rattle.p3_theory.specs.Rings.Ring.{Ops, RingLaws, ring_of}
+use Rattle.p3_theory.specs.Rings.Basics.{mul-zero}
 use Rattle.p3_theory.specs.Rings.Powers.{power}
 use Rattle.p3_theory.specs.Rings.Homomorphism.{length-map, at-map}
 use Rattle.p3_theory.specs.ResidueRings.Residues.{residues, residue_ops, residue_laws, are_residues, IsResidues}
