@@ -161,5 +161,5 @@ module _ {A : Type 0} (o : Ops A) (L : RingLaws o) where
   pub ring_eq : (a b : Expr) (env : List A) → same a b ≡ true → eval o env a ≡ eval o env b
   ring_eq a b env h =
       let both : add (eval o env a) (neg (eval o env b)) ≡ add (eval o env b) (neg (eval o env b)) =
-          sym (value-norm env (a ⊖ b)) ∙ value-zero env (norm (a ⊖ b)) h ∙ sym (add_neg (eval o env b)) in
+      sym (value-norm env (a ⊖ b)) ∙ value-zero env (norm (a ⊖ b)) h ∙ sym (add_neg (eval o env b)) in
       Basics.cancel R (neg (eval o env b)) (eval o env a) (eval o env b) (add_comm _ _ ∙ both ∙ add_comm _ _)
