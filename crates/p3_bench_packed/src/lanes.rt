@@ -49,9 +49,7 @@ impl<F: Packable, const N: usize> PackedValue for Packed<F, N> {
 
     #[inline]
     fn set_lane(&mut self, lane: usize, value: F) {
-        let mut lanes = self.value;
-        lanes[lane] = value;
-        *self = Self::new(lanes);
+        self.value[lane] = value;
     }
 }
 

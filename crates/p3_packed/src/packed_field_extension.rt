@@ -58,9 +58,7 @@ fn write_lanes<F: PrimeCharacteristicRing, P: PackedRing<F>>(
     ensures written { (p : P) (i : ℕ) → i < length parts.old → P.lanes (get_or parts.new i p) ≡ slice_set (P.lanes (get_or parts.old i p)) lane (get_or values.now i F.ops.zero) }
 {
     for i in 0..parts.len() {
-        let mut part = parts[i];
-        part.set_lane(lane, values[i]);
-        parts[i] = part;
+        parts[i].set_lane(lane, values[i]);
     }
 }
 
@@ -96,17 +94,15 @@ impl<
     fn extract(&self, lane: usize) -> ExtField<F, D, S, F> {
         let mut value = [F::zero(); D];
         for i in 0..D {
-            let part = self.value.value[i];
-            value[i] = PackedValue::extract(&part, lane);
+            let part = &self.value.value[i];
+            value[i] = PackedValue::extract(part, lane);
         }
         ExtField::<F, D, S, F>::new(value)
     }
 
     #[inline]
     fn set_ext_lane(&mut self, lane: usize, value: ExtField<F, D, S, F>) {
-        let mut parts = self.value.value;
-        write_lanes::<F, P>(&mut parts, lane, &value.value);
-        *self = Self::new(parts);
+        write_lanes::<F, P>(&mut self.value.value, lane, &value.value);
     }
 
     ghost some_ext_lane = { P.some_lane };
