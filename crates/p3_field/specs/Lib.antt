@@ -1,7 +1,4 @@
 pub mod CoefficientRuns
-pub use Rattle.p3_array.specs.ArrayEquality
-pub use Rattle.p3_array.specs.ArrayFields
-pub use Rattle.p3_array.specs.ArraySizes
 pub use Rattle.p3_batch_inverse.specs.BatchProducts
 pub use Rattle.p3_batch_inverse.specs.Chains
 pub use Rattle.p3_batch_inverse.specs.Inverses
@@ -104,6 +101,8 @@ pub use Rattle.p3_theory.specs.Roots.TwoAdicCoefficients
 pub use Rattle.p3_theory.specs.Roots.ValueLists
 pub use Rattle.p3_tools.specs.BackwardRuns
 pub use Rattle.p3_tools.specs.PairedRuns
+pub use Rattle.p3_vectorized.specs.ArrayEquality
+pub use Rattle.p3_vectorized.specs.ArraySizes
 pub use Rattle.p3_vectorized.specs.Inside
 pub use Rattle.p3_vectorized.specs.RowMaps
 pub use Rattle.p3_vectorized.specs.VectorLists

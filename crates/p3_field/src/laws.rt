@@ -5,7 +5,7 @@ pub use crate::run_laws::{
     vector_default_is_zero, vector_ext_default_is_zero, vector_ext_lanes_keep_operations,
     vector_ext_of_vector, vector_lanes_keep_operations,
 };
-pub use p3_array::laws::{
+pub use p3_vectorized::array::laws::{
     array_equality_is_of_entries, array_of_list_has_its_entries, array_quotient_by_entries,
     default_array_is_zero,
 };

@@ -1,4 +1,4 @@
-//! Vectors of packings.
+//! Arrays of values and vectors of packings, as a ring entry by entry.
 mod algebra;
 
 ghost use Rattle.std.specs.Prelude.{◌≡◌, ◌<◌, ℕ, length, get_or, replicate};
@@ -13,9 +13,10 @@ use std::iter::{Product, Sum};
 use std::marker::{Model, PhantomData};
 use std::ops::{Add, AddAssign, Mul, MulAssign, Neg, Sub, SubAssign};
 
-/// N packings P of values of S, one after the other. The marker T says which other vectors are
-/// operands: none at `OfScalars`, those of packings of values of F at `OfExtension<F>`. This project's
-/// own: upstream has a type for each marker.
+/// N packings P of values of S, one after the other. By the marker T it is an array of values, each a
+/// packing of one lane (`OfValues`), a vector of packings of field values (`OfScalars`), or one of
+/// packings of values of an extension of F (`OfExtension<F>`), which also takes vectors of packings of
+/// values of F as operands. This project's own: upstream has a type for each marker.
 pub struct PackingVector<S, T, P: Inhabited, const N: usize>(pub [P; N], PhantomData<(S, T)>);
 
 impl<S, T, P: Inhabited, const N: usize> Model for PackingVector<S, T, P, N> {

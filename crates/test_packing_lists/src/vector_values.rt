@@ -2,9 +2,9 @@
 use crate::fields::Rooms;
 use crate::numbered::Numbered;
 use crate::texts::{holds_from, value_at};
-use p3_array::array::FieldArray;
 use p3_base::field::Field;
 use p3_base::packed_traits::{Inhabited, Packable, PackedField, PackedValue};
+use p3_vectorized::array::FieldArray;
 use p3_vectorized::vectorized::Vectorized;
 use poly_eval::eval_vectorized;
 use std::process::Abort;

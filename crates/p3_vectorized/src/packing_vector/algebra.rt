@@ -7,7 +7,7 @@ use p3_ring::sums::sum_of_products;
 use std::ops::{Add, AddAssign, Mul, MulAssign, Sub, SubAssign};
 
 /// The scalar in each packing.
-impl<S: Copy, T: Copy, P: PrimeCharacteristicRing + Inhabited + From<S>, const N: usize> From<S>
+impl<S: Copy, T: Copy, P: Inhabited + From<S>, const N: usize> From<S>
     for PackingVector<S, T, P, N> {
     ghost from_gives = { λ f r. (v : P) × ⟦<P as From<S>>⟧.from_gives f v × (r.items ≡ replicate N v) };
 

@@ -4,9 +4,9 @@ ghost use Rattle.p3_theory.specs.Rings.Ring.{Invertible};
 
 use crate::numbered::Numbered;
 use crate::texts::{holds, packing};
-use p3_array::array::FieldArray;
 use p3_base::field::Field;
 use p3_base::packed_traits::{Inhabited, Packable};
+use p3_vectorized::array::FieldArray;
 use std::process::Abort;
 
 /// What is divided, a divisor of each, and the quotients.

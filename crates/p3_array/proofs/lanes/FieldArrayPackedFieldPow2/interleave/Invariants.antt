@@ -1,7 +1,0 @@
-use Rattle.std.proofs.Common.{◌≡◌, length}
-use Rattle.p3_array.specs.Interleaving.{InterleavedBelow}
-use Rattle.p3_array.proofs.lanes.FieldArrayPackedFieldPow2.interleave.Given as goal
-
-abbrev pub invariant-loop-i : goal.invariant-loop-i
-invariant-loop-i g l =
-    (length l.first ≡ g.row.N) × (length l.second ≡ g.row.N) × InterleavedBelow l.block_len l.i l.xs l.ys l.first l.second

@@ -1,7 +1,0 @@
-use Rattle.std.proofs.Common.{◌≡◌, ◌<◌, ℕ, length, get_or}
-use Rattle.p3_array.proofs.scalar_operators.FieldArrayAdd.add.Given as goal
-
-abbrev pub invariant-loop-i : goal.invariant-loop-i
-invariant-loop-i g l =
-    let o = g.F.PrimeCharacteristicRing.ops in
-    (length l.items ≡ g.row.N) × ((d : g.row.F.Denot) (k : ℕ) → k < l.i → get_or l.items k d ≡ o.add (get_or l.xs k d) l.rhs)

@@ -1,4 +1,0 @@
-pub mod ArrayFields
-pub mod ArrayEquality
-pub mod Interleaving
-pub mod ArraySizes
