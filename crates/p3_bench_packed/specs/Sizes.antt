@@ -3,7 +3,7 @@ use Rattle.std.specs.Prelude.{◌<◌, ◌≤◌, ◌^◌}
 use Rattle.std.specs.Mem.{type_size}
 use Rattle.std.specs.Borrow.{RattleType}
 use denote.Param.{value_of}
-use Rattle.p3_vectorized.specs.ArraySizes.{around_array_holds}
+use Rattle.p3_packed.specs.ArraySizes.{around_array_holds}
 use Rattle.p3_bench_packed.specs.contracts.packed.Packed.{the_row}
 
 -- a packing of one or more lanes is no smaller than its scalar

@@ -21,6 +21,7 @@ pub use Rattle.p3_ext.specs.declared.extension.Binomial.{Binomial}
 pub use Rattle.p3_ext.specs.declared.extension.ext_field.ExtField.{ExtField}
 pub use Rattle.p3_ext.specs.declared.extension.polynomial_extension.Modulo.{Modulo}
 pub use Rattle.p3_tools.specs.Digits
+pub use Rattle.p3_packed.specs.ArraySizes
 pub use Rattle.p3_packed.specs.PackedValues
 pub use Rattle.p3_packed.specs.Sizes
 pub use Rattle.p3_packed.specs.ValueLanes
@@ -102,8 +103,8 @@ pub use Rattle.p3_theory.specs.Roots.ValueLists
 pub use Rattle.p3_tools.specs.BackwardRuns
 pub use Rattle.p3_tools.specs.PairedRuns
 pub use Rattle.p3_vectorized.specs.ArrayEquality
-pub use Rattle.p3_vectorized.specs.ArraySizes
 pub use Rattle.p3_vectorized.specs.Inside
 pub use Rattle.p3_vectorized.specs.RowMaps
 pub use Rattle.p3_vectorized.specs.VectorLists
+pub use Rattle.p3_vectorized.specs.VectorSizes
 pub use Rattle.p3_vectorized.specs.Written

@@ -1,3 +1,4 @@
+pub mod ArraySizes
 pub mod PackedValues
 pub mod Quotients
 pub mod Sizes

@@ -4,4 +4,5 @@ pub mod LaneLaws
 pub mod Rows
 pub mod RowRing
 pub mod VectorLanes
+pub mod InterleavedBelow
 pub mod Interleaves

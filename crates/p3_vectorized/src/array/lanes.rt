@@ -32,9 +32,9 @@ pub trait LanesPow2<const N: usize>: Lanes<N> {
 
 /// An array has room for each entry, and at least one.
 impl<F: Lanes<N>, const N: usize> HoldsScalar<F> for FieldArray<F, N> {
-    ghost use Rattle.p3_vectorized.specs.ArraySizes.{field_array_holds};
+    ghost use Rattle.p3_vectorized.specs.VectorSizes.{marked_array_holds};
 
-    ghost holds = { field_array_holds _ _ F.row N.row F.Inhabited F.some_lane F.counted };
+    ghost holds = { marked_array_holds F.row N.row F.some_lane F.counted };
 }
 
 impl<F: Lanes<N>, const N: usize> PackedRing<F> for FieldArray<F, N> {

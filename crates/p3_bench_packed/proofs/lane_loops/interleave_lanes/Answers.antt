@@ -1,5 +1,5 @@
 use Rattle.std.proofs.Common.{arith}
-use Rattle.p3_vectorized.specs.Interleaving.{pair_after, even_more, odd_more}
+use Rattle.p3_theory.specs.Lanes.InterleavedBelow.{pair_after, even_more, odd_more}
 use Rattle.p3_bench_packed.proofs.lane_loops.interleave_lanes.Goals as goal
 use Rattle.p3_bench_packed.proofs.lane_loops.interleave_lanes.Goals.{then-i-block_len-eq0, else-i-block_len-eq0}
 

@@ -1,5 +1,5 @@
 use Rattle.std.proofs.Common.{◌≡◌, length}
-use Rattle.p3_vectorized.specs.Interleaving.{InterleavedBelow}
+use Rattle.p3_theory.specs.Lanes.InterleavedBelow.{InterleavedBelow}
 use Rattle.p3_bench_packed.proofs.lane_loops.interleave_lanes.Given as goal
 
 abbrev pub invariant-loop-i : goal.invariant-loop-i

@@ -1,5 +1,5 @@
 use Rattle.std.proofs.Common.{◌∙◌, ap, arith, rules, length}
-use Rattle.p3_vectorized.specs.Interleaving.{pair_after, even_more, odd_more}
+use Rattle.p3_theory.specs.Lanes.InterleavedBelow.{pair_after, even_more, odd_more}
 use Rattle.p3_vectorized.proofs.array.lanes.FieldArrayPackedFieldPow2.interleave.Goals as goal
 use Rattle.p3_vectorized.proofs.array.lanes.FieldArrayPackedFieldPow2.interleave.Goals.{then-i-block_len-eq0, else-i-block_len-eq0}
 

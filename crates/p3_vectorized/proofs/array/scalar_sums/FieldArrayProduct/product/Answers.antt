@@ -13,7 +13,7 @@ returns g c =
       ran = (
         ran.0,
         λ _. ran.1,
-        written_constant rows o c.from.result c.product_from-product.result c.from.ensures
+        written_constant rows o c.new.result c.product_from-product.result c.new.ensures
             ∙ ap (constant rows o) (product_from_one m.ring _ m.muls.exact c.one.result c.one.ensures ran.0 c.product_from-product.result ran.2),
       );
     }

@@ -13,7 +13,7 @@ returns g c =
       ran = (
         ran.0,
         λ _. ran.1,
-        written_constant rows o c.from.result c.sum_from-total.result c.from.ensures
+        written_constant rows o c.new.result c.sum_from-total.result c.new.ensures
             ∙ ap (constant rows o) (sum_from_zero m.ring _ m.adds.exact c.zero.result c.zero.ensures ran.0 c.sum_from-total.result ran.2),
       );
     }

@@ -11,8 +11,6 @@ use mir.Val.{number_of}
 use prog.Memory.{size, align, up}
 use prog.Align.{up-ge}
 use Prim.Native.Nat.{max}
-use Rattle.p3_integers.specs.declared.packed_value.Inhabited
-use Rattle.p3_vectorized.specs.contracts.packing_vector.PackingVector.{the_row}
 
 -- an item is no larger than an array of one or more
 pub array_holds : (τ ν : Ty) → 0 < number_of w64 ν → number_of w64 ν < 2 ^ 64 → size τ ≤ size (array_at τ ν)
@@ -38,10 +36,3 @@ pub around_array_holds : (F N : RattleType) → 0 < value_of N → value_of N < 
 around_array_holds F N h b =
     let t = array_at (layout F) (layout N) in
     omega (arith, array_holds (layout F) (layout N) h b, up-ge (max (align t) 1) (up (align t) 0 + size t))
-
--- so a value is no larger than an array of lanes, which has a marker beside them
-pub field_array_holds : (S T F N : RattleType) (g : Inhabited.Ghosts F.Denot) → 0 < value_of N → value_of N < 2 ^ 64 → type_size F ≤ type_size (the_row S T F N g)
-field_array_holds S T F N g h b =
-    let t = array_at (layout F) (layout N) in
-    let e = up (align t) 0 + size t in
-    omega (arith, array_holds (layout F) (layout N) h b, up-ge 1 e, up-ge (max (align t) 1) (up 1 e + 0))
