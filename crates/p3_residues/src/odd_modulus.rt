@@ -3,9 +3,9 @@ ghost use Rattle.std.specs.Prelude.{◌≡◌, ◌<◌, ◌≤◌, ◌+◌, ◌*
 ghost use Rattle.p3_residues.specs.Inverses.{IsInverseModulo};
 
 /// By shifts, modulo an odd number: the trailing zeros of one number are dropped, and the lesser
-/// number is subtracted from the greater, until one of them is one or zero. Each number, times two to
-/// the power of all shifts so far, is, up to its sign, its coefficient times the value. That power is
-/// divided out at the end.
+/// number is subtracted from the greater, until the lesser one is one or the difference is zero. Each
+/// number, times two to the power of all shifts so far, is, up to its sign, its coefficient times the
+/// value. That power is divided out at the end.
 #[inline]
 pub(crate) fn inverse_by_shifts(value: u64, modulus: u64) -> Option<u64>
     requires above { 1 < modulus }
