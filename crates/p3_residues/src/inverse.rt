@@ -6,6 +6,7 @@ use crate::odd_modulus::inverse_by_shifts;
 /// An inverse of the value modulo the modulus, below it, and `None` exactly where no number is
 /// one. By the extended Euclidean algorithm, with shifts where the modulus is odd and with
 /// divisions where it is even.
+#[inline]
 pub fn inverse_modulo(value: u64, modulus: u64) -> Option<u64>
     requires { 1 < modulus }
     ensures { MatchOption result ((y : ℕ) → ¬ IsInverseModulo modulus value y)

@@ -3,8 +3,10 @@ ghost use Rattle.std.specs.Prelude.{◌≡◌, ◌<◌, ◌≤◌, ◌+◌, ◌*
 ghost use Rattle.p3_residues.specs.Inverses.{IsInverseModulo};
 
 /// By shifts, modulo an odd number: the trailing zeros of one number are dropped, and the lesser
-/// number is subtracted from the greater. Each number, times two to the power of all shifts so far,
-/// is, up to its sign, its coefficient times the value. That power is divided out at the end.
+/// number is subtracted from the greater, until the lesser one is one or the difference is zero. Each
+/// number, times two to the power of all shifts so far, is, up to its sign, its coefficient times the
+/// value. That power is divided out at the end.
+#[inline]
 pub(crate) fn inverse_by_shifts(value: u64, modulus: u64) -> Option<u64>
     requires above { 1 < modulus }
     requires odd { modulus % 2 ≡ 1 }
@@ -17,7 +19,7 @@ pub(crate) fn inverse_by_shifts(value: u64, modulus: u64) -> Option<u64>
     let mut coefficient = 1u64;
     let mut negative = false;
     let mut shifts = 0u32;
-    while rest > 0 {
+    while rest > 0 && last > 1 {
         let zeros = rest.trailing_zeros();
         let shifted = rest >> zeros;
         let scaled = last_coefficient << zeros;
@@ -41,6 +43,7 @@ pub(crate) fn inverse_by_shifts(value: u64, modulus: u64) -> Option<u64>
 }
 
 /// The quotient of a residue by a power of two, modulo an odd number.
+#[inline]
 fn divided_by_power(residue: u64, modulus: u64, exponent: u32) -> u64
     requires below { residue ≤ modulus }
     requires odd { modulus % 2 ≡ 1 }
@@ -58,7 +61,8 @@ fn divided_by_power(residue: u64, modulus: u64, exponent: u32) -> u64
 }
 
 /// The quotient of a residue by a power of two of at most 32 digits. The negated inverse of the
-/// modulus gives a multiple of it whose sum with the residue ends in as many zeros.
+/// modulus gives a multiple of it whose sum with the residue ends in as many zeros. Where the modulus has
+/// 32 digits, the sum fits 64.
 #[inline]
 fn divided_by_short_power(residue: u64, modulus: u64, inverse: u64, exponent: u32) -> u64
     requires below { residue ≤ modulus }
@@ -68,6 +72,9 @@ fn divided_by_short_power(residue: u64, modulus: u64, inverse: u64, exponent: u3
     ensures value { (result * 2 ^ exponent) % modulus ≡ residue % modulus }
 {
     let factor = residue.wrapping_mul(inverse) % (1u64 << exponent);
+    if modulus <= 0xffff_ffff {
+        return residue + factor * modulus >> exponent;
+    }
     let sum = residue as u128 + factor as u128 * modulus as u128;
     (sum >> exponent) as u64
 }

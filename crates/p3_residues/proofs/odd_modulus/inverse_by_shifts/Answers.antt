@@ -7,7 +7,7 @@ use Rattle.std.proofs.lemmas.Nat.Gcd.{dvd_refl, dvd-zero}
 use Rattle.p3_residues.proofs.Euclid.{no_inverse}
 use Rattle.p3_residues.proofs.PowerQuotients.{trailing_zeros_dropped}
 use Rattle.p3_residues.proofs.Shifts.{scaled_is, sum_small, lesser, greater, turned_is, kept_is, answer_of_true, answer_of_false}
-use Rattle.p3_residues.proofs.odd_modulus.inverse_by_shifts.Goals.{then-less, else-less}
+use Rattle.p3_residues.proofs.odd_modulus.inverse_by_shifts.Goals.{then-less, else-less, then-loop-rest-test+else-last-gt1, else-loop-rest-test}
 use Rattle.p3_residues.proofs.odd_modulus.inverse_by_shifts.Goals as goal
 
 pub overflow_add-coefficient : goal.overflow_add-coefficient
@@ -47,7 +47,11 @@ loop-rest-preserved c =
 pub returns-then-last-ne1 : goal.returns-then-last-ne1
 returns-then-last-ne1 c =
     let l = c.loop-rest in
-    let none : l.rest ≡ 0 = omega (arith, c.loop-rest-test.false) in
+    let none : l.rest ≡ 0 =
+    elim c.loop-rest-test.branch [
+      | else-loop-rest-test w ↦ omega (arith, w.loop-rest-test.false)
+      | then-loop-rest-test+else-last-gt1 w ↦ absurd (c.if-last-ne1.true (omega (arith, l.invariant.positive, w.if-last-gt1.false)))
+    ] in
     let divides : l.last ∣ l.rest = subst (λ x. l.last ∣ x) (sym none) (dvd-zero l.last) in
     let common = l.invariant.divisors l.last (dvd_refl l.last) divides in
     no_inverse c.args.modulus c.args.value l.last common.0 common.1 c.if-last-ne1.true
