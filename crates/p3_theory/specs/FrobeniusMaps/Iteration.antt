@@ -2,7 +2,8 @@
 use Rattle.std.specs.Prelude.{◌≡◌, ◌<◌, ◌+◌, ◌-◌, ◌*◌, ◌/◌, ◌%◌, ℕ, refl}
 use Rattle.std.proofs.Common.{ap, arith, ◌∙◌, sym, zero, suc}
 use Rattle.std.proofs.Math.Nat.{mod-add-div}
-use Rattle.p3_theory.specs.Rings.Ring.{Ops, RingLaws}
+use Rattle.p3_theory.specs.Rings.Ring.{Ops, RingLaws, ring_of}
+use Rattle.p3_theory.specs.Rings.Basics.{one-mul}
 use Rattle.p3_theory.specs.FrobeniusMaps.Frobenius.{iterate}
 
 -- b times s b times .. , n factors in all
@@ -33,7 +34,7 @@ module _ {B : Type 0} (s : B → B) where
 module _ {B : Type 0} {O : Ops B} (l : RingLaws O) (s : B → B) where
   -- a product that takes one image of the orbit more at each step
   pub orbit_first : (p z : B) → p ≡ O.one → O.mul p z ≡ z
-  orbit_first p z h = ap (λ q. O.mul q z) h ∙ l.mul_comm O.one z ∙ l.mul_one z
+  orbit_first p z h = ap (λ q. O.mul q z) h ∙ one-mul (ring_of l) z
 
   pub orbit_step : (D i : ℕ) → i < D → (p y p' y' t : B) → y' ≡ s y → p' ≡ O.mul p y' → O.mul p (orbit O s (D - i) (s y)) ≡ t
       → O.mul p' (orbit O s (D - (i + 1)) (s y')) ≡ t

@@ -3,7 +3,7 @@ use Rattle.std.specs.Prelude.{◌≡◌, ◌≢◌, ◌<◌, ◌≤◌, ◌+◌,
 use Rattle.std.proofs.Common.{ap, arith, ◌∙◌, sym, inl, inr, [], ◌∷◌, lit<, pow-add}
 use Rattle.std.proofs.Math.Nat.{pow-suc, mul_comm}
 use Rattle.p3_theory.specs.Rings.Ring.{Ops, RingLaws, Ring, ring_of}
-use Rattle.p3_theory.specs.Rings.Basics.{cancel}
+use Rattle.p3_theory.specs.Rings.Basics.{neg-neg, neg_unique}
 use Rattle.p3_theory.specs.Polynomials.Coefficients.{length-tabulate}
 use Rattle.p3_theory.specs.Lists.ByIndex.{get-tabulate}
 use Rattle.p3_theory.specs.Rings.Powers.{power}
@@ -95,8 +95,8 @@ module _ {A : Type 0} {O : Ops A} (l : RingLaws O) {s : ℕ} {g : ℕ → A} (t 
       by_laws O l (y ∷ w ∷ []) (search reads depth 99 fits 99999) (search reads depth 99 fits 99999) yes in
       let gone = factored ∙ ap (λ z. O.add z (O.neg (O.mul w w))) e ∙ l.add_neg (O.mul w w) in
       elim (domain (O.add y (O.neg w)) (O.add y w) gone) [
-        | inl p ↦ inl (cancel R (O.neg w) y w (l.add_comm (O.neg w) y ∙ p ∙ sym (l.add_neg w) ∙ l.add_comm w (O.neg w)))
-        | inr p ↦ inr (cancel R w y (O.neg w) (l.add_comm w y ∙ p ∙ sym (l.add_neg w)))
+        | inl p ↦ inl (neg_unique R (O.neg w) y p ∙ neg-neg R w)
+        | inr p ↦ inr (neg_unique R w y p)
       ]
 
   -- where no product but of zeros is zero, the roots of x^(2^k) = 1 are the powers of the generator
