@@ -57,7 +57,7 @@ module _ {A : Type 0} (R : Ring A) where
 
   -- (c - 1) * a = 0 where c * a = a
   cancels : (c a : A) → c ⊗ a ≡ a → Invertible R.ops (c ⊕ neg 𝟏) → a ≡ 𝟎
-  cancels c a e inv = sym (Basics.one-mul R a) ∙ ap (λ w. w ⊗ a) (sym inv.1 ∙ R.mul_comm _ inv.0) ∙ R.mul_assoc inv.0 _ a
+  cancels c a e inv = sym (Basics.mul_from_one R _ a (R.mul_comm inv.0 _ ∙ inv.1)) ∙ R.mul_assoc inv.0 _ a
       ∙ ap (λ w. inv.0 ⊗ w) (Basics.add-mul R c (neg 𝟏) a ∙ ap (λ w. w ⊕ neg 𝟏 ⊗ a) (e ∙ sym (Basics.one-mul R a))
       ∙ sym (Basics.add-mul R 𝟏 (neg 𝟏) a) ∙ ap (λ w. w ⊗ a) (R.add_neg 𝟏) ∙ Basics.zero-mul R a)
       ∙ Basics.mul-zero R inv.0
@@ -121,7 +121,7 @@ module _ {A : Type 0} (R : Ring A) (d : ℕ) (w c : A) (root : power R.ops c (su
     mul = Sg.sigma_mul R d f m image image_root;
     embedded = λ x. X.by_coefficients R d f m _ _ (sigma_coefficients (emb R d f m x) ∙ fun_ext (constant x));
     order = λ b. X.by_coefficients R d f m _ _ (fun_ext (λ k. iterate_coefficients (suc d) b k
-        ∙ ap (λ v. v ⊗ at R.ops b.0 k) (power-root R c (suc d) root k) ∙ Basics.one-mul R _));
+        ∙ Basics.mul_from_one R _ _ (power-root R c (suc d) root k)));
     fixed = λ b e. (at R.ops b.0 zero, X.by_coefficients R d f m _ _ (fun_ext (each_coefficient b e) ∙ sym (X.at-embed R d f m (at R.ops b.0 zero))));
   }
     where

@@ -4,7 +4,7 @@ use Rattle.p3_theory.specs.Rings.Ring.{Ring}
 use Rattle.p3_theory.specs.Polynomials.Polynomial.{at}
 use Rattle.p3_theory.specs.Rings.Powers.{power, scale_powers}
 use Rattle.p3_theory.specs.FrobeniusMaps.Frobenius.{iterate}
-use Rattle.p3_theory.specs.Rings.Basics.{one-mul}
+use Rattle.p3_theory.specs.Rings.Basics.{mul_from_one}
 use Rattle.p3_theory.specs.Rings.PowerProducts.{power-mul, power_of_one}
 use Rattle.p3_theory.specs.Polynomials.Coefficients.{length-tabulate}
 use Rattle.p3_theory.specs.Lists.ByIndex.{get-tabulate, to-tabulate}
@@ -25,7 +25,7 @@ module _ {A : Type 0} (R : Ring A) where
 
     scale-one : (a : List A) → length a ≡ D → scale_powers R.ops D R.one a ≡ a
     scale-one a l = sym (to-tabulate R.zero D (λ k. R.mul (power R.ops R.one k) (at R.ops a k)) a l
-        (λ k h. sym (ap (λ z. R.mul z (at R.ops a k)) (power_of_one R.laws k) ∙ one-mul R (at R.ops a k))))
+        (λ k h. sym (mul_from_one R _ (at R.ops a k) (power_of_one R.laws k))))
 
     scale-product : (x y : A) (a : List A) → scale_powers R.ops D (R.mul x y) a ≡ scale_powers R.ops D y (scale_powers R.ops D x a)
     scale-product x y a = to-tabulate R.zero D (λ k. R.mul (power R.ops y k) (at R.ops (scale_powers R.ops D x a) k))

@@ -25,7 +25,7 @@ module _ {A : Type 0} (R : Ring A) where
 
   pub neg-back : (h f t : A) → neg h ⊗ f ⊕ (h ⊗ f ⊕ t) ≡ t
   neg-back h f t = add_cong-mul (neg h) h f t ∙ ap (λ w. w ⊗ f ⊕ t) (Basics.add_neg_left R h)
-      ∙ ap (λ w. w ⊕ t) (Basics.zero-mul R f) ∙ Basics.zero-add R t
+      ∙ Basics.add_from_zero R _ t (Basics.zero-mul R f)
 
 module _ {A : Type 0} (R : Ring A) where
   open R use {zero as 𝟎, one as 𝟏, add as ◌⊕◌, mul as ◌⊗◌, neg}
@@ -41,7 +41,7 @@ module _ {A : Type 0} (R : Ring A) where
     pub is : s ≡ add_sequences R (convolve R.ops (at R.ops by) f) t
 
   pub cong_refl : (f s : ℕ → A) → Cong f s s
-  cong_refl f s = record { by = []; is = sym (ap (λ w. add_sequences R w s) (Sequences.zero_sequence-mul R f) ∙ Basics.zero-add S s) }
+  cong_refl f s = record { by = []; is = sym (Basics.add_from_zero S _ s (Sequences.zero_sequence-mul R f)) }
 
   pub cong_trans : (f s t u : ℕ → A) → Cong f s t → Cong f t u → Cong f s u
   cong_trans f s t u p q = record {
@@ -79,7 +79,7 @@ module _ {A : Type 0} (R : Ring A) where
   no_multiple d f one ends (x ∷ h) e = fun_ext (all (no_multiple d f one ends h low))
     where
       low : Ends R (suc d) (convolve R.ops (at R.ops h) f)
-      low k le = sym (Basics.zero-add R _) ∙ ap (λ w. w ⊕ convolve R.ops (at R.ops h) f k) (sym (Basics.mul-zero R x) ∙ ap (λ w. x ⊗ w) (sym (ends (suc k) (omega arith))))
+      low k le = sym (Basics.add_from_zero R _ _ (ap (λ w. x ⊗ w) (ends (suc k) (omega arith)) ∙ Basics.mul-zero R x))
           ∙ e (suc k) (omega arith)
 
       first : at R.ops h ≡ zero_sequence R → x ≡ 𝟎
@@ -95,7 +95,7 @@ module _ {A : Type 0} (R : Ring A) where
   pub cong_small : (d : ℕ) (f s t : ℕ → A) → f (suc d) ≡ 𝟏 → Ends R (suc (suc d)) f → Ends R (suc d) s → Ends R (suc d) t
       → Cong f s t → s ≡ t
   cong_small d f s t one ends hs ht p =
-      p.is ∙ ap (λ w. add_sequences R (convolve R.ops w f) t) (no_multiple d f one ends p.by small) ∙ ap (λ w. add_sequences R w t) (Sequences.zero_sequence-mul R f) ∙ Basics.zero-add S t
+      p.is ∙ ap (λ w. add_sequences R (convolve R.ops w f) t) (no_multiple d f one ends p.by small) ∙ Basics.add_from_zero S _ t (Sequences.zero_sequence-mul R f)
     where
       small : Ends R (suc d) (convolve R.ops (at R.ops p.by) f)
       small k le = sym (R.add_zero _) ∙ ap (λ w. convolve R.ops (at R.ops p.by) f k ⊕ w) (sym (ht k le))

@@ -30,8 +30,7 @@ module _ {A : Type 0} (R : Ring A) where
   monomial-mul zero s zero = Basics.one-mul R (s zero)
   monomial-mul zero s (suc k) = ap₂ (λ x y. x ⊕ y) (Basics.one-mul R (s (suc k))) (ap (λ t. t k) (Sequences.zero_sequence-mul R s)) ∙ R.add_zero _
   monomial-mul (suc d) s zero = Basics.zero-mul R (s zero)
-  monomial-mul (suc d) s (suc k) = ap (λ x. x ⊕ convolve R.ops (at R.ops (monomial R.ops d)) s k) (Basics.zero-mul R (s (suc k)))
-      ∙ Basics.zero-add R _ ∙ monomial-mul d s k
+  monomial-mul (suc d) s (suc k) = Basics.add_from_zero R _ _ (Basics.zero-mul R (s (suc k))) ∙ monomial-mul d s k
 
   -- (X^D - w) * s
   binomial-mul : (d : ℕ) (w : A) (s : ℕ → A) (k : ℕ) → convolve R.ops s (at R.ops (binomial R.ops (suc d) w)) k ≡ neg w ⊗ s k ⊕ up (suc d) s k

@@ -6,7 +6,7 @@ use Rattle.std.proofs.Math.ListN.{set, length-set}
 use Rattle.std.proofs.lemmas.List.{get_or-set_same, get_or-set_other, get_or-replicate, length-replicate, ext_get_or}
 use borrow.Author.Count.{below_more}
 use Rattle.p3_theory.specs.Rings.Ring.{Ops, Ring}
-use Rattle.p3_theory.specs.Rings.Basics.{zero-add}
+use Rattle.p3_theory.specs.Rings.Basics.{add_from_zero}
 use Rattle.p3_theory.specs.Polynomials.Polynomial as P
 use Rattle.p3_theory.specs.Polynomials.Polynomial.{at}
 use Rattle.p3_theory.specs.Polynomials.Coefficients as F
@@ -73,7 +73,7 @@ module _ {A : Type 0} where
 
     added_to_zeros : (D : ℕ) (old out p : List A) → old ≡ replicate D R.zero → length p ≡ D → out ≡ P.quotient_add R.ops D old p → out ≡ p
     added_to_zeros D old out p z l e = e ∙ ap (λ o. P.quotient_add R.ops D o p) z
-        ∙ sym (to-tabulate R.zero D _ p l (λ k h. sym (ap (λ v. R.add v (get_or p k R.zero)) (get_or-replicate D k R.zero R.zero h) ∙ zero-add R _)))
+        ∙ sym (to-tabulate R.zero D _ p l (λ k h. sym (add_from_zero R _ _ (get_or-replicate D k R.zero R.zero h))))
 
     pub from_zeros : (D : ℕ) (f a b old out : List A) → old ≡ replicate D R.zero
         → (D ≡ 2 → out ≡ P.quotient_mul R.ops D f a b) → (D ≢ 2 → out ≡ P.quotient_add R.ops D old (P.quotient_mul R.ops D f a b)) → out ≡ P.quotient_mul R.ops D f a b

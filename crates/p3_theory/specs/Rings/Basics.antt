@@ -10,6 +10,9 @@ module _ {A : Type 0} (R : Ring A) where
   pub zero-add : (x : A) → 𝟎 ⊕ x ≡ x
   zero-add x = R.add_comm 𝟎 x ∙ R.add_zero x
 
+  pub add_from_zero : (s x : A) → s ≡ 𝟎 → s ⊕ x ≡ x
+  add_from_zero s x e = ap (λ w. w ⊕ x) e ∙ zero-add x
+
   pub add_left_comm : (x y z : A) → x ⊕ (y ⊕ z) ≡ y ⊕ (x ⊕ z)
   add_left_comm x y z = sym (R.add_assoc x y z) ∙ ap (λ w. w ⊕ z) (R.add_comm x y) ∙ R.add_assoc y x z
 
@@ -24,10 +27,13 @@ module _ {A : Type 0} (R : Ring A) where
   cancel x y z e = sym (back y) ∙ ap (λ w. neg x ⊕ w) e ∙ back z
     where
       back : (w : A) → neg x ⊕ (x ⊕ w) ≡ w
-      back w = sym (R.add_assoc (neg x) x w) ∙ ap (λ v. v ⊕ w) (add_neg_left x) ∙ zero-add w
+      back w = sym (R.add_assoc (neg x) x w) ∙ add_from_zero (neg x ⊕ x) w (add_neg_left x)
 
   pub one-mul : (x : A) → 𝟏 ⊗ x ≡ x
   one-mul x = R.mul_comm 𝟏 x ∙ R.mul_one x
+
+  pub mul_from_one : (p x : A) → p ≡ 𝟏 → p ⊗ x ≡ x
+  mul_from_one p x e = ap (λ w. w ⊗ x) e ∙ one-mul x
 
   pub mul_left_comm : (x y z : A) → x ⊗ (y ⊗ z) ≡ y ⊗ (x ⊗ z)
   mul_left_comm x y z = sym (R.mul_assoc x y z) ∙ ap (λ w. w ⊗ z) (R.mul_comm x y) ∙ R.mul_assoc y x z

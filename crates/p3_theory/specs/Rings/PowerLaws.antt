@@ -1,12 +1,11 @@
 -- What the laws of a ring give of powers.
 use Rattle.std.proofs.Common.{◌≡◌, ℕ, ◌+◌, ◌/◌, ◌%◌, ◌≢◌, zero, suc, refl, sym, ap, ◌∙◌, arith}
-use Rattle.p3_theory.specs.Rings.Ring.{Ops, RingLaws, ring_of}
-use Rattle.p3_theory.specs.Rings.Basics.{one-mul}
+use Rattle.p3_theory.specs.Rings.Ring.{Ops, RingLaws}
 use Rattle.p3_theory.specs.Rings.Powers.{power}
 
 module _ {A : Type 0} {O : Ops A} (l : RingLaws O) where
   pub power-add : (x : A) (m n : ℕ) → power O x (m + n) ≡ O.mul (power O x m) (power O x n)
-  power-add x zero n = (let e : zero + n ≡ n = omega arith in ap (power O x) e) ∙ sym (one-mul (ring_of l) _)
+  power-add x zero n = (let e : zero + n ≡ n = omega arith in ap (power O x) e) ∙ sym (l.mul_comm O.one _ ∙ l.mul_one _)
   power-add x (suc m) n = (let e : suc m + n ≡ suc (m + n) = omega arith in ap (power O x) e) ∙ ap (O.mul x) (power-add x m n) ∙ sym (l.mul_assoc _ _ _)
 
   pub power-one : (x : A) → power O x 1 ≡ x
