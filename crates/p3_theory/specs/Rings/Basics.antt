@@ -76,3 +76,6 @@ module _ {A : Type 0} (R : Ring A) where
 
   pub neg-mul : (x y : A) → neg x ⊗ y ≡ neg (x ⊗ y)
   neg-mul x y = R.mul_comm (neg x) y ∙ mul-neg y x ∙ ap neg (R.mul_comm y x)
+
+  pub neg_one_squared : neg 𝟏 ⊗ neg 𝟏 ≡ 𝟏
+  neg_one_squared = mul-neg (neg 𝟏) 𝟏 ∙ ap neg (R.mul_one (neg 𝟏)) ∙ neg-neg 𝟏
