@@ -3,8 +3,9 @@ use Rattle.std.proofs.Common.{◌≡◌, ◌≢◌, ◌<◌, ◌≤◌, ◌+◌,
 use Rattle.std.proofs.lemmas.Bool.{cases_eq}
 use Rattle.std.proofs.lemmas.List.{get_or_append_left, get_or-append_right}
 use Rattle.p3_theory.specs.Rings.Ring.{Ops, Ring, Invertible}
+use Rattle.p3_theory.specs.Rings.Basics.{one-mul}
 use Rattle.p3_theory.specs.Rings.Operators.{product_list}
-use Rattle.p3_theory.specs.RingSolver.Reify.{by_laws, reads, yes}
+use Rattle.p3_theory.specs.Rings.ProductLists.{invertible-mul, product-invertible}
 use Rattle.example_shares.specs.Secrets.{AreApart}
 use Rattle.example_shares.specs.Lagrange.{differences, reduced, AreWeights}
 
@@ -36,32 +37,21 @@ module _ {A : Type 0} (R : Ring A) where
   -- the differences of the points before an index, and those of the points after it
   pub two_parts : (a : A) (xs : List A) (i : ℕ) → i < length xs → D a (take i xs) ⊗ D a (drop (suc i) xs) ≡ D a (others xs i)
   two_parts a [] i h = absurd (omega (arith, h))
-  two_parts a (x ∷ xs) zero h = R.mul_comm 𝟏 _ ∙ R.mul_one _
+  two_parts a (x ∷ xs) zero h = one-mul R _
   two_parts a (x ∷ xs) (suc i) h =
       R.mul_assoc (less x a) _ _ ∙ ap (λ z. less x a ⊗ z) (two_parts a xs i (omega (arith, h)))
 
-  -- the factors of a unit are units, and the product of units is one
+  -- the factors of a unit are units
   pub left_factor : (x y : A) → Unit (x ⊗ y) → Unit x
   left_factor x y u = (y ⊗ u.0, sym (R.mul_assoc x y u.0) ∙ u.1)
 
   pub right_factor : (x y : A) → Unit (x ⊗ y) → Unit y
   right_factor x y u = left_factor y x (subst Unit (R.mul_comm x y) u)
 
-  both_factors : (x y : A) → Unit x → Unit y → Unit (x ⊗ y)
-  both_factors x y p q = (p.0 ⊗ q.0, join p.0 q.0 ∙ ap₂ (λ u v. u ⊗ v) p.1 q.1 ∙ R.mul_one 𝟏)
-    where
-      join : (u v : A) → x ⊗ y ⊗ (u ⊗ v) ≡ (x ⊗ u) ⊗ (y ⊗ v)
-      join u v = by_laws R.ops R.laws (x ∷ y ∷ u ∷ v ∷ []) (search reads depth 99 fits 99999) (search reads depth 99 fits 99999) yes
-
   pub each_factor : (ds : List A) → Unit (product_list R.ops ds) → (d : A) (i : ℕ) → i < length ds → Unit (get_or ds i d)
   each_factor [] u d i h = absurd (omega (arith, h))
   each_factor (x ∷ ds) u d zero h = left_factor x (product_list R.ops ds) u
   each_factor (x ∷ ds) u d (suc i) h = each_factor ds (right_factor x (product_list R.ops ds) u) d i (omega (arith, h))
-
-  all_factors : (ds : List A) → ((d : A) (i : ℕ) → i < length ds → Unit (get_or ds i d)) → Unit (product_list R.ops ds)
-  all_factors [] each = (𝟏, R.mul_one 𝟏)
-  all_factors (x ∷ ds) each =
-      both_factors x (product_list R.ops ds) (each x 0 (omega arith)) (all_factors ds (λ d i h. each d (suc i) (omega (arith, h))))
 
   -- the same of the differences of points and a
   any_difference : (a d : A) (xs : List A) (j : ℕ) → j < length xs → Unit (D a xs) → Unit (less (get_or xs j d) a)
@@ -72,7 +62,7 @@ module _ {A : Type 0} (R : Ring A) where
   all_differences : (a d : A) (xs : List A) → ((j : ℕ) → j < length xs → Unit (less (get_or xs j d) a)) → Unit (D a xs)
   all_differences a d [] each = (𝟏, R.mul_one 𝟏)
   all_differences a d (x ∷ xs) each =
-      both_factors (less x a) (D a xs) (each 0 (omega arith)) (all_differences a d xs (λ j h. each (suc j) (omega (arith, h))))
+      invertible-mul R.laws (less x a) (D a xs) (each 0 (omega arith)) (all_differences a d xs (λ j h. each (suc j) (omega (arith, h))))
 
   other_difference : (a d : A) (xs : List A) (i j : ℕ) → i ≢ j → j < length xs → Unit (D a (others xs i)) → Unit (less (get_or xs j d) a)
   other_difference a d [] i j n h u = absurd (omega (arith, h))
@@ -88,7 +78,7 @@ module _ {A : Type 0} (R : Ring A) where
       all_differences a d xs (λ j h. let apart : 0 ≢ suc j = omega arith in each (suc j) apart (omega (arith, h)))
   other_differences a d (x ∷ xs) (suc i) each =
       let first : suc i ≢ 0 = omega arith in
-      both_factors (less x a) (D a (others xs i)) (each 0 first (omega arith))
+      invertible-mul R.laws (less x a) (D a (others xs i)) (each 0 first (omega arith))
       (other_differences a d xs i (λ j n h. let apart : suc i ≢ suc j = λ e. n (omega (arith, e)) in each (suc j) apart (omega (arith, h))))
 
   -- the product of all denominators has an inverse exactly where the points are apart
@@ -99,7 +89,7 @@ module _ {A : Type 0} (R : Ring A) where
       other_difference (get_or xs i d) d xs i j other hj (subst Unit (are.products d i hi) (each_factor ds u d i at))
 
   pub invertible : (xs ds : List A) → AreDenominators R.ops xs ds → AreApart R.ops xs → Unit (product_list R.ops ds)
-  invertible xs ds are known = all_factors ds (λ d i h.
+  invertible xs ds are known = product-invertible R.laws ds (λ d i h.
       let at : i < length xs = omega (arith, h, are.sized) in
       subst Unit (sym (are.products d i at))
       (other_differences (get_or xs i d) d xs i (λ j n hj. known d j i hj at (λ e. n (sym e)))))

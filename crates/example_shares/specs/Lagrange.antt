@@ -2,6 +2,7 @@
 use Rattle.std.proofs.Common.{◌≡◌, ◌≤◌, suc, List, [], ◌∷◌, length, map, refl, sym, ap, ap₂, subst, ◌∙◌, arith}
 use mathlib.Core.Path.{fun_ext}
 use Rattle.p3_theory.specs.Rings.Ring.{Ops, Ring, subtract}
+use Rattle.p3_theory.specs.Rings.Basics.{mul_from_one}
 use Rattle.p3_theory.specs.Rings.Operators.{product_list}
 use Rattle.p3_theory.specs.Rings.Homomorphism.{identity}
 use Rattle.p3_theory.specs.Polynomials.Polynomial.{at}
@@ -117,7 +118,7 @@ module _ {A : Type 0} (R : Ring A) where
   undone u d t s h e = back t ∙ ap (λ z. u ⊗ z) e ∙ sym (back s)
     where
       back : (z : A) → z ≡ u ⊗ (d ⊗ z)
-      back z = sym (ap (λ v. v ⊗ z) h ∙ R.mul_comm 𝟏 z ∙ R.mul_one z) ∙ R.mul_assoc u d z
+      back z = sym (mul_from_one R _ z h) ∙ R.mul_assoc u d z
 
   -- the formula is one where all values are
   unity : (a : A) (xs : List A) (w : A) (ws : List A) → AreWeights R.ops (a ∷ xs) (w ∷ ws) → L (a ∷ xs) (map (λ t. 𝟏) (a ∷ xs)) (w ∷ ws) ≡ 𝟏

@@ -3,7 +3,7 @@ use Rattle.std.specs.Prelude.{◌≡◌, ℕ, List, [], ◌∷◌, map, get_or, 
 use Rattle.std.proofs.Common.{ap, ap₂, ◌∙◌, subst, sym}
 use Rattle.p3_theory.specs.Rings.Ring.{Ops, Hom, Ring}
 use Rattle.p3_theory.specs.Polynomials.Polynomial.{binomial, quotient_ops}
-use Rattle.p3_theory.specs.Polynomials.Coefficients.{neg-zero}
+use Rattle.p3_theory.specs.Rings.Basics.{neg-zero}
 use Rattle.p3_theory.specs.ResidueRings.Residues.{residues, IsResidues, residue_ops, of_keeps}
 use Rattle.p3_theory.specs.Rings.Homomorphism.{quotient-map}
 use Rattle.p3_theory.specs.FrobeniusMaps.TableEntries.{binomial-along}

@@ -24,17 +24,17 @@ module _ {A : Type 0} (R : Ring A) where
       → IsFrobeniusTable R.ops D f (binomial_image R.ops D w c)
   binomial_frobenius D h f w c e root apart = subst (λ g. IsFrobeniusTable R.ops D g (binomial_image R.ops D w c)) (sym e) (has D h w c root apart)
 
-  places : (D : ℕ) → 2 ≤ D → (w c : A) → power R.ops c D ≡ R.one → (a : List A) → length a ≡ D
+  scaled_coefficients : (D : ℕ) → 2 ≤ D → (w c : A) → power R.ops c D ≡ R.one → (a : List A) → length a ≡ D
       → scale_powers R.ops D c a ≡ frobenius_list R.ops D (P.binomial R.ops D w) (binomial_image R.ops D w c) a
-  places zero h w c root a l = absurd (omega arith)
-  places (suc d) h w c root a l = sym (T.turned_coefficients R d w c root (a, l))
+  scaled_coefficients zero h w c root a l = absurd (omega arith)
+  scaled_coefficients (suc d) h w c root a l = sym (T.turned_coefficients R d w c root (a, l))
 
   -- one factor for each index is the Frobenius map's sum
   pub scaled_is_frobenius : (D : ℕ) → 2 ≤ D → (f : List A) (w c : A) → f ≡ P.binomial R.ops D w → power R.ops c D ≡ R.one → (a : List A) → length a ≡ D
       → scale_powers R.ops D c a ≡ frobenius_list R.ops D f (binomial_image R.ops D w c) a
   scaled_is_frobenius D h f w c e root a l =
       let P' : List A → Type 0 = λ g. scale_powers R.ops D c a ≡ frobenius_list R.ops D g (binomial_image R.ops D w c) a in
-      subst P' (sym e) (places D h w c root a l)
+      subst P' (sym e) (scaled_coefficients D h w c root a l)
 
   -- one factor for each index too, where the map is taken n times
   pub scaled_is_repeated : (D : ℕ) → 2 ≤ D → (f : List A) (w c : A) → f ≡ P.binomial R.ops D w → power R.ops c D ≡ R.one → (n : ℕ) (a : List A) → length a ≡ D

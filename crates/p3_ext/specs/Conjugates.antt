@@ -1,7 +1,7 @@
 -- The Frobenius map of values, their norm, and which of them have an inverse.
 use Rattle.std.specs.Prelude.{◌≡◌, ◌↔◌, ◌≤◌, ◌-◌, ◌≢◌, ℕ, List, refl, get_or}
 use Rattle.std.proofs.Common.{ap, arith, ◌∙◌, sym, zero, suc, subst}
-use Rattle.p3_theory.specs.Rings.Ring.{Ops, Ring, RingLaws, Invertible}
+use Rattle.p3_theory.specs.Rings.Ring.{Ops, Ring, Invertible}
 use Rattle.p3_theory.specs.Polynomials.Polynomial as P
 use Rattle.p3_theory.specs.Polynomials.Polynomial.{IsMonic}
 use Rattle.p3_theory.specs.Polynomials.QuotientRing.{Ext, extension, Ext-path}
@@ -137,13 +137,6 @@ module _ {F S A : Type 0} {D : ℕ} (o : Ops A) (f phi : List A) where
 
   pub whole_turn : IsFrobeniusTable o D f phi → (x : ExtField F D S A) → iterate (frobenius_map o f phi) D x ≡ x
   whole_turn L x = same_value _ _ (iterate-value D x ∙ L.order x.value x.sized)
-
--- a value times an inverse of y, times y, is the value
-pub divided : {F S A : Type 0} {D : ℕ} (o : Ops A) (f : List A) → RingLaws {A = ExtField F D S A} (ext_ops o f) → (x y i r : ExtField F D S A)
-    → r ≡ (ext_ops o f).mul x i → (ext_ops o f).mul y i ≡ (ext_ops o f).one → (ext_ops o f).mul r y ≡ x
-divided {F = F} {S = S} {A = A} {D = D} o f l x y i r p q =
-    let M : ExtField F D S A → ExtField F D S A → ExtField F D S A = (ext_ops o f).mul in
-    ap (λ z. M z y) p ∙ l.mul_assoc x i y ∙ ap (M x) (l.mul_comm i y ∙ q) ∙ l.mul_one x
 
 -- an inverse as a list is one as a value, and where no list is one no value is
 module _ {F S A : Type 0} {D : ℕ} (o : Ops A) (f : List A) (x : ExtField F D S A) where

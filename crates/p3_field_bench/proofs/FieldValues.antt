@@ -6,7 +6,7 @@ use Rattle.std.proofs.Math.Bridge.{le_prop}
 use Rattle.std.proofs.lemmas.Bool.{eqb-true, ltb-true}
 use Rattle.p3_theory.specs.RingSolver.SolverSound.{and_true}
 use Rattle.p3_theory.specs.Rings.Ring.{Ops, RingLaws, ring_of}
-use Rattle.p3_theory.specs.Rings.Basics.{mul-zero}
+use Rattle.p3_theory.specs.Rings.Basics.{inverse_unique, mul-zero}
 use Rattle.p3_theory.specs.Rings.Powers.{power}
 use Rattle.p3_theory.specs.Rings.Homomorphism.{length-map, at-map}
 use Rattle.p3_theory.specs.ResidueRings.Residues.{residues, residue_ops, residue_laws, are_residues, IsResidues}
@@ -16,10 +16,6 @@ use Rattle.p3_calculator_fields.specs.Fields.{FieldSpec, ResiduesModulo, Polynom
 use Rattle.p3_calculator_fields.specs.Representation.{Represents}
 use Rattle.p3_calculator_fields.specs.Coefficients.{residues_represented, extension_represented, one_coefficient, all_coefficients}
 use Rattle.p3_field_bench.specs.RegisterValues.{HasValues}
-
-inverses_agree : {A : Type 0} {O : Ops A} → RingLaws O → (x y z : A) → O.mul x y ≡ O.one → O.mul x z ≡ O.one → y ≡ z
-inverses_agree {O = O} L x y z e f =
-    sym (L.mul_one y) ∙ ap (O.mul y) (sym f) ∙ sym (L.mul_assoc y x z) ∙ ap (λ w. O.mul w z) (L.mul_comm y x ∙ e) ∙ L.mul_comm O.one z ∙ L.mul_one z
 
 -- a field has them where a ring's values stand for its coefficient lists
 represented : {A : Type 0} (s : FieldSpec) (O : Ops A) (c : A → List ℕ) → Represents s O c → RingLaws O → HasValues s
@@ -37,7 +33,7 @@ represented s O c R L = record {
       let d = R.every z j.0 in
       let p : O.mul a.0 b.0 ≡ O.one = R.same _ _ (R.keeps.mul a.0 b.0 ∙ ap₂ (ops s).mul a.1 b.1 ∙ i.1 ∙ sym R.keeps.one) in
       let q : O.mul a.0 d.0 ≡ O.one = R.same _ _ (R.keeps.mul a.0 d.0 ∙ ap₂ (ops s).mul a.1 d.1 ∙ j.1 ∙ sym R.keeps.one) in
-      sym b.1 ∙ ap c (inverses_agree L a.0 b.0 d.0 p q) ∙ d.1;
+      sym b.1 ∙ ap c (inverse_unique (ring_of L) a.0 b.0 d.0 p q) ∙ d.1;
 }
 
 module _ (n : ℕ) (h : 1 < n) where

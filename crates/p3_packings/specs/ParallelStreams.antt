@@ -1,5 +1,5 @@
 -- Streams side by side: the rows that a call makes are the streams of the columns.
-use Rattle.std.specs.Prelude.{slice_get, slice_index, slice_index_or, get_or}
+use Rattle.std.specs.Prelude.{slice_get, slice_index, slice_index_or}
 use Rattle.std.specs.List.{flat_map, cons_option}
 use Rattle.std.proofs.Common.{◌≡◌, ◌<◌, ◌≤◌, ◌+◌, ◌-◌, ◌*◌, ℕ, zero, suc, List, [], ◌∷◌, ◌++◌, length, take, drop, map, replicate, Option, Some, None, refl, ap, ap₂, sym, subst, ◌∙◌, arith, length-append}
 use Rattle.std.proofs.lemmas.List.{length-map}
@@ -11,9 +11,6 @@ use Rattle.p3_theory.specs.Rings.Homomorphism.{map-tabulate}
 use Rattle.p3_spaces.specs.Streams.{column, AllOfLength, AreParallel, row_bytes, row_words, byte_stream, word_stream, little_endian, groups, group, group_count}
 use Rattle.std.proofs.lemmas.List.{drop_all, length-replicate}
 use Rattle.std.proofs.lemmas.Option.{get_or_from_slice_get}
-use Rattle.std.proofs.lemmas.List.{get_or-set_same, get_or-set_other}
-use Rattle.std.proofs.Math.ListN.{set}
-use borrow.Author.Count.{below_more}
 use mathlib.Core.Path.{fun_ext}
 
 module _ {A : Type 0} where
@@ -213,11 +210,3 @@ map-by_indices f [] [] l h = refl
 map-by_indices f [] (y ∷ ys) l h = absurd (omega (arith, l))
 map-by_indices f (x ∷ xs) [] l h = absurd (omega (arith, l))
 map-by_indices f (x ∷ xs) (y ∷ ys) l h = ap₂ (λ z zs. z ∷ zs) (h 0 x (omega arith)) (map-by_indices f xs ys (omega (arith, l)) (λ k d b. h (suc k) d (omega arith)))
-
--- one more entry, written at its index
-pub wrote_entry : {A : Type 0} (d : A) (s : ℕ → A) (i : ℕ) (ws : List A) (v : A) → i < length ws → ((k : ℕ) → k < i → get_or ws k d ≡ s k) → v ≡ s i
-    → (k : ℕ) → k < i + 1 → get_or (set ws i v) k d ≡ s k
-wrote_entry d s i ws v b h e =
-    below_more (λ k. get_or (set ws i v) k d ≡ s k) i
-    (λ k w. get_or-set_other ws i k v d (omega arith) ∙ h k w)
-    (get_or-set_same ws i v d (omega arith) ∙ e)

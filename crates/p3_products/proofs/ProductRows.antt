@@ -8,7 +8,7 @@ use Rattle.p3_theory.specs.Lists.ByIndex.{get-tabulate}
 use Rattle.p3_theory.specs.Polynomials.BaseProduct.{scaled}
 use Rattle.p3_theory.specs.Polynomials.Coefficients.{length-tabulate}
 use Rattle.p3_theory.specs.Polynomials.ConvolutionSums.{first_sum, first-sum}
-use Rattle.p3_theory.specs.Rings.Basics.{zero-mul}
+use Rattle.p3_theory.specs.Rings.Basics.{add-mul, zero-mul}
 use Rattle.p3_theory.specs.Products.ProductCoefficients.{product_coefficient}
 
 module _ {A : Type 0} (o : Ops A) where
@@ -70,7 +70,7 @@ module _ {A : Type 0} (o : Ops A) where
     first_sum-times : (n : ℕ) (s : ℕ → A) (w : A) → first_sum o.zero o.add n (λ i. o.mul (s i) w) ≡ o.mul (first_sum o.zero o.add n s) w
     first_sum-times zero s w = sym (zero-mul (ring_of l) w)
     first_sum-times (suc n) s w = ap (λ v. o.add v (o.mul (s n) w)) (first_sum-times n s w)
-        ∙ ap₂ o.add (l.mul_comm _ w) (l.mul_comm (s n) w) ∙ sym (l.mul_add w _ (s n)) ∙ l.mul_comm w _
+        ∙ sym (add-mul (ring_of l) _ (s n) w)
 
     module _ (D : ℕ) (w : A) (a b : List A) (k : ℕ) (row : List A) (h : k < D) (la : length a ≡ D) (r : IsRow D w b (k + 1) row) where
       abbrev left : ℕ → A

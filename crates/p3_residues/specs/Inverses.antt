@@ -4,7 +4,8 @@ use Rattle.std.specs.Ordering.{on}
 use Rattle.std.proofs.Common.{ap, sym, arith, ◌∙◌}
 use Rattle.std.proofs.Math.Nat.{mod-eq_of_lt}
 use Rattle.std.proofs.lemmas.Bool.Decides.{Decides-eqb}
-use Rattle.p3_theory.specs.Rings.Ring.{IsInverse}
+use Rattle.p3_theory.specs.Rings.Ring.{IsInverse, ring_of}
+use Rattle.p3_theory.specs.Rings.Basics.{quotient_exact}
 use Rattle.p3_theory.specs.ResidueRings.Residues.{IsResidues, residue_ops, is_of, same_canon, residue_laws}
 
 -- y is an inverse of x modulo n
@@ -22,10 +23,7 @@ module _ {A : Type 0} {n : ℕ} {canon : A → ℕ} {of : ℕ → A} (is : IsRes
   -- a product with an inverse of the divisor, times the divisor, is what was divided
   pub divided : (x y z r : A) → IsInverse (residue_ops n canon of) y z → canon r ≡ (canon x * canon z) % n
       → (residue_ops n canon of).mul r y ≡ x
-  divided x y z r h e =
-      let l = residue_laws is in
-      ap (λ v. (residue_ops n canon of).mul v y) (is_of is r (canon x * canon z) e) ∙ l.mul_assoc x z y
-      ∙ ap ((residue_ops n canon of).mul x) (l.mul_comm z y ∙ h) ∙ l.mul_one x
+  divided x y z r h e = quotient_exact (ring_of (residue_laws is)) x y z r h (is_of is r (canon x * canon z) e)
 
   -- the order is above one
   pub zero_is_not_one : of 0 ≢ of 1

@@ -200,17 +200,17 @@ module _ {S A : Type 0} (steps : S → Option A → S → Type 0) where
   drop-replicate (suc k) zero p = let e : 0 ≡ 0 - suc k = omega arith in drop-nil (suc k) ∙ ap (λ m. replicate m p) e
   drop-replicate (suc k) (suc n) p = let e : n - k ≡ suc n - suc k = omega arith in drop-replicate k n p ∙ ap (λ m. replicate m p) e
 
-  is_padded : (n k : ℕ) (p : A) (xs places : List A) → k ≢ 0 → length xs ≡ k → places ≡ xs ++ drop k (replicate n p) → Some places ≡ group_of n p xs
-  is_padded n k p [] places z l e = absurd (z (sym l))
-  is_padded n k p (x ∷ xs) places z l e = ap Some (e ∙ ap (λ ys. (x ∷ xs) ++ ys) (drop-replicate k n p ∙ ap (λ m. replicate (n - m) p) (sym l)))
+  is_padded : (n k : ℕ) (p : A) (xs written : List A) → k ≢ 0 → length xs ≡ k → written ≡ xs ++ drop k (replicate n p) → Some written ≡ group_of n p xs
+  is_padded n k p [] written z l e = absurd (z (sym l))
+  is_padded n k p (x ∷ xs) written z l e = ap Some (e ∙ ap (λ ys. (x ∷ xs) ++ ys) (drop-replicate k n p ∙ ap (λ m. replicate (n - m) p) (sym l)))
 
   -- k items that were written over a list of padding are a group
-  pub wrote_group : (n k : ℕ) (p : A) (s t : S) (places : List A) → k ≢ 0
-      → (xs : List A) × (length xs ≡ k) × (places ≡ xs ++ drop k (replicate n p)) × TakesUpTo steps (length (replicate n p)) s xs t
-      → GathersGroup steps n p false s (Some places) (nat_lt k n) t
-  wrote_group n k p s t places z (xs, l, e, q) = (
+  pub wrote_group : (n k : ℕ) (p : A) (s t : S) (written : List A) → k ≢ 0
+      → (xs : List A) × (length xs ≡ k) × (written ≡ xs ++ drop k (replicate n p)) × TakesUpTo steps (length (replicate n p)) s xs t
+      → GathersGroup steps n p false s (Some written) (nat_lt k n) t
+  wrote_group n k p s t written z (xs, l, e, q) = (
     xs,
-    is_padded n k p xs places z l e,
+    is_padded n k p xs written z l e,
     ap (λ m. nat_lt m n) (sym l),
     let P : ℕ → Type 0 = λ m. TakesUpTo steps m s xs t in subst P (length-replicate n p) q,
   )

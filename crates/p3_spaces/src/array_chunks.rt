@@ -31,25 +31,25 @@ pub fn next_chunk_padded<I: Iterator<Item = T>, T: Copy, const N: usize>(
     Some(chunk)
 }
 
-/// Writes the next items of `source` over the front of `places`, until all are written or the items
+/// Writes the next items of `source` over the front of `out`, until all are written or the items
 /// end. The answer is how many were written. This project's own.
-pub fn take_up_to<I: Iterator<Item = T>, T: Copy>(source: &mut I, places: &mut [T]) -> usize
+pub fn take_up_to<I: Iterator<Item = T>, T: Copy>(source: &mut I, out: &mut [T]) -> usize
     requires can { I.can_next source.old }
     requires ends { IsFinite (I.remaining source.old) }
-    ensures taken { (xs : List T) × (length xs ≡ result) × (places.new ≡ xs ++ drop result places.old)
-        × TakesUpTo I.next_gives (length places.old) source.old xs source.new }
-    ensures ready { result ≡ length places.old → I.can_next source.new }
+    ensures taken { (xs : List T) × (length xs ≡ result) × (out.new ≡ xs ++ drop result out.old)
+        × TakesUpTo I.next_gives (length out.old) source.old xs source.new }
+    ensures ready { result ≡ length out.old → I.can_next source.new }
     ensures finite { IsFinite (I.remaining source.new) }
     ensures enough { result ≤ size (I.remaining source.old) }
-    ensures nearer { result ≡ length places.old → size (I.remaining source.new) + result ≤ size (I.remaining source.old) }
+    ensures nearer { result ≡ length out.old → size (I.remaining source.new) + result ≤ size (I.remaining source.old) }
 {
-    for i in 0..places.len() {
+    for i in 0..out.len() {
         let Some(item) = source.next() else {
             return i;
         };
-        places[i] = item;
+        out[i] = item;
     }
-    places.len()
+    out.len()
 }
 
 /// The items of an iterator over those of an array, and `None` exactly where there are not N. This project's own.

@@ -17,7 +17,7 @@ module _ {A : Type 0} (R : Ring A) where
   of_nat-mul zero n = (let e : zero * n ≡ zero = omega arith in ap (of_nat R.ops) e) ∙ sym (Basics.zero-mul R (of_nat R.ops n))
   of_nat-mul (suc m) n =
       (let e : suc m * n ≡ n + m * n = omega arith in ap (of_nat R.ops) e) ∙ of_nat-add R n (m * n)
-      ∙ ap₂ R.add (sym (R.mul_comm R.one (of_nat R.ops n) ∙ R.mul_one (of_nat R.ops n))) (of_nat-mul m n)
+      ∙ ap₂ R.add (sym (Basics.one-mul R (of_nat R.ops n))) (of_nat-mul m n)
       ∙ sym (Basics.add-mul R R.one (of_nat R.ops m) (of_nat R.ops n))
 
   -- digits as coefficients have their number as the value at the radix

@@ -7,7 +7,7 @@ use Rattle.p3_theory.specs.Lists.ByIndex.{get-tabulate, to-tabulate, read_at}
 use Rattle.std.proofs.lemmas.List.{get_or_past}
 use Rattle.std.proofs.Math.Decide.{dec_le}
 use mathlib.Core.Logic.{dite}
-use Rattle.p3_theory.specs.Rings.Basics.{zero-add}
+use Rattle.p3_theory.specs.Rings.Basics.{add_from_zero}
 use Rattle.p3_theory.specs.Bases.Coordinates.{basis_element}
 use Rattle.p3_theory.specs.Rings.DotProduct.{dot, dot-step, dot-end}
 
@@ -30,7 +30,7 @@ module _ {V A : Type 0} (O : Ops A) (P : Ops V) (coefficients : V → List A) (n
 
   module _ (l : RingLaws P) where
     pub basis-begin : (cs : List V) (s : V) → s ≡ P.zero → MakesBasisSum cs 0 s
-    basis-begin cs s e basis h = ap (λ z. P.add z (dot P (tabulate n basis) cs)) e ∙ zero-add (ring_of l) _
+    basis-begin cs s e basis h = add_from_zero (ring_of l) s _ e
 
     pub basis-step : ((x y : V) → coefficients x ≡ coefficients y → x ≡ y) → (cs : List V) (i : ℕ) (x y s t : V) → length cs ≡ n → i < n
         → coefficients x ≡ basis_element O n i → y ≡ get_or cs i y → t ≡ P.add s (P.mul x y) → MakesBasisSum cs i s → MakesBasisSum cs (i + 1) t

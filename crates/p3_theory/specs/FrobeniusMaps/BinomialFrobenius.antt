@@ -8,9 +8,9 @@ use Rattle.p3_theory.specs.Polynomials.Polynomial.{tabulate, at, IsMonic, embed,
 use Rattle.p3_theory.specs.Rings.Powers.{power, eval}
 use Rattle.p3_theory.specs.FrobeniusMaps.Frobenius.{iterate, IsFrobenius, orbit_product}
 use Rattle.p3_theory.specs.Rings.Basics as Basics
+use Rattle.p3_theory.specs.Rings.PowerProducts.{power-mul, power_of_one}
 use Rattle.p3_theory.specs.Polynomials.Coefficients as F
 use Rattle.p3_theory.specs.Polynomials.Congruence as Q
-use Rattle.p3_theory.specs.Polynomials.Congruence.{Cong}
 use Rattle.p3_theory.specs.Polynomials.QuotientRing as X
 use Rattle.p3_theory.specs.Polynomials.QuotientRing.{Ext, extension}
 use Rattle.p3_theory.specs.Polynomials.Horner as V
@@ -41,22 +41,10 @@ module _ {A : Type 0} (R : Ring A) where
   pub binomial_monic : (d : ℕ) (w : A) → IsMonic R.ops (suc d) (binomial R.ops (suc d) w)
   binomial_monic d w = record { degree = ap suc (length-monomial R.ops d); leading = at-monomial R.ops d }
 
-  power-mul : (x y : A) (n : ℕ) → power R.ops (x ⊗ y) n ≡ power R.ops x n ⊗ power R.ops y n
-  power-mul x y zero = sym (R.mul_one 𝟏)
-  power-mul x y (suc n) = ap (λ w. x ⊗ y ⊗ w) (power-mul x y n) ∙ swap x y _ _
-    where
-      swap : (x y z w : A) → (x ⊗ y) ⊗ (z ⊗ w) ≡ (x ⊗ z) ⊗ (y ⊗ w)
-      swap x y z w = R.mul_assoc x y (z ⊗ w) ∙ ap (λ v. x ⊗ v) (sym (R.mul_assoc y z w) ∙ ap (λ v. v ⊗ w) (R.mul_comm y z) ∙ R.mul_assoc z y w)
-          ∙ sym (R.mul_assoc x z (y ⊗ w))
-
-  power-one : (n : ℕ) → power R.ops 𝟏 n ≡ 𝟏
-  power-one zero = refl
-  power-one (suc n) = Basics.one-mul R _ ∙ power-one n
-
   -- each power of a root of unity is one
   power-root : (c : A) (n : ℕ) → power R.ops c n ≡ 𝟏 → (k : ℕ) → power R.ops (power R.ops c k) n ≡ 𝟏
-  power-root c n root zero = power-one n
-  power-root c n root (suc k) = power-mul c (power R.ops c k) n ∙ ap₂ (λ x y. x ⊗ y) root (power-root c n root k) ∙ R.mul_one 𝟏
+  power-root c n root zero = power_of_one R.laws n
+  power-root c n root (suc k) = power-mul R.laws c (power R.ops c k) n ∙ ap₂ (λ x y. x ⊗ y) root (power-root c n root k) ∙ R.mul_one 𝟏
 
   -- a monomial is unchanged where its own power is one
   twist-monomial : (c : A) (d : ℕ) (y : A) → y ⊗ power R.ops c d ≡ 𝟏 → (k : ℕ)
@@ -69,7 +57,7 @@ module _ {A : Type 0} (R : Ring A) where
 
   -- (c - 1) * a = 0 where c * a = a
   cancels : (c a : A) → c ⊗ a ≡ a → Invertible R.ops (c ⊕ neg 𝟏) → a ≡ 𝟎
-  cancels c a e inv = sym (Basics.one-mul R a) ∙ ap (λ w. w ⊗ a) (sym inv.1 ∙ R.mul_comm _ inv.0) ∙ R.mul_assoc inv.0 _ a
+  cancels c a e inv = sym (Basics.mul_from_one R _ a (R.mul_comm inv.0 _ ∙ inv.1)) ∙ R.mul_assoc inv.0 _ a
       ∙ ap (λ w. inv.0 ⊗ w) (Basics.add-mul R c (neg 𝟏) a ∙ ap (λ w. w ⊕ neg 𝟏 ⊗ a) (e ∙ sym (Basics.one-mul R a))
       ∙ sym (Basics.add-mul R 𝟏 (neg 𝟏) a) ∙ ap (λ w. w ⊗ a) (R.add_neg 𝟏) ∙ Basics.zero-mul R a)
       ∙ Basics.mul-zero R inv.0
@@ -133,8 +121,8 @@ module _ {A : Type 0} (R : Ring A) (d : ℕ) (w c : A) (root : power R.ops c (su
     mul = Sg.sigma_mul R d f m image image_root;
     embedded = λ x. X.by_coefficients R d f m _ _ (sigma_coefficients (emb R d f m x) ∙ fun_ext (constant x));
     order = λ b. X.by_coefficients R d f m _ _ (fun_ext (λ k. iterate_coefficients (suc d) b k
-        ∙ ap (λ v. v ⊗ at R.ops b.0 k) (power-root R c (suc d) root k) ∙ Basics.one-mul R _));
-    fixed = λ b e. (at R.ops b.0 zero, X.by_coefficients R d f m _ _ (fun_ext (places b e) ∙ sym (X.at-embed R d f m (at R.ops b.0 zero))));
+        ∙ Basics.mul_from_one R _ _ (power-root R c (suc d) root k)));
+    fixed = λ b e. (at R.ops b.0 zero, X.by_coefficients R d f m _ _ (fun_ext (each_coefficient b e) ∙ sym (X.at-embed R d f m (at R.ops b.0 zero))));
   }
     where
       constant : (x : A) (k : ℕ) → power R.ops c k ⊗ at R.ops (embed R.ops (suc d) x) k ≡ at R.ops (embed R.ops (suc d) x) k
@@ -142,9 +130,9 @@ module _ {A : Type 0} (R : Ring A) (d : ℕ) (w c : A) (root : power R.ops c (su
       constant x (suc k) = ap (λ v. power R.ops c (suc k) ⊗ v) (ap (λ s. s (suc k)) (X.at-embed R d f m x)) ∙ Basics.mul-zero R _
           ∙ sym (ap (λ s. s (suc k)) (X.at-embed R d f m x))
 
-      places : (b : Ext R d f m) → sigma b ≡ b → (k : ℕ) → at R.ops b.0 k ≡ at R.ops (at R.ops b.0 zero ∷ []) k
-      places b e zero = refl
-      places b e (suc k) = elim (cases_lt (suc k) (suc d)) [
+      each_coefficient : (b : Ext R d f m) → sigma b ≡ b → (k : ℕ) → at R.ops b.0 k ≡ at R.ops (at R.ops b.0 zero ∷ []) k
+      each_coefficient b e zero = refl
+      each_coefficient b e (suc k) = elim (cases_lt (suc k) (suc d)) [
         | inl lt ↦ cancels R (power R.ops c (suc k)) (at R.ops b.0 (suc k)) (sym (ap (λ s. s (suc k)) (sigma_coefficients b)) ∙ ap (λ v. at R.ops v.0 (suc k)) e) (apart (suc k) (omega arith) lt)
         | inr ge ↦ Q.small R d f m b.0 b.1 (suc k) ge
       ]

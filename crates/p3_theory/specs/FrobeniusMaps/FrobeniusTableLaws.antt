@@ -4,7 +4,7 @@ use mathlib.Core.Path.{fun_ext}
 use native.Mathlib.Omega.{arith}
 use Rattle.std.proofs.lemmas.Bool.{cases_lt}
 use Rattle.p3_theory.specs.Rings.Ring.{Ops, Ring}
-use Rattle.p3_theory.specs.Polynomials.Polynomial.{tabulate, at, IsMonic, quotient_ops, quotient_add, quotient_mul, embed, monomial}
+use Rattle.p3_theory.specs.Polynomials.Polynomial.{at, IsMonic, quotient_ops, quotient_add, quotient_mul, embed, monomial}
 use Rattle.p3_theory.specs.Rings.Powers.{power, sum_of, eval}
 use Rattle.p3_theory.specs.Lists.ByIndex.{get-tabulate, tabulate-entry, tabulate-same}
 use Rattle.p3_theory.specs.FrobeniusMaps.Frobenius.{iterate}
@@ -208,13 +208,13 @@ module _ {A : Type 0} (R : Ring A) (d : ℕ) (f : List A) (m : IsMonic R.ops (su
       fixed = λ a la e. (
         at R.ops a zero,
         F.ext R _ _ (la ∙ sym (X.length-embed R d f m (at R.ops a zero)))
-            (fun_ext (places a la e) ∙ sym (X.at-embed R d f m (at R.ops a zero))),
+            (fun_ext (each_coefficient a la e) ∙ sym (X.at-embed R d f m (at R.ops a zero))),
       );
     }
       where
-        places : (a : List A) → length a ≡ D → frobenius_list R.ops D f phi a ≡ a → (k : ℕ) → at R.ops a k ≡ at R.ops (at R.ops a zero ∷ []) k
-        places a la e zero = refl
-        places a la e (suc k) = elim (cases_lt (suc k) D) [
+        each_coefficient : (a : List A) → length a ≡ D → frobenius_list R.ops D f phi a ≡ a → (k : ℕ) → at R.ops a k ≡ at R.ops (at R.ops a zero ∷ []) k
+        each_coefficient a la e zero = refl
+        each_coefficient a la e (suc k) = elim (cases_lt (suc k) D) [
           | inl lt ↦ row-fixed R D (suc k) (row dual k) (row table) a lt
               (tabulate-entry D _ _ (tabulate-entry d _ _ T.apart k (omega arith))) (by-table a ∙ e)
           | inr ge ↦ Q.small R d f m a la (suc k) ge

@@ -1,8 +1,8 @@
 -- A map taken many times, and its orbits.
-use Rattle.std.specs.Prelude.{◌≡◌, ◌<◌, ◌+◌, ◌-◌, ◌*◌, ◌/◌, ◌%◌, ℕ, refl}
+use Rattle.std.specs.Prelude.{◌≡◌, ◌+◌, ◌*◌, ◌/◌, ◌%◌, ℕ, refl}
 use Rattle.std.proofs.Common.{ap, arith, ◌∙◌, sym, zero, suc}
 use Rattle.std.proofs.Math.Nat.{mod-add-div}
-use Rattle.p3_theory.specs.Rings.Ring.{Ops, RingLaws}
+use Rattle.p3_theory.specs.Rings.Ring.{Ops}
 use Rattle.p3_theory.specs.FrobeniusMaps.Frobenius.{iterate}
 
 -- b times s b times .. , n factors in all
@@ -29,18 +29,3 @@ module _ {B : Type 0} (s : B → B) where
   iterate_remainder D h n b =
       let e : n ≡ n % D + D * (n / D) = omega (arith, mod-add-div n D) in
       sym (ap (λ k. iterate s k b) e ∙ iterate_add (n % D) (D * (n / D)) b ∙ ap (iterate s (n % D)) (whole_turns D h (n / D) b))
-
-module _ {B : Type 0} {O : Ops B} (l : RingLaws O) (s : B → B) where
-  -- a product that takes one image of the orbit more at each step
-  pub orbit_first : (p z : B) → p ≡ O.one → O.mul p z ≡ z
-  orbit_first p z h = ap (λ q. O.mul q z) h ∙ l.mul_comm O.one z ∙ l.mul_one z
-
-  pub orbit_step : (D i : ℕ) → i < D → (p y p' y' t : B) → y' ≡ s y → p' ≡ O.mul p y' → O.mul p (orbit O s (D - i) (s y)) ≡ t
-      → O.mul p' (orbit O s (D - (i + 1)) (s y')) ≡ t
-  orbit_step D i h p y p' y' t ey ep k =
-      let n : D - i ≡ suc (D - (i + 1)) = omega arith in
-      ap (λ q. O.mul q (orbit O s (D - (i + 1)) (s y'))) (ep ∙ ap (O.mul p) ey) ∙ ap (λ q. O.mul (O.mul p (s y)) (orbit O s (D - (i + 1)) (s q))) ey
-      ∙ l.mul_assoc _ _ _ ∙ ap (λ j. O.mul p (orbit O s j (s y))) (sym n) ∙ k
-
-  pub orbit_last : (n : ℕ) → n ≡ 0 → (p y t : B) → O.mul p (orbit O s n (s y)) ≡ t → p ≡ t
-  orbit_last n h p y t k = sym (l.mul_one p) ∙ ap (λ j. O.mul p (orbit O s j (s y))) (sym h) ∙ k

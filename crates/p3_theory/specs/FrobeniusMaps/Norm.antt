@@ -1,6 +1,7 @@
 -- A value has an inverse exactly where its norm, an embedded base value, has one.
 use Rattle.std.proofs.Common.{◌≡◌, ℕ, zero, suc, ◌↔◌, refl, sym, ap, ◌∙◌, ap₂}
 use Rattle.p3_theory.specs.Rings.Ring.{Ring, Hom, Invertible}
+use Rattle.p3_theory.specs.Rings.Basics.{swap_factors}
 use Rattle.p3_theory.specs.FrobeniusMaps.Frobenius.{iterate, IsFrobenius, orbit_product}
 
 module _ {A B : Type 0} (R : Ring A) (E : Ring B) (e : A → B) (hom : Hom R.ops E.ops e) (injective : (x y : A) → e x ≡ e y → x ≡ y)
@@ -28,11 +29,7 @@ module _ {A B : Type 0} (R : Ring A) (E : Ring B) (e : A → B) (hom : Hom R.ops
   unfolding P
   P-mul zero b c = sym (E.mul_one E.one)
   P-mul (suc k) b c = ap (λ w. (b ⊗ c) ⊗ P k w) (F.mul b c) ∙ ap (λ w. (b ⊗ c) ⊗ w) (P-mul k (sigma b) (sigma c))
-      ∙ swap b c _ _
-    where
-      swap : (x y z w : B) → (x ⊗ y) ⊗ (z ⊗ w) ≡ (x ⊗ z) ⊗ (y ⊗ w)
-      swap x y z w = E.mul_assoc x y (z ⊗ w) ∙ ap (λ v. x ⊗ v) (sym (E.mul_assoc y z w) ∙ ap (λ v. v ⊗ w) (E.mul_comm y z) ∙ E.mul_assoc z y w)
-          ∙ sym (E.mul_assoc x z (y ⊗ w))
+      ∙ swap_factors E b c _ _
 
   P-one : (k : ℕ) → P k E.one ≡ E.one
   unfolding P

@@ -4,7 +4,8 @@ use Rattle.p3_theory.specs.Rings.Ring.{Ring}
 use Rattle.p3_theory.specs.Polynomials.Polynomial.{at}
 use Rattle.p3_theory.specs.Rings.Powers.{power, scale_powers}
 use Rattle.p3_theory.specs.FrobeniusMaps.Frobenius.{iterate}
-use Rattle.p3_theory.specs.Rings.Basics.{one-mul}
+use Rattle.p3_theory.specs.Rings.Basics.{mul_from_one}
+use Rattle.p3_theory.specs.Rings.PowerProducts.{power-mul, power_of_one}
 use Rattle.p3_theory.specs.Polynomials.Coefficients.{length-tabulate}
 use Rattle.p3_theory.specs.Lists.ByIndex.{get-tabulate, to-tabulate}
 
@@ -15,20 +16,6 @@ iterate-same P s t keeps same zero b p = refl
 iterate-same P s t keeps same (suc n) b p = iterate-same P s t keeps same n (s b) (keeps b p) ∙ ap (iterate t n) (same b p)
 
 module _ {A : Type 0} (R : Ring A) where
-  power-of_one : (k : ℕ) → power R.ops R.one k ≡ R.one
-  power-of_one zero = refl
-  power-of_one (suc k) = ap (R.mul R.one) (power-of_one k) ∙ R.mul_one R.one
-
-  power-of_product : (x y : A) (k : ℕ) → power R.ops (R.mul x y) k ≡ R.mul (power R.ops y k) (power R.ops x k)
-  power-of_product x y zero = sym (R.mul_one R.one)
-  power-of_product x y (suc k) =
-      ap (R.mul (R.mul x y)) (power-of_product x y k) ∙ ap (λ z. R.mul z (R.mul (power R.ops y k) (power R.ops x k))) (R.mul_comm x y)
-      ∙ swap y x (power R.ops y k) (power R.ops x k)
-    where
-      swap : (a b c d : A) → R.mul (R.mul a b) (R.mul c d) ≡ R.mul (R.mul a c) (R.mul b d)
-      swap a b c d = R.mul_assoc a b (R.mul c d) ∙ ap (R.mul a) (sym (R.mul_assoc b c d) ∙ ap (λ z. R.mul z d) (R.mul_comm b c) ∙ R.mul_assoc c b d)
-          ∙ sym (R.mul_assoc a c (R.mul b d))
-
   module _ (D : ℕ) where
     pub length-scale_powers : (c : A) (a : List A) → length (scale_powers R.ops D c a) ≡ D
     length-scale_powers c a = length-tabulate D (λ k. R.mul (power R.ops c k) (at R.ops a k))
@@ -38,12 +25,12 @@ module _ {A : Type 0} (R : Ring A) where
 
     scale-one : (a : List A) → length a ≡ D → scale_powers R.ops D R.one a ≡ a
     scale-one a l = sym (to-tabulate R.zero D (λ k. R.mul (power R.ops R.one k) (at R.ops a k)) a l
-        (λ k h. sym (ap (λ z. R.mul z (at R.ops a k)) (power-of_one k) ∙ one-mul R (at R.ops a k))))
+        (λ k h. sym (mul_from_one R _ (at R.ops a k) (power_of_one R.laws k))))
 
     scale-product : (x y : A) (a : List A) → scale_powers R.ops D (R.mul x y) a ≡ scale_powers R.ops D y (scale_powers R.ops D x a)
     scale-product x y a = to-tabulate R.zero D (λ k. R.mul (power R.ops y k) (at R.ops (scale_powers R.ops D x a) k))
         (scale_powers R.ops D (R.mul x y) a) (length-scale_powers (R.mul x y) a)
-        (λ k h. at-scale_powers (R.mul x y) a k h ∙ ap (λ z. R.mul z (at R.ops a k)) (power-of_product x y k)
+        (λ k h. at-scale_powers (R.mul x y) a k h ∙ ap (λ z. R.mul z (at R.ops a k)) (ap (λ z. power R.ops z k) (R.mul_comm x y) ∙ power-mul R.laws y x k)
         ∙ R.mul_assoc (power R.ops y k) (power R.ops x k) (at R.ops a k) ∙ ap (R.mul (power R.ops y k)) (sym (at-scale_powers x a k h)))
 
     -- one factor for each index for any count of turns

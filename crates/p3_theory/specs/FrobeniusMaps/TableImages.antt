@@ -7,7 +7,7 @@ use Rattle.p3_theory.specs.Rings.Powers.{sum_of}
 use Rattle.p3_theory.specs.Lists.ByIndex.{get-tabulate, to-tabulate}
 use Rattle.p3_theory.specs.Lists.TabulatedEntries.{HoldsBelow}
 use Rattle.p3_theory.specs.FrobeniusMaps.FrobeniusTable.{row_sum}
-use Rattle.p3_theory.specs.Rings.Basics.{mul-zero, zero-add}
+use Rattle.p3_theory.specs.Rings.Basics.{add_from_zero, mul-zero}
 use Rattle.p3_theory.specs.Polynomials.ConvolutionSums.{first_sum, first-sum}
 
 -- what the coefficients from X on give to index k
@@ -37,7 +37,7 @@ module _ {A : Type 0} (R : Ring A) (d : ℕ) (row : ℕ → List A) (one : row 0
   coefficient-of-image zero h =
       sym (whole 0 ∙ ap (λ x. R.add x (rest_of_image R.ops (suc d) row a 0)) (ap (R.mul (at R.ops a 0)) (first_row 0 h) ∙ R.mul_one (at R.ops a 0)))
   coefficient-of-image (suc k) h =
-      sym (whole (suc k) ∙ ap (λ x. R.add x (rest_of_image R.ops (suc d) row a (suc k))) (ap (R.mul (at R.ops a 0)) (first_row (suc k) h) ∙ mul-zero R (at R.ops a 0)) ∙ zero-add R _)
+      sym (whole (suc k) ∙ add_from_zero R _ _ (ap (R.mul (at R.ops a 0)) (first_row (suc k) h) ∙ mul-zero R (at R.ops a 0)))
 
 -- the indices make the image
 pub image-written : {A : Type 0} (R : Ring A) (D : ℕ) → 2 ≤ D → (row : ℕ → List A) → row 0 ≡ embed R.ops D R.one → (a xs : List A) → length xs ≡ D

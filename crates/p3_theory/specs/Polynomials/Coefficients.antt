@@ -7,7 +7,7 @@ use Rattle.p3_theory.specs.Rings.Ring.{Ring}
 use Rattle.p3_theory.specs.Polynomials.Polynomial.{tabulate, at, convolve, convolution}
 use Rattle.p3_theory.specs.Rings.Basics as Basics
 use Rattle.p3_theory.specs.Polynomials.Sequences as Sequences
-use Rattle.p3_theory.specs.Polynomials.Sequences.{sequences, add_sequences, scale, tail, zero_sequence, one_sequence}
+use Rattle.p3_theory.specs.Polynomials.Sequences.{add_sequences, tail}
 
 pub length-tabulate : {A : Type 0} (n : ℕ) (s : ℕ → A) → length (tabulate n s) ≡ n
 length-tabulate zero s = refl
@@ -39,11 +39,8 @@ module _ {A : Type 0} (R : Ring A) where
   pub add-ends : (n : ℕ) (s t : ℕ → A) → Ends n s → Ends n t → Ends n (add_sequences R s t)
   add-ends n s t hs ht k le = ap₂ (λ x y. x ⊕ y) (hs k le) (ht k le) ∙ R.add_zero 𝟎
 
-  pub neg-zero : neg 𝟎 ≡ 𝟎
-  neg-zero = sym (Basics.zero-add R (neg 𝟎)) ∙ R.add_neg 𝟎
-
   pub neg-ends : (n : ℕ) (s : ℕ → A) → Ends n s → Ends n (λ k. neg (s k))
-  neg-ends n s h k le = ap neg (h k le) ∙ neg-zero
+  neg-ends n s h k le = ap neg (h k le) ∙ Basics.neg-zero R
 
   pub convolve-ends : (a : List A) (n : ℕ) (t : ℕ → A) → Ends n t → Ends (length a + n) (convolve R.ops (at R.ops a) t)
   convolve-ends [] n t h k le = ap (λ s. s k) (Sequences.zero_sequence-mul R t)

@@ -6,7 +6,7 @@ use Rattle.p3_theory.specs.Rings.Ring.{Ring}
 use Rattle.p3_theory.specs.Polynomials.Polynomial.{at, convolve, convolution, IsMonic, IsRemainder, remainder}
 use Rattle.p3_theory.specs.Rings.Basics as Basics
 use Rattle.p3_theory.specs.Polynomials.Sequences as Sequences
-use Rattle.p3_theory.specs.Polynomials.Sequences.{sequences, add_sequences, scale, tail, zero_sequence, one_sequence}
+use Rattle.p3_theory.specs.Polynomials.Sequences.{sequences, add_sequences, zero_sequence}
 use Rattle.p3_theory.specs.Polynomials.Coefficients as F
 use Rattle.p3_theory.specs.Polynomials.Coefficients.{Ends}
 
@@ -18,17 +18,14 @@ module _ {A : Type 0} (R : Ring A) where
   infixl 70 ◌⊗◌
   -- what is taken away comes back
   pub take_away : (x t : A) → x ≡ t ⊕ (x ⊕ neg t)
-  take_away x t = sym (Basics.add_left_comm R t x (neg t) ∙ rw-it)
-    where
-      rw-it : x ⊕ (t ⊕ neg t) ≡ x
-      rw-it = ap (λ w. x ⊕ w) (R.add_neg t) ∙ R.add_zero x
+  take_away x t = sym (Basics.add_left_comm R t x (neg t) ∙ ap (λ w. x ⊕ w) (R.add_neg t) ∙ R.add_zero x)
 
   pub add_cong-mul : (h g f t : A) → h ⊗ f ⊕ (g ⊗ f ⊕ t) ≡ (h ⊕ g) ⊗ f ⊕ t
   add_cong-mul h g f t = sym (R.add_assoc _ _ _) ∙ ap (λ w. w ⊕ t) (sym (Basics.add-mul R h g f))
 
   pub neg-back : (h f t : A) → neg h ⊗ f ⊕ (h ⊗ f ⊕ t) ≡ t
-  neg-back h f t = add_cong-mul (neg h) h f t ∙ ap (λ w. w ⊗ f ⊕ t) (R.add_comm (neg h) h ∙ R.add_neg h)
-      ∙ ap (λ w. w ⊕ t) (Basics.zero-mul R f) ∙ Basics.zero-add R t
+  neg-back h f t = add_cong-mul (neg h) h f t ∙ ap (λ w. w ⊗ f ⊕ t) (Basics.add_neg_left R h)
+      ∙ Basics.add_from_zero R _ t (Basics.zero-mul R f)
 
 module _ {A : Type 0} (R : Ring A) where
   open R use {zero as 𝟎, one as 𝟏, add as ◌⊕◌, mul as ◌⊗◌, neg}
@@ -44,7 +41,7 @@ module _ {A : Type 0} (R : Ring A) where
     pub is : s ≡ add_sequences R (convolve R.ops (at R.ops by) f) t
 
   pub cong_refl : (f s : ℕ → A) → Cong f s s
-  cong_refl f s = record { by = []; is = sym (ap (λ w. add_sequences R w s) (Sequences.zero_sequence-mul R f) ∙ Basics.zero-add S s) }
+  cong_refl f s = record { by = []; is = sym (Basics.add_from_zero S _ s (Sequences.zero_sequence-mul R f)) }
 
   pub cong_trans : (f s t u : ℕ → A) → Cong f s t → Cong f t u → Cong f s u
   cong_trans f s t u p q = record {
@@ -82,7 +79,7 @@ module _ {A : Type 0} (R : Ring A) where
   no_multiple d f one ends (x ∷ h) e = fun_ext (all (no_multiple d f one ends h low))
     where
       low : Ends R (suc d) (convolve R.ops (at R.ops h) f)
-      low k le = sym (Basics.zero-add R _) ∙ ap (λ w. w ⊕ convolve R.ops (at R.ops h) f k) (sym (Basics.mul-zero R x) ∙ ap (λ w. x ⊗ w) (sym (ends (suc k) (omega arith))))
+      low k le = sym (Basics.add_from_zero R _ _ (ap (λ w. x ⊗ w) (ends (suc k) (omega arith)) ∙ Basics.mul-zero R x))
           ∙ e (suc k) (omega arith)
 
       first : at R.ops h ≡ zero_sequence R → x ≡ 𝟎
@@ -98,7 +95,7 @@ module _ {A : Type 0} (R : Ring A) where
   pub cong_small : (d : ℕ) (f s t : ℕ → A) → f (suc d) ≡ 𝟏 → Ends R (suc (suc d)) f → Ends R (suc d) s → Ends R (suc d) t
       → Cong f s t → s ≡ t
   cong_small d f s t one ends hs ht p =
-      p.is ∙ ap (λ w. add_sequences R (convolve R.ops w f) t) (no_multiple d f one ends p.by small) ∙ ap (λ w. add_sequences R w t) (Sequences.zero_sequence-mul R f) ∙ Basics.zero-add S t
+      p.is ∙ ap (λ w. add_sequences R (convolve R.ops w f) t) (no_multiple d f one ends p.by small) ∙ Basics.add_from_zero S _ t (Sequences.zero_sequence-mul R f)
     where
       small : Ends R (suc d) (convolve R.ops (at R.ops p.by) f)
       small k le = sym (R.add_zero _) ∙ ap (λ w. convolve R.ops (at R.ops p.by) f k ⊕ w) (sym (ht k le))
@@ -129,19 +126,19 @@ module _ {A : Type 0} (R : Ring A) where
       where
         go : (d ≡ k) ⊎ (d < k) → at R.ops r k ⊕ neg (at R.ops r d ⊗ at R.ops f (suc k)) ≡ 𝟎
         go (inl e) = rw (← e, m.leading, R.mul_one) (R.add_neg (at R.ops r d))
-        go (inr lt) = rw (f-ends (suc k) (suc-le-suc lt), small r l k lt, Basics.mul-zero R, F.neg-zero R) (R.add_zero 𝟎)
+        go (inr lt) = rw (f-ends (suc k) (suc-le-suc lt), small r l k lt, Basics.mul-zero R, Basics.neg-zero R) (R.add_zero 𝟎)
 
     pub remainder-cong : (c : List A) → Cong (at R.ops f) (at R.ops c) (at R.ops (remainder R.ops (suc d) f c))
     remainder-cong [] = record { by = []; is = sym (ap₂ (add_sequences R) (Sequences.zero_sequence-mul R (at R.ops f)) (F.at-tabulate R (suc d) (at R.ops []) (λ k le. refl)) ∙ S.add_zero (at R.ops [])) }
     remainder-cong (x ∷ c) = record {
       by = at R.ops (remainder R.ops (suc d) f c) d ∷ (remainder-cong c).by;
-      is = fun_ext (places (remainder R.ops (suc d) f c) (remainder-cong c)) ∙ ap (add_sequences R _) (sym (F.at-tabulate R (suc d) (step x (remainder R.ops (suc d) f c)) (step-ends x (remainder R.ops (suc d) f c) (length-remainder c))));
+      is = fun_ext (each_coefficient (remainder R.ops (suc d) f c) (remainder-cong c)) ∙ ap (add_sequences R _) (sym (F.at-tabulate R (suc d) (step x (remainder R.ops (suc d) f c)) (step-ends x (remainder R.ops (suc d) f c) (length-remainder c))));
     }
       where
-        places : (r : List A) (p : Cong (at R.ops f) (at R.ops c) (at R.ops r)) (k : ℕ) → at R.ops (x ∷ c) k
+        each_coefficient : (r : List A) (p : Cong (at R.ops f) (at R.ops c) (at R.ops r)) (k : ℕ) → at R.ops (x ∷ c) k
             ≡ convolve R.ops (at R.ops (at R.ops r d ∷ p.by)) (at R.ops f) k ⊕ (at R.ops (x ∷ r) k ⊕ neg (at R.ops r d ⊗ at R.ops f k))
-        places r p zero = take_away R x _
-        places r p (suc k) = ap (λ s. s k) p.is ∙ ap (λ w. convolve R.ops (at R.ops p.by) (at R.ops f) k ⊕ w) (take_away R (at R.ops r k) (at R.ops r d ⊗ at R.ops f (suc k)))
+        each_coefficient r p zero = take_away R x _
+        each_coefficient r p (suc k) = ap (λ s. s k) p.is ∙ ap (λ w. convolve R.ops (at R.ops p.by) (at R.ops f) k ⊕ w) (take_away R (at R.ops r k) (at R.ops r d ⊗ at R.ops f (suc k)))
             ∙ Basics.add_left_comm R _ _ _ ∙ sym (R.add_assoc _ _ _)
 
     -- the remainder is one

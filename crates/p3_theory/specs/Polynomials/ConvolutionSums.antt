@@ -46,7 +46,7 @@ module _ {A : Type 0} (R : Ring A) where
   conv-shift zero m a b h = ap₂ (λ s j. convolve R.ops s b j) (fun_ext (λ i. ap a (omega arith))) (omega arith)
   conv-shift (suc n) m a b h = ap (convolve R.ops a b) more
       ∙ ap (λ v. a zero ⊗ v ⊕ convolve R.ops (tail R a) b (n + m)) (h (suc (n + m)) (omega arith))
-      ∙ ap (λ v. v ⊕ convolve R.ops (tail R a) b (n + m)) (Basics.mul-zero R (a zero)) ∙ Basics.zero-add R _
+      ∙ Basics.add_from_zero R _ _ (Basics.mul-zero R (a zero))
       ∙ conv-shift n m (tail R a) b h ∙ ap (λ s. convolve R.ops s b m) (fun_ext (λ i. ap a (next i)))
     where
       more : suc n + m ≡ suc (n + m)

@@ -30,11 +30,8 @@ module _ {A B : Type 0} (R : Ring A) (E : Ring B) (e : A → B) (hom : Hom R.ops
   pub sum-horner : (n : ℕ) (s : ℕ → A) → sum_of E.ops n (λ i. e (s i) ⊗ power E.ops phi i) ≡ horner n s
   sum-horner zero s = refl
   sum-horner (suc n) s = ap₂ (λ x y. x ⊕ y) (E.mul_one (e (s zero)))
-      (ap (sum_of E.ops n) (fun_ext (λ i. out (e (s (suc i))) (power E.ops phi i)))
+      (ap (sum_of E.ops n) (fun_ext (λ i. Basics.mul_left_comm E (e (s (suc i))) phi (power E.ops phi i)))
       ∙ sum-mul E phi n (λ i. e (s (suc i)) ⊗ power E.ops phi i) ∙ ap (λ w. phi ⊗ w) (sum-horner n (tail R s)))
-    where
-      out : (x y : B) → x ⊗ (phi ⊗ y) ≡ phi ⊗ (x ⊗ y)
-      out x y = sym (E.mul_assoc x phi y) ∙ ap (λ w. w ⊗ y) (E.mul_comm x phi) ∙ E.mul_assoc phi x y
 
   pub horner-zero : (n : ℕ) → horner n (zero_sequence R) ≡ 𝟎
   horner-zero zero = refl
@@ -57,10 +54,7 @@ module _ {A B : Type 0} (R : Ring A) (E : Ring B) (e : A → B) (hom : Hom R.ops
   pub horner-scale : (x : A) (n : ℕ) (s : ℕ → A) → horner n (scale R x s) ≡ e x ⊗ horner n s
   horner-scale x zero s = sym (Basics.mul-zero E (e x))
   horner-scale x (suc n) s = ap₂ (λ y z. y ⊕ phi ⊗ z) (hom.mul x (s zero)) (horner-scale x n (tail R s))
-      ∙ ap (λ w. e x ⊗ e (s zero) ⊕ w) (out (e x) (horner n (tail R s))) ∙ sym (E.mul_add _ _ _)
-    where
-      out : (a y : B) → phi ⊗ (a ⊗ y) ≡ a ⊗ (phi ⊗ y)
-      out a y = sym (E.mul_assoc phi a y) ∙ ap (λ w. w ⊗ y) (E.mul_comm phi a) ∙ E.mul_assoc a phi y
+      ∙ ap (λ w. e x ⊗ e (s zero) ⊕ w) (Basics.mul_left_comm E phi (e x) (horner n (tail R s))) ∙ sym (E.mul_add _ _ _)
 
   pub horner-mul : (a : List A) (n : ℕ) (t : ℕ → A) → Ends R n t
       → horner (length a + n) (convolve R.ops (at R.ops a) t) ≡ horner (length a) (at R.ops a) ⊗ horner n t
@@ -76,7 +70,7 @@ module _ {A B : Type 0} (R : Ring A) (E : Ring B) (e : A → B) (hom : Hom R.ops
 
       join : (x t0 r v u : B) → t0 ⊕ phi ⊗ r ≡ u → x ⊗ t0 ⊕ phi ⊗ (x ⊗ r ⊕ v ⊗ u) ≡ (x ⊕ phi ⊗ v) ⊗ u
       join x t0 r v u is = ap (λ w. x ⊗ t0 ⊕ w) (E.mul_add phi (x ⊗ r) (v ⊗ u)
-          ∙ ap₂ (λ y z. y ⊕ z) (sym (E.mul_assoc phi x r) ∙ ap (λ w. w ⊗ r) (E.mul_comm phi x) ∙ E.mul_assoc x phi r) (sym (E.mul_assoc phi v u)))
+          ∙ ap₂ (λ y z. y ⊕ z) (Basics.mul_left_comm E phi x r) (sym (E.mul_assoc phi v u)))
           ∙ sym (E.add_assoc _ _ _) ∙ ap (λ w. w ⊕ phi ⊗ v ⊗ u) (sym (E.mul_add x t0 (phi ⊗ r)) ∙ ap (λ w. x ⊗ w) is)
           ∙ sym (Basics.add-mul E x (phi ⊗ v) u)
 

@@ -2,7 +2,7 @@
 use Rattle.std.proofs.Common.{◌≡◌, ◌<◌, ◌≤◌, ℕ, zero, suc, List, [], ◌∷◌, length, get_or, ap, sym, ◌∙◌, arith}
 use Rattle.p3_theory.specs.Rings.Ring.{Ring, subtract}
 use Rattle.p3_theory.specs.Polynomials.Polynomial.{at, tabulate, embed, quotient_add, quotient_neg}
-use Rattle.p3_theory.specs.Polynomials.Coefficients.{neg-zero}
+use Rattle.p3_theory.specs.Rings.Basics.{neg-zero}
 use Rattle.p3_theory.specs.Lists.ByIndex.{get-tabulate, to-tabulate}
 
 -- r is x at every index from 1 on

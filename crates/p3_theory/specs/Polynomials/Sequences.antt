@@ -2,7 +2,7 @@
 use Rattle.std.proofs.Common.{◌≡◌, ℕ, zero, suc, refl, sym, ap, ◌∙◌, ap₂}
 use mathlib.Core.Path.{fun_ext}
 use Rattle.p3_theory.specs.Rings.Ring.{Ring, Hom}
-use Rattle.p3_theory.specs.Rings.Basics.{add-mul, cancel, one-mul, swap_four, zero-mul}
+use Rattle.p3_theory.specs.Rings.Basics.{add-mul, add_neg_left, neg_unique, one-mul, swap_four, zero-mul}
 use Rattle.p3_theory.specs.Polynomials.Polynomial.{convolve}
 
 module _ {A : Type 0} (R : Ring A) where
@@ -98,6 +98,6 @@ ring_hom R E h zeros ones sums products = record {
   zero = zeros;
   one = ones;
   add = sums;
-  neg = λ x. cancel E (h x) (h (R.neg x)) (E.neg (h x)) (sym (sums x (R.neg x)) ∙ ap h (R.add_neg x) ∙ zeros ∙ sym (E.add_neg (h x)));
+  neg = λ x. neg_unique E (h x) (h (R.neg x)) (sym (sums (R.neg x) x) ∙ ap h (add_neg_left R x) ∙ zeros);
   mul = products;
 }

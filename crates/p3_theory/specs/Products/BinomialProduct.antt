@@ -6,11 +6,9 @@ use Rattle.p3_theory.specs.Rings.Ring.{Ring}
 use Rattle.p3_theory.specs.Polynomials.Polynomial.{tabulate, at, convolve, IsMonic, quotient_mul, monomial, binomial}
 use Rattle.p3_theory.specs.Rings.Basics as Basics
 use Rattle.p3_theory.specs.Polynomials.Sequences as Sequences
-use Rattle.p3_theory.specs.Polynomials.Sequences.{sequences, add_sequences, tail, zero_sequence}
+use Rattle.p3_theory.specs.Polynomials.Sequences.{tail}
 use Rattle.p3_theory.specs.Polynomials.Coefficients as F
-use Rattle.p3_theory.specs.Polynomials.Coefficients.{Ends}
 use Rattle.p3_theory.specs.Polynomials.Congruence as Q
-use Rattle.p3_theory.specs.Polynomials.Congruence.{Cong}
 use Rattle.p3_theory.specs.Polynomials.QuotientRing as X
 use Rattle.p3_theory.specs.FrobeniusMaps.BinomialFrobenius.{binomial_monic}
 
@@ -32,8 +30,7 @@ module _ {A : Type 0} (R : Ring A) where
   monomial-mul zero s zero = Basics.one-mul R (s zero)
   monomial-mul zero s (suc k) = ap₂ (λ x y. x ⊕ y) (Basics.one-mul R (s (suc k))) (ap (λ t. t k) (Sequences.zero_sequence-mul R s)) ∙ R.add_zero _
   monomial-mul (suc d) s zero = Basics.zero-mul R (s zero)
-  monomial-mul (suc d) s (suc k) = ap (λ x. x ⊕ convolve R.ops (at R.ops (monomial R.ops d)) s k) (Basics.zero-mul R (s (suc k)))
-      ∙ Basics.zero-add R _ ∙ monomial-mul d s k
+  monomial-mul (suc d) s (suc k) = Basics.add_from_zero R _ _ (Basics.zero-mul R (s (suc k))) ∙ monomial-mul d s k
 
   -- (X^D - w) * s
   binomial-mul : (d : ℕ) (w : A) (s : ℕ → A) (k : ℕ) → convolve R.ops s (at R.ops (binomial R.ops (suc d) w)) k ≡ neg w ⊗ s k ⊕ up (suc d) s k
@@ -53,9 +50,9 @@ module _ {A : Type 0} (R : Ring A) where
   first-up (suc D) c zero = sym (R.add_zero _)
   first-up (suc D) c (suc k) = first-up D (tail R c) k ∙ ap (λ s. at R.ops (tabulate D (tail R c)) k ⊕ up D s k) (fun_ext (λ i. ap c (sym (add-suc i D))))
 
-  places : (x t u y : A) → x ≡ t ⊕ y → x ≡ (neg u ⊕ y) ⊕ (t ⊕ u)
-  places x t u y e = e ∙ sym (ap (λ v. v ⊕ (t ⊕ u)) (R.add_comm (neg u) y) ∙ R.add_assoc y (neg u) (t ⊕ u)
-      ∙ ap (λ v. y ⊕ v) (Basics.add_left_comm R (neg u) t u ∙ ap (λ v. t ⊕ v) (R.add_comm (neg u) u ∙ R.add_neg u) ∙ R.add_zero t) ∙ R.add_comm y t)
+  coefficient_split : (x t u y : A) → x ≡ t ⊕ y → x ≡ (neg u ⊕ y) ⊕ (t ⊕ u)
+  coefficient_split x t u y e =
+      e ∙ sym (ap (λ v. v ⊕ (t ⊕ u)) (R.add_comm (neg u) y) ∙ Basics.swap_four R y (neg u) t u ∙ ap₂ (λ v w. v ⊕ w) (R.add_comm y t) (Basics.add_neg_left R u) ∙ R.add_zero _)
 
   tabulate-add : (w : A) (n : ℕ) (s t : ℕ → A) (k : ℕ) → at R.ops (tabulate n (λ i. s i ⊕ w ⊗ t i)) k
       ≡ at R.ops (tabulate n s) k ⊕ w ⊗ at R.ops (tabulate n t) k
@@ -85,7 +82,7 @@ module _ {A : Type 0} (R : Ring A) where
       q = F.at-tabulate R (suc d) t (λ k le. F.convolve-ends R a (suc d) (at R.ops b) (Q.small R d f m b lb) (k + suc d) (omega arith))
 
       go : (k : ℕ) → s k ≡ convolve R.ops (at R.ops (tabulate (suc d) t)) (at R.ops f) k ⊕ at R.ops (tabulate (suc d) (fold (suc d) w s)) k
-      go k = places (s k) (at R.ops (tabulate (suc d) s) k) (w ⊗ t k) (up (suc d) t k) (first-up (suc d) s k)
+      go k = coefficient_split (s k) (at R.ops (tabulate (suc d) s) k) (w ⊗ t k) (up (suc d) t k) (first-up (suc d) s k)
           ∙ ap₂ (λ x y. x ⊕ y)
           (ap (λ x. x ⊕ up (suc d) t k) (sym (Basics.neg-mul R w (t k))) ∙ sym (binomial-mul d w t k) ∙ ap (λ v. convolve R.ops v (at R.ops f) k) (sym q))
           (ap (λ v. at R.ops (tabulate (suc d) s) k ⊕ w ⊗ v k) (sym q) ∙ sym (tabulate-add w (suc d) s t k))

@@ -8,14 +8,14 @@ use Rattle.p3_theory.specs.Polynomials.ConvolutionSums.{first_sum}
 use Rattle.p3_theory.specs.Products.ProductCoefficients.{product_coefficient, product_by_each_coefficient}
 use Rattle.p3_theory.specs.Polynomials.Coefficients.{length-tabulate}
 use Rattle.p3_theory.specs.Lists.ByIndex.{get-tabulate, to-tabulate, length-remainder}
-use Rattle.p3_theory.specs.Rings.Basics.{zero-add, zero-mul}
+use Rattle.p3_theory.specs.Rings.Basics.{add_from_zero, zero-add, zero-mul}
 
 module _ {A : Type 0} (R : Ring A) where
   -- what is added to zeros stays as it is
   pub added_to_zeros : (D : ℕ) (old p : List A) → ((k : ℕ) → k < D → get_or old k R.zero ≡ R.zero) → length p ≡ D → quotient_add R.ops D old p ≡ p
   added_to_zeros D old p z l =
       sym (to-tabulate R.zero D (λ k. R.add (get_or old k R.zero) (get_or p k R.zero)) p l
-      (λ k h. sym (ap (λ x. R.add x (get_or p k R.zero)) (z k h) ∙ zero-add R (get_or p k R.zero))))
+      (λ k h. sym (add_from_zero R _ (get_or p k R.zero) (z k h))))
 
   pub product_onto_zeros : (D : ℕ) (f a b old out : List A) → old ≡ replicate D R.zero → out ≡ quotient_add R.ops D old (quotient_mul R.ops D f a b)
       → out ≡ quotient_mul R.ops D f a b

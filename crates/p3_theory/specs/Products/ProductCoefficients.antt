@@ -3,9 +3,9 @@ use Rattle.std.specs.Prelude.{◌≡◌, ◌<◌, ◌≤◌, ◌+◌, ◌-◌, �
 use Rattle.std.proofs.Common.{ap, ap₂, arith, ◌∙◌, sym, zero, suc}
 use mathlib.Core.Path.{fun_ext}
 use Rattle.std.proofs.Math.ListN.{set, length-set}
-use Rattle.std.proofs.lemmas.List.{get_or-set_same, get_or-set_other, get_or-replicate, length-replicate, ext_get_or}
-use borrow.Author.Count.{below_more}
+use Rattle.std.proofs.lemmas.List.{get_or-replicate, length-replicate, ext_get_or}
 use Rattle.p3_theory.specs.Rings.Ring.{Ops, Ring}
+use Rattle.p3_theory.specs.Rings.Basics.{add_from_zero}
 use Rattle.p3_theory.specs.Polynomials.Polynomial as P
 use Rattle.p3_theory.specs.Polynomials.Polynomial.{at}
 use Rattle.p3_theory.specs.Polynomials.Coefficients as F
@@ -13,6 +13,7 @@ use Rattle.p3_theory.specs.Polynomials.ConvolutionSums as L
 use Rattle.p3_theory.specs.Polynomials.ConvolutionSums.{first_sum}
 use Rattle.p3_theory.specs.Products.BinomialProduct.{fold, binomial_product}
 use Rattle.p3_theory.specs.Lists.ByIndex.{get-tabulate, to-tabulate, length-remainder}
+use Rattle.p3_theory.specs.Lists.TabulatedEntries.{updated-more}
 
 module _ {A : Type 0} where
   -- product_coefficient k of the product
@@ -62,17 +63,13 @@ module _ {A : Type 0} where
         → v ≡ R.add (get_or old i R.zero) (f i)
         → (length (set out i v) ≡ n) × ((k : ℕ) → k < i + 1 → get_or (set out i v) k R.zero ≡ R.add (get_or old k R.zero) (f k))
         × ((k : ℕ) → i + 1 ≤ k → get_or (set out i v) k R.zero ≡ get_or old k R.zero)
-    entry_more f old out i n v l b p q e = (
-      simp length-set l,
-      below_more (λ k. get_or (set out i v) k R.zero ≡ R.add (get_or old k R.zero) (f k)) i
-          (λ k w. get_or-set_other out i k v R.zero (omega arith) ∙ p k w)
-          (get_or-set_same out i v R.zero (omega arith) ∙ e),
-      λ k w. get_or-set_other out i k v R.zero (omega arith) ∙ q k (omega arith),
-    )
+    entry_more f old out i n v l b p q e =
+        let more = updated-more (λ k. R.add (get_or old k R.zero) (f k)) R.zero old out i v (omega (arith, l, b)) (p, q) e in
+        (simp length-set l, more.0, more.1)
 
     added_to_zeros : (D : ℕ) (old out p : List A) → old ≡ replicate D R.zero → length p ≡ D → out ≡ P.quotient_add R.ops D old p → out ≡ p
     added_to_zeros D old out p z l e = e ∙ ap (λ o. P.quotient_add R.ops D o p) z
-        ∙ sym (to-tabulate R.zero D _ p l (λ k h. sym (ap (λ v. R.add v (get_or p k R.zero)) (get_or-replicate D k R.zero R.zero h) ∙ R.add_comm _ _ ∙ R.add_zero _)))
+        ∙ sym (to-tabulate R.zero D _ p l (λ k h. sym (add_from_zero R _ _ (get_or-replicate D k R.zero R.zero h))))
 
     pub from_zeros : (D : ℕ) (f a b old out : List A) → old ≡ replicate D R.zero
         → (D ≡ 2 → out ≡ P.quotient_mul R.ops D f a b) → (D ≢ 2 → out ≡ P.quotient_add R.ops D old (P.quotient_mul R.ops D f a b)) → out ≡ P.quotient_mul R.ops D f a b

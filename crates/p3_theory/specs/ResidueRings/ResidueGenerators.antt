@@ -1,16 +1,16 @@
 -- Two-adic generators among the residues, told by computation on numbers.
 use Rattle.std.specs.Prelude.{◌≡◌, ◌<◌, ◌≤◌, ◌+◌, ◌-◌, ◌*◌, ◌/◌, ◌%◌, ◌^◌, ◌==◌, ◌&&◌, Bool, true, ℕ, zero, suc, Option, Some}
-use Rattle.std.proofs.Common.{ap, arith, ◌∙◌, sym, [], pow-add}
+use Rattle.std.proofs.Common.{ap, arith, ◌∙◌, sym, pow-add}
 use Rattle.std.proofs.Math.Nat.{mod-add-div, pow-suc, div-le_self, mul-div_cancel_left, mul_comm, mul_assoc}
 use Rattle.std.proofs.lemmas.Nat.{pow_pos}
 use Rattle.std.proofs.lemmas.Bool.{eqb-true}
-use Rattle.p3_theory.specs.Rings.Ring.{Ops, RingLaws, Hom}
+use Rattle.p3_theory.specs.Rings.Ring.{Ops, Hom, ring_of}
+use Rattle.p3_theory.specs.Rings.Basics.{neg_one_squared}
 use Rattle.p3_theory.specs.FrobeniusMaps.Frobenius.{iterate}
 use Rattle.p3_theory.specs.Rings.Powers.{power}
 use Rattle.p3_theory.specs.Rings.BinaryPowers.{binary_power, binary_power-is, map-binary_power}
 use Rattle.p3_theory.specs.Rings.PowerLaws.{power-square, power-one}
 use Rattle.p3_theory.specs.Rings.PowerChains.{power-power}
-use Rattle.p3_theory.specs.RingSolver.Reify.{by_laws, reads, yes}
 use Rattle.p3_theory.specs.RingSolver.SolverSound.{and_true}
 use Rattle.p3_theory.specs.ResidueRings.Residues.{residues, IsResidues, residue_ops, of_keeps, residue_laws}
 use Rattle.p3_theory.specs.Roots.TwoAdic.{AreTwoAdicGenerators, DividesOrder, repeated_squares, repeated_squares_generate}
@@ -31,9 +31,6 @@ top_generator n s x = binary_power (residues n) 64 x ((n - 1) / 2 ^ s)
 abbrev pub is_two_adic_generator : ℕ → ℕ → ℕ → Bool
 is_two_adic_generator n zero top = top == 1
 is_two_adic_generator n (suc s) top = iterate (square n) s top == (residues n).neg 1 && (n - 1) % 2 ^ suc s == 0
-
-square_of_neg_one : {A : Type 0} {O : Ops A} → RingLaws O → O.mul (O.neg O.one) (O.neg O.one) ≡ O.one
-square_of_neg_one {O = O} l = by_laws O l [] (search reads depth 99 fits 99999) (search reads depth 99 fits 99999) yes
 
 -- the test on numbers tells the laws of the values
 module _ {A : Type 0} {n : ℕ} {canon : A → ℕ} {of : ℕ → A} (is : IsResidues n canon of) where
@@ -62,7 +59,7 @@ module _ {A : Type 0} {n : ℕ} {canon : A → ℕ} {of : ℕ → A} (is : IsRes
 
   pub residue_generators : (s top : ℕ) → is_two_adic_generator n s top ≡ true → AreTwoAdicGenerators O s (repeated_squares O s (of top))
   residue_generators s top t =
-      repeated_squares_generate (residue_laws is) s (of top) (none s top t) (half s top t) (square_of_neg_one (residue_laws is))
+      repeated_squares_generate (residue_laws is) s (of top) (none s top t) (half s top t) (neg_one_squared (ring_of (residue_laws is)))
 
 -- and that 2^s divides the order less one
 pub divides_residue_order : (n s top : ℕ) → is_two_adic_generator n s top ≡ true → DividesOrder s (Some n)

@@ -82,7 +82,7 @@ module _ {A : Type 0} (o : Ops A) (L : RingLaws o) where
       go : (t : Bool) → eqb a b ≡ t → value env (elim t [ true ↦ q | false ↦ X i (C a b) q ]) ≡ add (mul (at 𝟎 env i) (con a b)) (value env q)
       go false e = refl
       go true e =
-          sym (ap (λ w. add (mul (at 𝟎 env i) w) (value env q)) (con_zero a b (eqb-true a b e)) ∙ ap (λ w. add w (value env q)) (Basics.mul-zero R (at 𝟎 env i)) ∙ Basics.zero-add R (value env q))
+          sym (ap (λ w. add (mul (at 𝟎 env i) w) (value env q)) (con_zero a b (eqb-true a b e)) ∙ Basics.add_from_zero R _ (value env q) (Basics.mul-zero R (at 𝟎 env i)))
 
   value-add_const : (env : List A) (a b : ℕ) (g : Poly) → value env (add_const a b g) ≡ add (con a b) (value env g)
   value-add_const env a b (C c d) = con_add a b c d

@@ -1,7 +1,8 @@
 -- An operator applied along a list of items.
 use Rattle.std.specs.Prelude.{◌≡◌, List, [], ◌∷◌, ◌++◌, refl}
 use Rattle.std.proofs.Common.{subst, sym, ap, ◌∙◌}
-use Rattle.p3_theory.specs.Rings.Ring.{Ops, RingLaws}
+use Rattle.p3_theory.specs.Rings.Ring.{Ops, RingLaws, ring_of}
+use Rattle.p3_theory.specs.Rings.Basics.{add_from_zero, mul_from_one}
 use Rattle.p3_theory.specs.Rings.Operators.{sum_list, product_list}
 
 -- from a on, taking the items one after the other, the operator may end at r
@@ -31,9 +32,9 @@ accumulated_product {O = O} l gives h a (x ∷ xs) r k =
 pub sum_from_zero : {A : Type 0} {O : Ops A} → RingLaws O → (gives : A → A → A → Type 0) → ((x y r : A) → gives x y r → r ≡ O.add x y)
     → (a : A) → a ≡ O.zero → (xs : List A) (r : A) → Accumulates gives a xs r → r ≡ sum_list O xs
 sum_from_zero {O = O} l gives h a e xs r k =
-    accumulated_sum l gives h a xs r k ∙ ap (λ z. O.add z (sum_list O xs)) e ∙ l.add_comm O.zero (sum_list O xs) ∙ l.add_zero (sum_list O xs)
+    accumulated_sum l gives h a xs r k ∙ add_from_zero (ring_of l) a (sum_list O xs) e
 
 pub product_from_one : {A : Type 0} {O : Ops A} → RingLaws O → (gives : A → A → A → Type 0) → ((x y r : A) → gives x y r → r ≡ O.mul x y)
     → (a : A) → a ≡ O.one → (xs : List A) (r : A) → Accumulates gives a xs r → r ≡ product_list O xs
 product_from_one {O = O} l gives h a e xs r k =
-    accumulated_product l gives h a xs r k ∙ ap (λ z. O.mul z (product_list O xs)) e ∙ l.mul_comm O.one (product_list O xs) ∙ l.mul_one (product_list O xs)
+    accumulated_product l gives h a xs r k ∙ mul_from_one (ring_of l) a (product_list O xs) e

@@ -2,7 +2,8 @@
 use Rattle.std.proofs.Common.{◌≡◌, ◌<◌, ◌≤◌, ◌+◌, ◌-◌, ℕ, List, length, get_or, drop, take, map, sym, ap, ap₂, ◌∙◌, arith}
 use Rattle.std.proofs.Math.ListN.{get_or-map}
 use Rattle.std.proofs.lemmas.List.{take-map, drop-map, take_rest}
-use Rattle.p3_theory.specs.Rings.Ring.{Ops, RingLaws}
+use Rattle.p3_theory.specs.Rings.Ring.{Ops, RingLaws, ring_of}
+use Rattle.p3_theory.specs.Rings.Basics.{add_from_zero}
 use Rattle.p3_theory.specs.Rings.Homomorphism.{length-map}
 use Rattle.p3_theory.specs.Rings.DotProduct.{dot, dot-chunk, dot-begin, dot-step, dot-end}
 
@@ -26,7 +27,7 @@ module _ {A F : Type 0} {O : Ops A} (l : RingLaws O) (e : F → A) (xs : List A)
 
   -- from zero on
   pub mixed-start : (s : A) → s ≡ O.zero → MakesWithRest O e xs fs (dot O xs (map e fs)) 0 s
-  mixed-start s h = ap (λ z. O.add z (dot O xs (map e fs))) h ∙ l.add_comm O.zero _ ∙ l.add_zero _
+  mixed-start s h = add_from_zero (ring_of l) s _ h
 
   -- after the first product
   pub mixed-begin : (x : A) (y : F) (s : A) → 0 < length xs → x ≡ get_or xs 0 x → y ≡ get_or fs 0 y → s ≡ O.mul x (e y)

@@ -50,9 +50,8 @@ module _ {A : Type 0} (R : Ring A) where
   of_int-remainder n h e (pos a) = of_nat-remainder n e a
   of_int-remainder n h e (negsuc a) =
       let below : a % n < n = mod-lt a h in
-      let whole : suc a + (n - 1 - a % n) ≡ n * suc (a / n) = omega (arith, mod-add-div a n) in
-      Basics.cancel R (of_nat R.ops (suc a)) _ _
-      (sym (of_nat-add (suc a) (n - 1 - a % n)) ∙ ap (of_nat R.ops) whole ∙ of_nat-multiple n e (suc (a / n)) ∙ sym (R.add_neg _))
+      let whole : n - 1 - a % n + suc a ≡ n * suc (a / n) = omega (arith, mod-add-div a n) in
+      Basics.neg_unique R (of_nat R.ops (suc a)) _ (sym (of_nat-add (n - 1 - a % n) (suc a)) ∙ ap (of_nat R.ops) whole ∙ of_nat-multiple n e (suc (a / n)))
 
 -- what is made from a residue is one taken as many times as the whole number says
 pub multiple_of_residue : {A : Type 0} {O : Ops A} → RingLaws O → (n : ℕ) → of_nat O n ≡ O.zero → (z : ℤ) (k : ℕ) → k ≡ remainder_of z n → k < n

@@ -2,7 +2,7 @@
 use Rattle.std.proofs.Common.{◌≡◌, ℕ, ◌+◌, ◌*◌, ◌^◌, zero, suc, [], ◌∷◌, refl, sym, ap, ap₂, ◌∙◌, add-one, arith}
 use Rattle.std.proofs.Math.Nat.{pow-succ'}
 use Rattle.p3_theory.specs.Rings.Ring.{Ops, RingLaws, ring_of}
-use Rattle.p3_theory.specs.Rings.Basics.{swap_factors}
+use Rattle.p3_theory.specs.Rings.Basics.{quotient_exact, swap_factors}
 use Rattle.p3_theory.specs.Rings.Powers.{power}
 use Rattle.p3_theory.specs.Rings.PowerLaws.{power-add}
 use Rattle.p3_theory.specs.Rings.Multiples.{two}
@@ -28,8 +28,7 @@ module _ {A : Type 0} {O : Ops A} (l : RingLaws O) where
   -- x times the n-th power of a half, times two to the n, is x
   pub halves_undone : (x h q r : A) (n : ℕ) → O.add h h ≡ O.one → q ≡ power O h n → r ≡ O.mul x q → O.mul r (power O (two O) n) ≡ x
   halves_undone x h q r n e p m =
-      ap (λ z. O.mul z (power O (two O) n)) (m ∙ ap (O.mul x) p) ∙ l.mul_assoc _ _ _
-      ∙ ap (O.mul x) (power-inverse h (two O) (twice h ∙ e) n) ∙ l.mul_one x
+      quotient_exact (ring_of l) x (power O (two O) n) (power O h n) r (power-inverse (two O) h (l.mul_comm (two O) h ∙ twice h ∙ e) n) (m ∙ ap (O.mul x) p)
 
   -- the square of a power has twice the exponent
   pub power-double : (x : A) (n : ℕ) → O.mul (power O x n) (power O x n) ≡ power O x (2 * n)

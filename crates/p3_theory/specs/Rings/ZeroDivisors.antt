@@ -4,7 +4,7 @@ use Rattle.std.proofs.Common.{refl, ap, arith, ◌∙◌, sym, subst, inl, inr, 
 use Rattle.std.proofs.lemmas.Bool.{cases_lt}
 use Rattle.std.proofs.Math.Nat.{mod-eq_of_lt}
 use Rattle.p3_theory.specs.Rings.Ring.{Ops, RingLaws, Ring, ring_of}
-use Rattle.p3_theory.specs.Rings.Basics.{cancel, mul-zero}
+use Rattle.p3_theory.specs.Rings.Basics.{mul-zero, neg-neg, neg_unique}
 use Rattle.p3_theory.specs.RingSolver.SolverSound.{and_true}
 use Rattle.p3_theory.specs.ResidueRings.Residues.{IsResidues, residue_ops, canon-below, same_canon}
 
@@ -20,7 +20,7 @@ mul_cancel {A} {O} l domain x y z nonzero h =
     l.mul_add x y (O.neg z) ∙ ap (λ w. O.add w (O.mul x (O.neg z))) h ∙ sym (l.mul_add x z (O.neg z)) ∙ ap (O.mul x) (l.add_neg z) ∙ mul-zero R x in
     elim (domain x (O.add y (O.neg z)) gone) [
       | inl p ↦ absurd (nonzero p)
-      | inr p ↦ cancel R (O.neg z) y z (l.add_comm (O.neg z) y ∙ p ∙ sym (l.add_neg z) ∙ l.add_comm z (O.neg z))
+      | inr p ↦ neg_unique R (O.neg z) y p ∙ neg-neg R z
     ]
 
 -- the test holds of each number below n

@@ -3,7 +3,7 @@ use Rattle.std.specs.Prelude.{◌≡◌, ◌≢◌, ◌<◌, ◌≤◌, ◌+◌,
 use Rattle.std.proofs.Common.{ap, arith, ◌∙◌, sym, inl, inr, [], ◌∷◌, lit<, pow-add}
 use Rattle.std.proofs.Math.Nat.{pow-suc, mul_comm}
 use Rattle.p3_theory.specs.Rings.Ring.{Ops, RingLaws, Ring, ring_of}
-use Rattle.p3_theory.specs.Rings.Basics.{cancel}
+use Rattle.p3_theory.specs.Rings.Basics.{mul_left_comm, neg-mul, neg-neg, neg_unique, one-mul}
 use Rattle.p3_theory.specs.Polynomials.Coefficients.{length-tabulate}
 use Rattle.p3_theory.specs.Lists.ByIndex.{get-tabulate}
 use Rattle.p3_theory.specs.Rings.Powers.{power}
@@ -95,8 +95,8 @@ module _ {A : Type 0} {O : Ops A} (l : RingLaws O) {s : ℕ} {g : ℕ → A} (t 
       by_laws O l (y ∷ w ∷ []) (search reads depth 99 fits 99999) (search reads depth 99 fits 99999) yes in
       let gone = factored ∙ ap (λ z. O.add z (O.neg (O.mul w w))) e ∙ l.add_neg (O.mul w w) in
       elim (domain (O.add y (O.neg w)) (O.add y w) gone) [
-        | inl p ↦ inl (cancel R (O.neg w) y w (l.add_comm (O.neg w) y ∙ p ∙ sym (l.add_neg w) ∙ l.add_comm w (O.neg w)))
-        | inr p ↦ inr (cancel R w y (O.neg w) (l.add_comm w y ∙ p ∙ sym (l.add_neg w)))
+        | inl p ↦ inl (neg_unique R (O.neg w) y p ∙ neg-neg R w)
+        | inr p ↦ inr (neg_unique R w y p)
       ]
 
   -- where no product but of zeros is zero, the roots of x^(2^k) = 1 are the powers of the generator
@@ -114,12 +114,9 @@ module _ {A : Type 0} {O : Ops A} (l : RingLaws O) {s : ℕ} {g : ℕ → A} (t 
         | inr p ↦ (
           2 ^ k + j,
           omega (arith, below, twice_power k),
-          p ∙ negated w ∙ ap (λ z. O.mul z w) (sym (half_order k h)) ∙ sym (power-add l (g (suc k)) (2 ^ k) j),
+          p ∙ sym (neg-mul (ring_of l) O.one w ∙ ap O.neg (one-mul (ring_of l) w)) ∙ ap (λ z. O.mul z w) (sym (half_order k h)) ∙ sym (power-add l (g (suc k)) (2 ^ k) j),
         )
       ]
-    where
-      negated : (w : A) → O.neg w ≡ O.mul (O.neg O.one) w
-      negated w = by_laws O l (w ∷ []) (search reads depth 99 fits 99999) (search reads depth 99 fits 99999) yes
 
   -- and what agrees with the shift is a member of the coset
   pub agreeing_is_member : HasNoZeroDivisors O → (k : ℕ) → k ≤ s → (shift inverse x : A) → O.mul shift inverse ≡ O.one
@@ -132,6 +129,4 @@ module _ {A : Type 0} {O : Ops A} (l : RingLaws O) {s : ℕ} {g : ℕ → A} (t 
       let j = root.0 in
       let below = root.1 in
       let long = length-tabulate (2 ^ k) (geometric_term O (g k) shift) in
-      let back : O.mul shift quotient ≡ O.mul x (O.mul shift inverse) =
-      by_laws O l (shift ∷ x ∷ inverse ∷ []) (search reads depth 99 fits 99999) (search reads depth 99 fits 99999) yes in
-      (j, omega (arith, below, long), coset_item O g shift k j x below ∙ sym (ap (O.mul shift) root.2) ∙ back ∙ ap (O.mul x) unit ∙ l.mul_one x)
+      (j, omega (arith, below, long), coset_item O g shift k j x below ∙ sym (ap (O.mul shift) root.2) ∙ mul_left_comm (ring_of l) shift x inverse ∙ ap (O.mul x) unit ∙ l.mul_one x)

@@ -6,14 +6,11 @@ use Rattle.p3_theory.specs.Rings.Ring.{Ops, RingLaws, ring_of}
 use Rattle.p3_theory.specs.Rings.Powers.{power}
 use Rattle.p3_theory.specs.Rings.Operators.{product_list}
 use Rattle.p3_theory.specs.Rings.Homomorphism.{length-map}
-use Rattle.p3_theory.specs.Rings.Basics.{mul-zero}
+use Rattle.p3_theory.specs.Rings.Basics.{mul-zero, mul_left_comm}
 use Rattle.p3_theory.specs.Roots.ValueLists.{IsIn, HasNoRepeats, ValueList, from-map, no_repeats-map}
 use Rattle.p3_theory.specs.Rings.ZeroDivisors.{HasNoZeroDivisors, mul_cancel}
 
 module _ {A : Type 0} {O : Ops A} (l : RingLaws O) where
-  left_comm : (x y z : A) → O.mul x (O.mul y z) ≡ O.mul y (O.mul x z)
-  left_comm x y z = sym (l.mul_assoc x y z) ∙ ap (λ w. O.mul w z) (l.mul_comm x y) ∙ l.mul_assoc y x z
-
   -- what is left of a list where its item x is taken out
   record TakenOut (x : A) (xs : List A) : Type 0 where
     rest : List A
@@ -38,7 +35,7 @@ module _ {A : Type 0} {O : Ops A} (l : RingLaws O) where
       record {
         rest = y ∷ r.rest;
         counted = ap suc r.counted;
-        product = ap (O.mul y) r.product ∙ left_comm y x (product_list O r.rest);
+        product = ap (O.mul y) r.product ∙ mul_left_comm (ring_of l) y x (product_list O r.rest);
         other = λ z h. elim h [ inl q ↦ inr (inl q) | inr q ↦ elim (r.other z q) [ inl u ↦ inl u | inr v ↦ inr (inr v) ] ];
         back = λ z h. elim h [ inl q ↦ inl q | inr q ↦ inr (r.back z q) ];
         once = λ d. (
@@ -62,7 +59,7 @@ module _ {A : Type 0} {O : Ops A} (l : RingLaws O) where
   product-times : (x : A) (ys : List A) → product_list O (map (O.mul x) ys) ≡ O.mul (power O x (length ys)) (product_list O ys)
   product-times x [] = sym (l.mul_one O.one)
   product-times x (y ∷ ys) =
-      ap (O.mul (O.mul x y)) (product-times x ys) ∙ l.mul_assoc x y _ ∙ ap (O.mul x) (left_comm y (power O x (length ys)) (product_list O ys))
+      ap (O.mul (O.mul x y)) (product-times x ys) ∙ l.mul_assoc x y _ ∙ ap (O.mul x) (mul_left_comm (ring_of l) y (power O x (length ys)) (product_list O ys))
       ∙ sym (l.mul_assoc x (power O x (length ys)) (O.mul y (product_list O ys)))
 
   module _ (domain : HasNoZeroDivisors O) where

@@ -6,7 +6,7 @@ use Rattle.p3_theory.specs.Rings.Ring.{Ops, RingLaws, ring_of}
 use Rattle.p3_theory.specs.Rings.Powers.{power}
 use Rattle.p3_theory.specs.Rings.PowerChains.{power-power}
 use Rattle.p3_theory.specs.Rings.PowerProducts.{power_of_one}
-use Rattle.p3_theory.specs.Rings.Basics.{mul-zero}
+use Rattle.p3_theory.specs.Rings.Basics.{zero-mul}
 use Rattle.p3_theory.specs.ResidueRings.Residues.{IsResidues, residue_ops, residue_laws, same_canon}
 use Rattle.p3_theory.specs.Roots.ValueLists.{ValueList, values-residues}
 use Rattle.p3_theory.specs.Rings.ZeroDivisors.{HasNoZeroDivisors}
@@ -28,7 +28,7 @@ module _ {A : Type 0} {O : Ops A} (l : RingLaws O) {n : ℕ} (values : ValueList
   pub power_undone : (a b : ℕ) → AreInverseExponents n a b → (x : A) → power O (power O x a) b ≡ x
   power_undone a b e x =
       power-power l x a b ∙ ap (power O x) e.1 ∙ elim (tell x) [
-        | inl zero ↦ ap (λ z. O.mul z (power O x ((n - 1) * e.0))) zero ∙ l.mul_comm O.zero _ ∙ mul-zero (ring_of l) _ ∙ sym zero
+        | inl zero ↦ ap (λ z. O.mul z (power O x ((n - 1) * e.0))) zero ∙ zero-mul (ring_of l) _ ∙ sym zero
         | inr other ↦
             ap (O.mul x) (sym (power-power l x (n - 1) e.0) ∙ ap (λ z. power O z e.0) (fermat l domain values x other) ∙ power_of_one l e.0) ∙ l.mul_one x
       ]

@@ -1,8 +1,7 @@
-use Rattle.std.proofs.Common.{arith, ap, ◌∙◌}
-use Rattle.p3_theory.specs.Rings.DotProduct.{dot}
+use Rattle.std.proofs.Common.{arith, ◌∙◌}
 use Rattle.p3_theory.specs.Rings.Ring.{ring_of}
-use Rattle.p3_theory.specs.Rings.Basics.{zero-add}
-use Rattle.p3_theory.specs.Lanes.RowRing.{row_ops, row_laws, written_sum, filled}
+use Rattle.p3_theory.specs.Rings.Basics.{add_from_zero}
+use Rattle.p3_theory.specs.Lanes.RowRing.{row_laws, written_sum, filled}
 use Rattle.p3_bench_packed.specs.Values.{packed_rows}
 use Rattle.p3_bench_packed.proofs.LaneDotProducts.{dot-block}
 use Rattle.p3_bench_packed.proofs.dot_products.dot_by_blocks.Goals as goal
@@ -10,11 +9,9 @@ use Rattle.p3_bench_packed.proofs.dot_products.dot_by_blocks.Goals as goal
 pub loop-start-init : goal.loop-start-init
 loop-start-init g c =
     let o = g.F.PrimeCharacteristicRing.ops in
-    let m = g.met.F.PrimeCharacteristicRing in
-    let rows = row_ops packed_rows o in
-    let whole = dot rows c.args.u.now c.args.v.now in (
+    let m = g.met.F.PrimeCharacteristicRing in (
       omega arith,
-      ap (λ z. rows.add z whole) (filled packed_rows o c.new-sum.result _ _ c.new-sum.ensures c.zero.ensures) ∙ zero-add (ring_of (row_laws packed_rows o m.ring)) whole,
+      add_from_zero (ring_of (row_laws packed_rows o m.ring)) _ _ (filled packed_rows o c.new-sum.result _ _ c.new-sum.ensures c.zero.ensures),
     )
 
 pub loop-start-preserved : goal.loop-start-preserved

@@ -1,7 +1,7 @@
 use Rattle.std.proofs.Common.{map}
 use Rattle.p3_theory.specs.Rings.Ring.{ring_of}
+use Rattle.p3_theory.specs.Rings.Basics.{quotient_exact}
 use Rattle.p3_packed.specs.PackedValues.{packed_laws, packed_product}
-use Rattle.p3_packed.specs.Quotients.{quotient_exact}
 use Rattle.p3_packed.proofs.division.quotient.Goals as goal
 
 pub returns : goal.returns
@@ -10,6 +10,6 @@ returns g c =
     let f = g.F.ExtensionAlgebra.modulus in
     let O = g.P.PrimeCharacteristicRing.ops in
     let i = c.inverse_of_lanes.result in
-    quotient_exact (packed_laws (ring_of g.met.P.PrimeCharacteristicRing.ring) g.met.P.Algebra.embeds m.at_least_two f m.monic) c.args.x c.args.y i c.mul.result
+    quotient_exact (ring_of (packed_laws (ring_of g.met.P.PrimeCharacteristicRing.ring) g.met.P.Algebra.embeds m.at_least_two f m.monic)) c.args.x c.args.y i c.mul.result
     c.inverse_of_lanes.ensures
     (packed_product O (map g.P.Algebra.embed f) c.args.x i c.mul.result (g.met.F.ExtensionOverAlgebra.packed_products _ _ _ c.mul.ensures))

@@ -18,14 +18,14 @@ returns-then-count-clause-drawn g c =
     let long : length old ≡ g.row.N = search rules in
     let few : c.take_up_to-count.result < length old = omega (arith, c.if-count.true, long) in
     let P : ℕ → Type 0 = λ n. GivesOtherCount steps n c.args.iter in
-    subst P long (drawn_few steps (length old) c.take_up_to-count.result c.args.iter c.take_up_to-count.new.source old c.take_up_to-count.new.places c.take_up_to-count.ensures.taken few)
+    subst P long (drawn_few steps (length old) c.take_up_to-count.result c.args.iter c.take_up_to-count.new.source old c.take_up_to-count.new.out c.take_up_to-count.ensures.taken few)
 
 pub returns-in-None-clause-all : goal.returns-in-None-clause-all
 returns-in-None-clause-all g c = λ xs y.
     let old = c.args.items in
     let long : length old ≡ g.row.N = search rules in
     let full : length old ≤ c.take_up_to-count.result = omega (arith, c.if-count.false, long) in
-    just_enough g.I.Iterator.next_gives (length old) c.take_up_to-count.result c.args.iter c.take_up_to-count.new.source old c.take_up_to-count.new.places xs
+    just_enough g.I.Iterator.next_gives (length old) c.take_up_to-count.result c.args.iter c.take_up_to-count.new.source old c.take_up_to-count.new.out xs
     c.take_up_to-count.ensures.taken y full refl c.in-None.ensures.steps
 
 pub returns-in-None-clause-drawn : goal.returns-in-None-clause-drawn
@@ -34,7 +34,7 @@ returns-in-None-clause-drawn g c =
     let old = c.args.items in
     let long : length old ≡ g.row.N = search rules in
     let full : length old ≤ c.take_up_to-count.result = omega (arith, c.if-count.false, long) in
-    (drawn_enough steps (length old) c.take_up_to-count.result c.args.iter c.take_up_to-count.new.source old c.take_up_to-count.new.places
+    (drawn_enough steps (length old) c.take_up_to-count.result c.args.iter c.take_up_to-count.new.source old c.take_up_to-count.new.out
     c.take_up_to-count.ensures.taken full refl c.in-None.ensures.steps)
 
 pub returns-clause-all : goal.returns-clause-all
@@ -43,7 +43,7 @@ returns-clause-all g c = λ xs y l.
     let long : length old ≡ g.row.N = search rules in
     let full : length old ≤ c.take_up_to-count.result = omega (arith, c.if-count.false, long) in
     let whole : length xs ≡ length old = omega (arith, l, long) in
-    too_many g.I.Iterator.next_gives (length old) c.take_up_to-count.result c.args.iter c.take_up_to-count.new.source old c.take_up_to-count.new.places xs
+    too_many g.I.Iterator.next_gives (length old) c.take_up_to-count.result c.args.iter c.take_up_to-count.new.source old c.take_up_to-count.new.out xs
     c.take_up_to-count.ensures.taken y full c.in-Some.ensures.steps whole
 
 pub returns-clause-drawn : goal.returns-clause-drawn
@@ -53,4 +53,4 @@ returns-clause-drawn g c =
     let long : length old ≡ g.row.N = search rules in
     let full : length old ≤ c.take_up_to-count.result = omega (arith, c.if-count.false, long) in
     let P : ℕ → Type 0 = λ n. GivesOtherCount steps n c.args.iter in
-    subst P long (drawn_more steps (length old) c.take_up_to-count.result c.args.iter c.take_up_to-count.new.source old c.take_up_to-count.new.places c.take_up_to-count.ensures.taken full c.in-Some.ensures.steps)
+    subst P long (drawn_more steps (length old) c.take_up_to-count.result c.args.iter c.take_up_to-count.new.source old c.take_up_to-count.new.out c.take_up_to-count.ensures.taken full c.in-Some.ensures.steps)

@@ -7,5 +7,5 @@ loop-i-preserved g c = record {
   ready = search rules;
   finite = search rules;
   nearer = omega (arith, c.in-Some.ensures.goes.on c.loop-i.invariant.finite);
-  wrote = wrote_next g.I.Iterator.next_gives _ _ _ _ _ _ _ (omega (arith, c.loop-i.auto.places)) c.in-Some.ensures.steps c.loop-i.invariant.wrote;
+  wrote = wrote_next g.I.Iterator.next_gives _ _ _ _ _ _ _ (omega (arith, c.loop-i.auto.out)) c.in-Some.ensures.steps c.loop-i.invariant.wrote;
 }

@@ -9,6 +9,6 @@ invariant-loop-i g l =
       ready : g.I.Iterator.can_next l.source;
       finite : IsFinite (left l.source);
       nearer : size (left l.source) + l.i ≤ size (left l.initial.source);
-      wrote : (xs : List g.row.T.Denot) × (length xs ≡ l.i) × (l.places ≡ xs ++ drop l.i l.initial.places)
+      wrote : (xs : List g.row.T.Denot) × (length xs ≡ l.i) × (l.out ≡ xs ++ drop l.i l.initial.out)
           × Yields g.I.Iterator.next_gives l.initial.source xs l.source;
     }
