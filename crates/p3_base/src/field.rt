@@ -84,7 +84,7 @@ pub trait Field: PrimeCharacteristicRing + Eq + Display + Div<Output = Self> + D
     /// Adds each entry of the second slice to that of the first at its index. The slices have one
     /// length.
     #[inline]
-    final fn add_slices(slice_1: &mut [Self], slice_2: &[Self])
+    fn add_slices(slice_1: &mut [Self], slice_2: &[Self])
         requires { length slice_1.old ≡ length slice_2.now }
         ensures { slice_1.new ≡ zip_with Self.ops.add slice_1.old slice_2.now }
     {

@@ -328,7 +328,7 @@ pub trait PrimeCharacteristicRing: Copy
     }
 
     /// Whether `mul_slices` of such values goes by vectors: long lists of powers, long polynomials and long lists
-    /// to invert go by sixteen products side by side where it does. This project's own.
+    /// to invert go by 32 products side by side where it does. This project's own.
     #[inline]
     fn multiplies_by_vectors(&self) -> bool {
         false
