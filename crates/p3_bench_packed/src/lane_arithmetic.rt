@@ -4,12 +4,10 @@ ghost use Rattle.std.specs.Prelude.{◌≡◌, ◌<◌, ℕ, length, get_or};
 use p3_bench_prime::form::{Form, Word};
 use p3_bench_prime::fp::Fp;
 use p3_bench_prime::lane_products::lane_products;
+use p3_bench_prime::lane_sums::{SHORT_ORDERS, lane_sums};
 use p3_bench_prime::lane_words::{MOST_LANES, values_of, words_of};
-use p3_kernels::residue_arrays::{add_arrays, subtract_arrays};
+use p3_kernels::residue_arrays::subtract_arrays;
 use std::ops::{Add, Mul, Sub};
-
-/// Orders up to which the words of two residues add up to a word of 32 bits.
-const SHORT_ORDERS: u64 = 0x8000_0000;
 
 /// A type with sums, differences and products of N values at once. This project's own.
 pub trait LaneArithmetic<const N: usize>: Copy
@@ -30,20 +28,6 @@ pub trait LaneArithmetic<const N: usize>: Copy
     fn lane_products(left: &[Self; N], right: &[Self; N]) -> [Self; N]
         ensures length { length result ≡ N }
         ensures lanes { (d : Self) (k : ℕ) → k < N → Self.mul_gives (get_or left.now k d) (get_or right.now k d) (get_or result k d) };
-}
-
-/// The sums, one after the other.
-#[inline(always)]
-fn sums_by_index<F: Copy + Add<Output = F>, const N: usize>(left: &[F; N], right: &[F; N]) -> [F; N]
-    requires { (d : F) (k : ℕ) → k < N → F.can_add (get_or left.now k d) (get_or right.now k d) }
-    ensures length { length result ≡ N }
-    ensures lanes { (d : F) (k : ℕ) → k < N → F.add_gives (get_or left.now k d) (get_or right.now k d) (get_or result k d) }
-{
-    let mut sums = *left;
-    for i in 0..N {
-        sums[i] = left[i] + right[i];
-    }
-    sums
 }
 
 /// The differences, one after the other.
@@ -68,14 +52,7 @@ fn differences_by_index<F: Copy + Sub<Output = F>, const N: usize>(
 impl<W: Form<T>, T: Word, const N: usize> LaneArithmetic<N> for Fp<W, T> {
     #[inline(always)]
     fn lane_sums(left: &[Self; N], right: &[Self; N]) -> [Self; N] {
-        if W::ORDER < SHORT_ORDERS && N <= MOST_LANES {
-            let x = words_of::<W, T, N>(left);
-            let y = words_of::<W, T, N>(right);
-            let sums = add_arrays::<N>(&x, &y, W::ORDER as u32);
-            values_of::<W, T, N>(&sums)
-        } else {
-            sums_by_index::<Self, N>(left, right)
-        }
+        lane_sums::<W, T, N>(left, right)
     }
 
     #[inline(always)]

@@ -4,6 +4,7 @@ ghost use Rattle.std.specs.Prelude.{◌≡◌, ◌≤◌, ◌<◌, ◌*◌, ◌%
 ghost use Rattle.p3_theory.specs.Lists.PairedLists.{zip_with};
 ghost use Rattle.p3_bench_prime.specs.Elements.{canon, ops};
 
+use crate::entrywise::{BLOCK, EntryOperation, take_entrywise};
 use crate::form::{Form, Word};
 use crate::fp::Fp;
 use crate::lane_words::{MOST_LANES, values_of, words_of};
@@ -14,9 +15,6 @@ use std::ops::Mul;
 
 /// Orders up to which products of residues have 16 bits.
 const SMALL_ORDERS: u64 = 0x100;
-
-/// How many products of a slice go at once.
-const BLOCK: usize = 16;
 
 /// The products, one after the other.
 #[inline(always)]
@@ -95,41 +93,25 @@ pub(crate) fn by_vectors<W: Form<T>, T: Word>() -> bool {
     W::INVERSE > 0 || W::PLAIN && W::ORDER <= SMALL_ORDERS
 }
 
-/// How many blocks of sixteen, of so many values, are multiplied by vectors.
-#[inline(always)]
-fn blocks_by_vectors<W: Form<T>, T: Word>(count: usize) -> usize
-    ensures { 16 * result ≤ count }
-{
-    if by_vectors::<W, T>() {
-        count / BLOCK
-    } else {
-        0
-    }
-}
+/// The product, which goes by vectors where `lane_products` does.
+pub(crate) struct Products;
 
-/// Writes the values over as many others, one after the other: of a copy at once the compiler would store the values
-/// twice.
-#[inline(always)]
-fn write_values<F: Copy, const N: usize>(out: &mut [F], values: &[F; N])
-    requires { length out.old ≡ N }
-    ensures { out.new ≡ values.now }
-{
-    for i in 0..N {
-        out[i] = values[i];
-    }
-}
+impl<W: Form<T>, T: Word> EntryOperation<Fp<W, T>> for Products {
+    ghost use Rattle.p3_bench_prime.specs.Elements.{of, ops};
 
-/// Multiplies each of sixteen values by that of the other slice at its index.
-#[inline(always)]
-fn multiply_block<W: Form<T>, T: Word>(left: &mut [Fp<W, T>], right: &[Fp<W, T>])
-    requires left { length left.old ≡ 16 }
-    requires right { length right.now ≡ 16 }
-    ensures { left.new ≡ zip_with (ops W.Form).mul left.old right.now }
-{
-    let x = <[Fp<W, T>; BLOCK]>::from_slice(left);
-    let y = <[Fp<W, T>; BLOCK]>::from_slice(right);
-    let products = lane_products::<W, T, BLOCK>(&x, &y);
-    write_values::<Fp<W, T>, BLOCK>(left, &products);
+    ghost gives = { (ops W.Form).mul };
+
+    ghost past_the_end = { of W.Form 0 };
+
+    #[inline(always)]
+    fn of_values(left: Fp<W, T>, right: Fp<W, T>) -> Fp<W, T> {
+        left * right
+    }
+
+    #[inline(always)]
+    fn of_blocks(left: &[Fp<W, T>; BLOCK], right: &[Fp<W, T>; BLOCK]) -> [Fp<W, T>; BLOCK] {
+        lane_products::<W, T, BLOCK>(left, right)
+    }
 }
 
 /// Multiplies each value by that of the other slice at its index: sixteen at a time where products go by vectors,
@@ -139,15 +121,5 @@ pub(crate) fn multiply_values<W: Form<T>, T: Word>(left: &mut [Fp<W, T>], right:
     requires { length left.old ≡ length right.now }
     ensures { left.new ≡ zip_with (ops W.Form).mul left.old right.now }
 {
-    let blocks = blocks_by_vectors::<W, T>(left.len());
-    for block in 0..blocks {
-        let start = BLOCK * block;
-        multiply_block(
-            &mut left[start..start + BLOCK],
-            &right[start..start + BLOCK],
-        );
-    }
-    for i in BLOCK * blocks..left.len() {
-        left[i] *= right[i];
-    }
+    take_entrywise::<Products, Fp<W, T>>(left, right, by_vectors::<W, T>());
 }

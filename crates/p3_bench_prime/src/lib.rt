@@ -5,6 +5,7 @@
 pub mod baby_bear;
 pub mod binomial_constants;
 pub mod complex_tower;
+mod entrywise;
 pub mod extensions;
 pub mod form;
 pub mod fp;
@@ -12,6 +13,7 @@ mod fp_bounds;
 pub mod goldilocks;
 pub mod koala_bear;
 pub mod lane_products;
+pub mod lane_sums;
 pub mod lane_words;
 pub mod monomials;
 pub mod montgomery;

@@ -1,5 +1,5 @@
 use Rattle.std.proofs.Common.{◌≡◌, ◌<◌, ℕ, length, get_or}
-use Rattle.p3_bench_packed.proofs.lane_arithmetic.sums_by_index.Given as goal
+use Rattle.p3_bench_prime.proofs.lane_sums.sums_by_index.Given as goal
 
 abbrev pub invariant-loop-i : goal.invariant-loop-i
 invariant-loop-i g l =

@@ -1,6 +1,6 @@
 use Rattle.std.proofs.Common.{rules, get_or, ◌≡◌, ◌<◌, ◌+◌, ◌%◌, ◌^◌, ◌∙◌, ℕ, subst, sym}
 use Rattle.p3_bench_prime.proofs.LaneValues.{value_of_sum, words_below}
-use Rattle.p3_bench_packed.proofs.lane_arithmetic.FpLaneArithmetic.lane_sums.Goals as goal
+use Rattle.p3_bench_prime.proofs.lane_sums.lane_sums.Goals as goal
 
 pub add_arrays-sums-requires : goal.add_arrays-sums-requires
 add_arrays-sums-requires g c =
