@@ -327,8 +327,8 @@ pub trait PrimeCharacteristicRing: Copy
         sum
     }
 
-    /// Whether `mul_slices` of such values goes by vectors: long lists of powers, long polynomials and long lists
-    /// to invert go by 32 products side by side where it does. This project's own.
+    /// Whether `mul_slices` of such values goes by vectors: where it does, long lists of powers and of values to
+    /// invert go by 32 products side by side, and long polynomials by blocks. This project's own.
     #[inline]
     fn multiplies_by_vectors(&self) -> bool {
         false
