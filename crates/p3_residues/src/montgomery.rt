@@ -2,25 +2,27 @@
 ghost use Rattle.std.specs.Prelude.{◌≡◌, ◌<◌, ◌+◌, ◌*◌, ◌%◌, ◌^◌};
 
 use crate::remainder::remainder_of_sum;
-use crate::short_words::{reduce_once, subtract_with_borrow};
 
-/// The residue that is `low + 2^32 * high` once it is multiplied by 2^32. The inverse is that of the
-/// order modulo 2^32: it gives a multiple of the order that ends in the 32 bits of `low`, so that
-/// the difference of both is what stands above these bits.
+/// What stands above 32 bits of a number less a multiple of the order that ends in the same 32 bits, and of the order
+/// more there where the difference borrows.
 #[inline]
-pub fn montgomery_reduce(low: u32, high: u32, order: u32, inverse: u32) -> u32
+fn subtract_multiple(number: u64, multiple: u64, order: u32) -> u32
     requires fits { order < 2 ^ 31 }
-    requires inverse { (order * inverse) % 2 ^ 32 ≡ 1 }
-    requires high { high < order }
+    requires same_end { number % 2 ^ 32 ≡ multiple % 2 ^ 32 }
+    requires number { number < order * 2 ^ 32 }
+    requires multiple { multiple < order * 2 ^ 32 }
     ensures below { result < order }
-    ensures value { (result * 2 ^ 32) % order ≡ (low + 2 ^ 32 * high) % order }
+    ensures value { (result * 2 ^ 32 + multiple) % order ≡ number % order }
 {
-    let factor = low.wrapping_mul(inverse);
-    let multiple = (factor as u64 * order as u64 >> 32) as u32;
-    subtract_with_borrow(high, multiple, order)
+    let (difference, borrowed) = number.overflowing_sub(multiple);
+    let back = difference.wrapping_add((order as u64) << 32);
+    let kept = if borrowed { back } else { difference };
+    (kept >> 32) as u32
 }
 
-/// The residue that is a number below 2^32 times the order once it is multiplied by 2^32.
+/// The residue that is a number below 2^32 times the order once it is multiplied by 2^32. The inverse is that of the
+/// order modulo 2^32: it gives a multiple of the order that ends in the low 32 bits of the number, so that the
+/// difference of both is what stands above these bits.
 #[inline]
 pub fn montgomery_reduce_word(number: u64, order: u32, inverse: u32) -> u32
     requires fits { order < 2 ^ 31 }
@@ -29,9 +31,8 @@ pub fn montgomery_reduce_word(number: u64, order: u32, inverse: u32) -> u32
     ensures below { result < order }
     ensures value { (result * 2 ^ 32) % order ≡ number % order }
 {
-    let low = (number & 0xffff_ffff) as u32;
-    let high = (number >> 32) as u32;
-    montgomery_reduce(low, high, order, inverse)
+    let factor = ((number & 0xffff_ffff) as u32).wrapping_mul(inverse);
+    subtract_multiple(number, factor as u64 * order as u64, order)
 }
 
 /// The residue that is the product of both words once it is multiplied by 2^32.
@@ -68,13 +69,13 @@ pub fn montgomery_sum(sum: u128, order: u32, inverse: u32) -> u32
     ensures below { result < order }
     ensures value { (result * 2 ^ 32) % order ≡ sum % order }
 {
-    let low = (sum & 0xffff_ffff) as u32;
+    let low = (sum & 0xffff_ffff) as u64;
     let high = remainder_of_sum(sum >> 32, order);
-    montgomery_reduce(low, high, order, inverse)
+    montgomery_reduce_word(low + 0x1_0000_0000 * high as u64, order, inverse)
 }
 
-/// The residue that is a sum of at most four products of residues once it is multiplied by 2^32. What
-/// stands above the low 32 bits of such a sum is below twice the order.
+/// The residue that is a sum of at most four products of residues once it is multiplied by 2^32. Such a sum is below
+/// twice 2^32 times the order, which is taken off where it can be.
 #[inline]
 pub fn montgomery_short_sum(sum: u64, order: u32, inverse: u32) -> u32
     requires fits { order < 2 ^ 31 }
@@ -83,7 +84,7 @@ pub fn montgomery_short_sum(sum: u64, order: u32, inverse: u32) -> u32
     ensures below { result < order }
     ensures value { (result * 2 ^ 32) % order ≡ sum % order }
 {
-    let low = (sum & 0xffff_ffff) as u32;
-    let high = reduce_once((sum >> 32) as u32, order);
-    montgomery_reduce(low, high, order, inverse)
+    let (less, borrowed) = sum.overflowing_sub((order as u64) << 32);
+    let number = if borrowed { sum } else { less };
+    montgomery_reduce_word(number, order, inverse)
 }

@@ -18,18 +18,6 @@ pub fn add_words(left: u32, right: u32, order: u32) -> u32
     sum.min(sum.wrapping_sub(order))
 }
 
-/// A word below twice the order, modulo the order: of the word and that less the order, wrapping, the
-/// smaller one.
-#[inline]
-pub fn reduce_once(word: u32, order: u32) -> u32
-    requires fits { order < 2 ^ 31 }
-    requires below { word < order + order }
-    ensures below { result < order }
-    ensures value { result ≡ word % order }
-{
-    word.min(word.wrapping_sub(order))
-}
-
 /// The difference of two residues: of the wrapping difference and that with the order more the smaller
 /// one, which vectors have as one step.
 #[inline]
@@ -42,21 +30,6 @@ pub fn subtract_words(left: u32, right: u32, order: u32) -> u32
 {
     let difference = left.wrapping_sub(right);
     difference.min(difference.wrapping_add(order))
-}
-
-/// The same difference by the borrow of the subtraction, which is the shortest way of a single residue; vectors,
-/// which have no borrow, go the other way.
-#[inline]
-pub(crate) fn subtract_with_borrow(left: u32, right: u32, order: u32) -> u32
-    requires fits { order < 2 ^ 31 }
-    requires left { left < order }
-    requires right { right < order }
-    ensures below { result < order }
-    ensures value { result ≡ (left + (order - right)) % order }
-{
-    let (difference, borrowed) = left.overflowing_sub(right);
-    let back = if borrowed { order } else { 0 };
-    difference.wrapping_add(back)
 }
 
 /// The negation of a residue.

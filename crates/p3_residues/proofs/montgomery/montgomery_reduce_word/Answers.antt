@@ -1,10 +1,13 @@
-use Rattle.std.proofs.Common.{◌+◌, ◌*◌, ◌/◌, ◌%◌, ◌^◌, ap, ◌∙◌}
-use Rattle.std.proofs.Math.Nat.{mod-add-div}
+use Rattle.std.proofs.Common.{◌*◌, ◌%◌, ◌^◌, ap, sym, ◌∙◌}
 use Rattle.std.proofs.lemmas.Nat.{and_mask}
+use Rattle.p3_residues.proofs.Reductions.{same_end, without_multiple}
 use Rattle.p3_residues.proofs.montgomery.montgomery_reduce_word.Goals as goal
 
+pub subtract_multiple-requires-clause-same_end : goal.subtract_multiple-requires-clause-same_end
+subtract_multiple-requires-clause-same_end c =
+    let p = c.args.order in
+    let i = c.args.inverse in
+    same_end p i c.args.number c.requires.inverse ∙ ap (λ low. ((low * i) % 2 ^ 32 * p) % 2 ^ 32) (sym (and_mask c.args.number 32))
+
 pub returns-clause-value : goal.returns-clause-value
-returns-clause-value c =
-    let number = c.args.number in
-    let order = c.args.order in
-    c.montgomery_reduce.ensures.value ∙ ap (λ l. (l + 2 ^ 32 * (number / 2 ^ 32)) % order) (and_mask number 32) ∙ ap (λ z. z % order) (mod-add-div number (2 ^ 32))
+returns-clause-value c = without_multiple c.args.order (c.subtract_multiple.result * 2 ^ 32) _ c.args.number c.subtract_multiple.ensures.value

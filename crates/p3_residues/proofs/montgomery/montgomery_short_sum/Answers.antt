@@ -1,12 +1,18 @@
-use Rattle.std.proofs.Common.{◌+◌, ◌*◌, ◌/◌, ◌%◌, ◌^◌, ap, ap₂, ◌∙◌}
-use Rattle.std.proofs.Math.Nat.{mod-add-div}
-use Rattle.std.proofs.lemmas.Nat.{and_mask}
-use Rattle.p3_residues.proofs.Reductions.{high_reduced}
+use Rattle.std.proofs.Common.{◌≡◌, ◌+◌, ◌*◌, ◌%◌, ◌^◌, ◌≤◌, arith, ap, sym, subst, ◌∙◌}
+use Rattle.std.proofs.Math.Nat.{add-mul-mod_self_left}
+use Rattle.std.specs.Bool.{FalseIff}
 use Rattle.p3_residues.proofs.montgomery.montgomery_short_sum.Goals as goal
+use Rattle.p3_residues.proofs.montgomery.montgomery_short_sum.Goals.{then-borrowed, else-borrowed}
 
 pub returns-clause-value : goal.returns-clause-value
 returns-clause-value c =
-    let sum = c.args.sum in
-    let order = c.args.order in
-    c.montgomery_reduce.ensures.value ∙ ap₂ (λ l h. (l + 2 ^ 32 * h) % order) (and_mask sum 32) c.reduce_once-high.ensures.value
-    ∙ high_reduced order (sum % 2 ^ 32) (sum / 2 ^ 32) ∙ ap (λ z. z % order) (mod-add-div sum (2 ^ 32))
+    let p = c.args.order in
+    let d = c.overflowing_sub-less in
+    let number = c.if-borrowed.number in
+    c.montgomery_reduce_word.ensures.value ∙ elim c.if-borrowed.branch [
+      | then-borrowed w ↦ ap (λ z. z % p) w.number-is
+      | else-borrowed w ↦
+          let fits = subst (λ b. FalseIff b ((p * 2 ^ 32) % 2 ^ 64 ≤ c.args.sum)) w.if-borrowed.false d.ensures.overflow in
+          let e : c.args.sum ≡ number + p * 2 ^ 32 = omega (arith, fits, w.number-is, d.ensures.value, d.type_inv, c.requires.fits) in
+          sym (ap (λ z. z % p) e ∙ add-mul-mod_self_left number p (2 ^ 32))
+    ]
