@@ -53,7 +53,8 @@ pub fn add_residues(a: u64, b: u64) -> u64
     less.wrapping_add(back)
 }
 
-/// The difference of two residues.
+/// The difference of two residues: where it borrows 2^64, the order is 2^32 - 1 less than that. Written so, vectors of
+/// four take the loop.
 #[inline]
 pub fn subtract_residues(a: u64, b: u64) -> u64
     requires left { a < P }
@@ -61,7 +62,9 @@ pub fn subtract_residues(a: u64, b: u64) -> u64
     ensures below { result < P }
     ensures value { result ≡ (a + (P - b)) % P }
 {
-    if a < b { a + (P - b) } else { a - b }
+    let (difference, borrowed) = a.overflowing_sub(b);
+    let too_much = if borrowed { 0xffff_ffff } else { 0 };
+    difference.wrapping_sub(too_much)
 }
 
 /// The remainder of a number that is given by its halves: modulo the order 2^64 is 2^32 - 1.
