@@ -1,6 +1,6 @@
 -- Montgomery's reduction modulo p, whose inverse modulo 2^32 is i.
-use Rattle.std.proofs.Common.{◌≡◌, ◌<◌, ◌≤◌, ◌+◌, ◌-◌, ◌*◌, ◌%◌, ◌^◌, ℕ, ap, arith, ◌∙◌, sym}
-use Rattle.std.proofs.Math.Nat.{add-mul-mod_self_left, mod-mod, mul-le-mul, mul-one}
+use Rattle.std.proofs.Common.{◌≡◌, ◌<◌, ◌≤◌, ◌+◌, ◌-◌, ◌*◌, ◌/◌, ◌%◌, ◌^◌, ℕ, ap, arith, ◌∙◌, sym}
+use Rattle.std.proofs.Math.Nat.{add-mul-mod_self_left, mod-add-div, mod-eq_of_lt, mod-lt, mul-le-mul, mul-one}
 use Rattle.std.proofs.lemmas.Nat.{mul-mod_first, mul-mod_second}
 use Rattle.p3_theory.specs.ResidueRings.Modular.{add-mod_second}
 
@@ -10,24 +10,42 @@ product_below p w v h k =
     let most = mul-le-mul (let a : w ≤ p - 1 = omega (arith, h) in a) (let b : v ≤ 4294967295 = omega (arith, k) in b) in
     omega (arith, most, h)
 
-module _ (p i n : ℕ) (inverse : (p * i) % 2 ^ 32 ≡ 1) where
-  -- the low word times the inverse
-  abbrev pub factor : ℕ
-  factor = (n % 2 ^ 32 * i) % 2 ^ 32
+module _ (p i low : ℕ) (inverse : (p * i) % 2 ^ 32 ≡ 1) (word : low < 2 ^ 32) (positive : 0 < p) where
+  abbrev factor : ℕ
+  factor = (low * i) % 2 ^ 32
 
-  -- the multiple of p by the factor ends in the bits of n
-  pub same_end : n % 2 ^ 32 ≡ (factor * p) % 2 ^ 32
+  -- the multiple of p by the factor ends in the bits of `low`
+  pub same_end : (factor * p) % 2 ^ 32 ≡ low
   same_end =
-      let low = n % 2 ^ 32 in
       let regrouped : low * i * p ≡ low * (p * i) = omega arith in
-      sym (mul-mod_first (low * i) p (2 ^ 32) ∙ ap (λ z. z % 2 ^ 32) regrouped ∙ sym (mul-mod_second low (p * i) (2 ^ 32))
-      ∙ ap (λ z. (low * z) % 2 ^ 32) inverse ∙ ap (λ z. z % 2 ^ 32) (mul-one low) ∙ mod-mod n (2 ^ 32))
+      mul-mod_first (low * i) p (2 ^ 32) ∙ ap (λ z. z % 2 ^ 32) regrouped ∙ sym (mul-mod_second low (p * i) (2 ^ 32))
+      ∙ ap (λ z. (low * z) % 2 ^ 32) inverse ∙ ap (λ z. z % 2 ^ 32) (mul-one low) ∙ mod-eq_of_lt word
 
--- a multiple of p by a word is below p times 2^32
-pub multiple_below : (p f : ℕ) → 0 < p → f < 2 ^ 32 → f * p < p * 2 ^ 32
-multiple_below p f positive h =
-    let most = mul-le-mul (let a : f ≤ 4294967295 = omega (arith, h) in a) (let b : p ≤ p = omega arith in b) in
-    omega (arith, most, positive)
+  multiple_is : factor * p ≡ low + 2 ^ 32 * (factor * p / 2 ^ 32)
+  multiple_is = let e = mod-add-div (factor * p) (2 ^ 32) in omega (arith, e, same_end)
+
+  factor_below : factor < 2 ^ 32
+  factor_below = mod-lt (low * i) (omega arith)
+
+  -- what stands above these bits is below p
+  pub multiple_below : factor * p / 2 ^ 32 < p
+  multiple_below =
+      let most = mul-le-mul (let a : factor ≤ 4294967295 = omega (arith, factor_below) in a) (let b : p ≤ p = omega arith in b) in
+      omega (arith, most, multiple_is, positive)
+
+  -- a number less it, without these bits
+  less_multiple : (high u f k : ℕ) → f * p ≡ low + 2 ^ 32 * u → u < p → f + k ≡ 2 ^ 32 → (high + (p - u)) * 2 ^ 32 ≡ (low + 2 ^ 32 * high) + p * k
+  less_multiple high u f k whole below e =
+      let full : p * (f + k) ≡ p * 2 ^ 32 = ap (λ z. p * z) e in
+      omega (arith, whole, below, full)
+
+  pub reduced : (high t : ℕ) → t ≡ (high + (p - factor * p / 2 ^ 32)) % p → (t * 2 ^ 32) % p ≡ (low + 2 ^ 32 * high) % p
+  reduced high t e =
+      let u = factor * p / 2 ^ 32 in
+      let k = 2 ^ 32 - factor in
+      ap (λ z. (z * 2 ^ 32) % p) e ∙ mul-mod_first (high + (p - u)) (2 ^ 32) p
+      ∙ ap (λ z. z % p) (less_multiple high u factor k multiple_is multiple_below (omega (arith, factor_below)))
+      ∙ add-mul-mod_self_left (low + 2 ^ 32 * high) p k
 
 -- modulo p its multiples count nothing
 pub without_multiple : (p t f n : ℕ) → (t + f * p) % p ≡ n % p → t % p ≡ n % p
