@@ -2,11 +2,13 @@
 ghost use Rattle.std.specs.Prelude.{◌≡◌, ◌<◌, ◌≤◌, ◌*◌, ℕ, length, get_or};
 ghost use Rattle.p3_theory.specs.Lists.PairedLists.{zip_with};
 
+use p3_integers::packed_value::{Packable, PackedValue};
+
 /// How many entries go at once.
 pub(crate) const BLOCK: usize = 16;
 
 /// An operation of two values, which sixteen values and sixteen others can go through at once.
-pub(crate) trait EntryOperation<F: Copy> {
+pub(crate) trait EntryOperation<F: Packable + Copy> {
     /// What it gives of two values.
     ghost gives: { F → F → F };
 
@@ -37,7 +39,7 @@ fn write_values<F: Copy, const N: usize>(out: &mut [F], values: &[F; N])
 
 /// Takes the operation of sixteen values and those of the other slice, and writes what it gives over the first ones.
 #[inline(always)]
-fn take_block<O: EntryOperation<F>, F: Copy>(left: &mut [F], right: &[F])
+fn take_block<O: EntryOperation<F>, F: Packable + Copy>(left: &mut [F], right: &[F])
     requires left { length left.old ≡ 16 }
     requires right { length right.now ≡ 16 }
     ensures { left.new ≡ zip_with O.gives left.old right.now }
@@ -59,7 +61,7 @@ fn blocks_of(count: usize, by_vectors: bool) -> usize
 /// Takes the operation of each value and that of the other slice at its index, and writes what it gives over the
 /// first: where vectors serve, sixteen at a time and the rest one after the other.
 #[inline]
-pub(crate) fn take_entrywise<O: EntryOperation<F>, F: Copy>(
+pub(crate) fn take_entrywise<O: EntryOperation<F>, F: Packable + Copy>(
     left: &mut [F],
     right: &[F],
     by_vectors: bool,

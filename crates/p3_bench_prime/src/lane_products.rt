@@ -8,7 +8,6 @@ use crate::entrywise::{BLOCK, EntryOperation, take_entrywise};
 use crate::form::{Form, Word};
 use crate::fp::Fp;
 use crate::lane_words::{MOST_LANES, values_of, words_of};
-use p3_integers::packed_value::PackedValue;
 use p3_kernels::montgomery_slices::multiply_arrays;
 use p3_kernels::small_products::multiply_small_arrays;
 use std::ops::Mul;

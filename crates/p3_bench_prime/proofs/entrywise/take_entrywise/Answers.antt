@@ -50,7 +50,7 @@ loop-i-preserved g c =
       long = search (rules, held.long);
       taken = updated-more (λ j. give (get_or first j d) (get_or other j d)) d first old i c.of_values.result inside held.taken
           (c.of_values.ensures
-          ∙ ap₂ give (sym x.is ∙ sym (read_at old i x.result d inside x.is) ∙ held.taken.1 i (omega arith)) (sym (read_at other i y.result d beside y.is)));
+          ∙ ap₂ give (sym (read_at old i x.result d inside x.is) ∙ held.taken.1 i (omega arith)) (sym (read_at other i y.result d beside y.is)));
     }
 
 pub returns : goal.returns
