@@ -1,4 +1,4 @@
-use Rattle.std.proofs.Common.{◌<◌, ◌%◌, ◌^◌, ap, arith, ◌∙◌}
+use Rattle.std.proofs.Common.{◌%◌, ◌^◌, ap, arith, ◌∙◌}
 use Rattle.p3_residues.specs.Montgomery.{montgomery_canon, sum_reduced}
 use Rattle.p3_bench_prime.proofs.montgomery.dot_of_words.Goals as goal
 

@@ -1,4 +1,4 @@
-use Rattle.std.proofs.Common.{◌<◌, ◌*◌, ◌%◌, ◌^◌, ap₂, arith, ◌∙◌}
+use Rattle.std.proofs.Common.{◌*◌, ◌%◌, ◌^◌, ap₂, ◌∙◌}
 use Rattle.p3_residues.specs.Montgomery.{residue_reduced}
 use Rattle.p3_bench_prime.proofs.montgomery.MontgomeryFormU32.decode.Goals as goal
 
