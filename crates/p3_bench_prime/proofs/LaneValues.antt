@@ -55,10 +55,12 @@ module _ {W T : Type 0} (form : forms.Ghosts W T) {bounds : words.Ghosts T} wher
         (by_number r ∙ sum_reduced form.ORDER s form.scale undone number (number r) xs ys r.below e
         ∙ (λ ι. sum_of_products (λ x. sym (by_number x) ι) xs ys % form.ORDER) ∙ ap (λ m. m % form.ORDER) (once _))
 
-  -- words of values are below the order
-  pub words_below : (n : ℕ) (ws : List ℕ) (xs : List (Fp W T form bounds)) → ((d : ℕ) (x : Fp W T form bounds) (k : ℕ) → k < n → get_or ws k d ≡ number (get_or xs k x))
-      → (d k : ℕ) → k < n → get_or ws k d < form.ORDER
-  words_below n ws xs h d k l = let x = of form {bounds = bounds} 0 in subst (λ v. v < form.ORDER) (sym (h d x k l)) (get_or xs k x).below
+  -- words of values are below the order, which is p
+  pub words_below : (p n : ℕ) → p ≡ form.ORDER → (ws : List ℕ) (xs : List (Fp W T form bounds))
+      → ((d : ℕ) (x : Fp W T form bounds) (k : ℕ) → k < n → get_or ws k d ≡ number (get_or xs k x)) → (k : ℕ) → k < n → get_or ws k 0 < p
+  words_below p n e ws xs h k l =
+      let x = of form {bounds = bounds} 0 in
+      subst (λ o. get_or ws k 0 < o) (sym e) (subst (λ v. v < form.ORDER) (sym (h 0 x k l)) (get_or xs k x).below)
 
   -- and so are those of rows of values, after which there may be rows of zeros
   pub rows_below : (n : ℕ) (ws : List (List ℕ)) (xs : List (List (Fp W T form bounds)))

@@ -1,14 +1,14 @@
 //! Residues in Montgomery's form: the word holds the residue times 2^32.
-ghost use Rattle.std.specs.Prelude.{◌≡◌, ◌<◌, ◌*◌, ◌%◌, ◌^◌, ℕ, All, false, length, refl, ⊤};
+ghost use Rattle.std.specs.Prelude.{◌≡◌, ◌<◌, ◌≤◌, ◌+◌, ◌*◌, ◌%◌, ◌^◌, ℕ, All, false, length, refl, ⊤};
 ghost use Rattle.p3_theory.specs.ResidueRings.SumsOfProducts.{sum_of_products};
-ghost use Rattle.p3_bench_prime.specs.Elements.{canon};
+ghost use Rattle.p3_bench_prime.specs.Elements.{canon, word_number};
 
 use crate::form::{Form, Order, OverModulus, ShortForm, add_short};
 use crate::fp::Fp;
 use crate::short_sums::{ShortWord, sum_last_products, sum_products};
 use p3_residues::montgomery::{
-    montgomery_product, montgomery_reduce_word, montgomery_residue, montgomery_short_sum,
-    montgomery_sum,
+    montgomery_pair_of_sums, montgomery_product, montgomery_reduce_word, montgomery_residue,
+    montgomery_short_sum, montgomery_sum,
 };
 use p3_residues::remainder::remainder_of_sum;
 use p3_residues::short_words::{add_words, halve_word, negate_word, subtract_words};
@@ -96,6 +96,48 @@ fn reduced_short_sum<M: MontgomeryModulus>(sum: u64) -> u32
     ensures value { (result * 2 ^ 32) % M.ORDER ≡ sum % M.ORDER }
 {
     montgomery_short_sum(sum, M::ORDER, M::INVERSE)
+}
+
+/// The residue that is what two sums of at most four products of residues add up to once it is multiplied by 2^32.
+#[inline]
+fn reduced_pair_of_sums<M: MontgomeryModulus>(first: u64, last: u64) -> u32
+    requires first { first < 2 ^ 33 * M.ORDER }
+    requires last { last < 2 ^ 33 * M.ORDER }
+    ensures below { result < M.ORDER }
+    ensures value { (result * 2 ^ 32) % M.ORDER ≡ (first + last) % M.ORDER }
+{
+    montgomery_pair_of_sums(first, last, M::ORDER, M::INVERSE)
+}
+
+/// The word of the sum of the products of at most four residues: of two of them it is below 2^32 times the order.
+#[inline]
+fn dot_of_four<M: MontgomeryModulus>(u: &[Fp<Montgomery<M>>], v: &[Fp<Montgomery<M>>]) -> u32
+    requires lengths { length u.now ≡ length v.now }
+    requires few { length u.now ≤ 4 }
+    ensures below { result < M.ORDER }
+    ensures value { (result * 2 ^ 32) % M.ORDER ≡ sum_of_products word_number u.now v.now % M.ORDER }
+{
+    let sum = sum_last_products(u, v, 0);
+    if u.len() <= 2 {
+        reduced_pair_sum::<M>(sum)
+    } else {
+        reduced_short_sum::<M>(sum)
+    }
+}
+
+/// The word of the sum of the products of five to eight residues, of which the first four and the others are summed up
+/// in 64 bits each.
+#[inline]
+fn dot_of_eight<M: MontgomeryModulus>(u: &[Fp<Montgomery<M>>], v: &[Fp<Montgomery<M>>]) -> u32
+    requires lengths { length u.now ≡ length v.now }
+    requires many { 4 < length u.now }
+    requires few { length u.now ≤ 8 }
+    ensures below { result < M.ORDER }
+    ensures value { (result * 2 ^ 32) % M.ORDER ≡ sum_of_products word_number u.now v.now % M.ORDER }
+{
+    let first = sum_last_products(&u[..4], &v[..4], 0);
+    let last = sum_last_products(u, v, 4);
+    reduced_pair_of_sums::<M>(first, last)
 }
 
 /// The form in which a word of 32 bits holds a residue of the order of M times 2^32, as a residue: a
@@ -212,17 +254,14 @@ impl<M: MontgomeryModulus> Form<u32> for Montgomery<M> {
         remainder_of_sum(words, M::ORDER)
     }
 
-    /// The sum of the products of the words, which is reduced once, at the end: in 64 bits where there
-    /// are at most four, of which two are below 2^32 times the order.
+    /// The sum of the products of the words, which is reduced once, at the end: in 64 bits where there are at most
+    /// eight.
     #[inline]
     fn dot_product(u: &[Fp<Self, u32>], v: &[Fp<Self, u32>]) -> u32 {
         if u.len() <= 4 {
-            let sum = sum_last_products(u, v, 0);
-            if u.len() <= 2 {
-                reduced_pair_sum::<M>(sum)
-            } else {
-                reduced_short_sum::<M>(sum)
-            }
+            dot_of_four::<M>(u, v)
+        } else if u.len() <= 8 {
+            dot_of_eight::<M>(u, v)
         } else {
             let sum = sum_products(u, v);
             reduced_sum::<M>(sum)
@@ -256,8 +295,6 @@ impl<M: MontgomeryModulus> ShortForm for Montgomery<M> {
 }
 
 impl<M: MontgomeryModulus> ShortWord for Fp<Montgomery<M>> {
-    ghost use Rattle.p3_bench_prime.specs.Elements.{word_number};
-
     ghost word = { word_number };
 
     #[inline]

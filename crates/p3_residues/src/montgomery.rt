@@ -74,8 +74,20 @@ pub fn montgomery_sum(sum: u128, order: u32, inverse: u32) -> u32
     montgomery_reduce_word(low + 0x1_0000_0000 * high as u64, order, inverse)
 }
 
-/// The residue that is a sum of at most four products of residues once it is multiplied by 2^32. Such a sum is below
-/// twice 2^32 times the order, which is taken off where it can be.
+/// A sum of at most four products of residues, which is below twice 2^32 times the order, less 2^32 times the order where
+/// that can be taken off.
+#[inline]
+fn reduce_short_sum(sum: u64, order: u32) -> u64
+    requires fits { order < 2 ^ 31 }
+    requires short { sum < 2 ^ 33 * order }
+    ensures below { result < order * 2 ^ 32 }
+    ensures value { result % order ≡ sum % order }
+{
+    let (less, borrowed) = sum.overflowing_sub((order as u64) << 32);
+    if borrowed { sum } else { less }
+}
+
+/// The residue that is a sum of at most four products of residues once it is multiplied by 2^32.
 #[inline]
 pub fn montgomery_short_sum(sum: u64, order: u32, inverse: u32) -> u32
     requires fits { order < 2 ^ 31 }
@@ -84,7 +96,21 @@ pub fn montgomery_short_sum(sum: u64, order: u32, inverse: u32) -> u32
     ensures below { result < order }
     ensures value { (result * 2 ^ 32) % order ≡ sum % order }
 {
-    let (less, borrowed) = sum.overflowing_sub((order as u64) << 32);
-    let number = if borrowed { sum } else { less };
+    let number = reduce_short_sum(sum, order);
     montgomery_reduce_word(number, order, inverse)
+}
+
+/// The residue that is what two sums of at most four products of residues add up to once it is multiplied by 2^32.
+#[inline]
+pub fn montgomery_pair_of_sums(first: u64, last: u64, order: u32, inverse: u32) -> u32
+    requires fits { order < 2 ^ 31 }
+    requires inverse { (order * inverse) % 2 ^ 32 ≡ 1 }
+    requires first { first < 2 ^ 33 * order }
+    requires last { last < 2 ^ 33 * order }
+    ensures below { result < order }
+    ensures value { (result * 2 ^ 32) % order ≡ (first + last) % order }
+{
+    let left = reduce_short_sum(first, order);
+    let right = reduce_short_sum(last, order);
+    montgomery_short_sum(left + right, order, inverse)
 }

@@ -1,4 +1,4 @@
-use Rattle.std.proofs.Common.{arith, rules, get_or, ◌≡◌, ◌<◌, ◌*◌, ◌%◌, ◌^◌, ◌∙◌, ℕ, subst, sym}
+use Rattle.std.proofs.Common.{arith, rules, get_or, ◌≡◌, ◌<◌, ◌*◌, ◌%◌, ◌^◌, ◌∙◌, sym}
 use Rattle.p3_bench_prime.proofs.LaneValues.{value_of_product, words_below}
 use Rattle.p3_bench_prime.proofs.lane_products.montgomery_products.Goals as goal
 
@@ -15,8 +15,7 @@ multiply_arrays-products-requires g c =
     let order : c.ORDER.result ≡ w.ORDER = c.ORDER.ensures in
     let fits : c.ORDER.result < 2 ^ 31 = omega (arith, order, form.short) in
     let inverts : (c.ORDER.result * c.INVERSE.result) % 2 ^ 32 ≡ 1 = (λ ι. (order ι * c.INVERSE.ensures ι) % 2 ^ 32) ∙ form.inverts_order in
-    let left : (k : ℕ) → k < g.row.N → get_or c.words_of-x.result k 0 < c.ORDER.result =
-    λ k l. subst (λ p. get_or c.words_of-x.result k 0 < p) (sym order) (words_below w g.row.N c.words_of-x.result c.args.left.now c.words_of-x.ensures.words 0 k l) in
+    let left = words_below w c.ORDER.result g.row.N order c.words_of-x.result c.args.left.now c.words_of-x.ensures.words in
     search (rules, fits, inverts, left)
 
 pub returns-clause-lanes : goal.returns-clause-lanes

@@ -1,4 +1,4 @@
-use Rattle.std.proofs.Common.{arith, rules, get_or, ◌≡◌, ◌<◌, ◌≤◌, ◌*◌, ◌%◌, ◌^◌, ◌∙◌, ℕ, ap, subst, sym}
+use Rattle.std.proofs.Common.{arith, rules, get_or, ◌≡◌, ◌≤◌, ◌*◌, ◌%◌, ◌^◌, ◌∙◌, ap}
 use Rattle.std.proofs.Math.Nat.{mod-mod, mul-one}
 use Rattle.p3_bench_prime.proofs.LaneValues.{own_scale, value_of_product, words_below}
 use Rattle.p3_bench_prime.proofs.lane_products.small_products.Goals as goal
@@ -8,10 +8,8 @@ multiply_small_arrays-products-requires g c =
     let w = g.W.Form in
     let order : c.ORDER.result ≡ w.ORDER = c.ORDER.ensures in
     let fits : c.ORDER.result ≤ 2 ^ 8 = omega (arith, order, c.requires.small) in
-    let left : (k : ℕ) → k < g.row.N → get_or c.words_of-x.result k 0 < c.ORDER.result =
-    λ k l. subst (λ p. get_or c.words_of-x.result k 0 < p) (sym order) (words_below w g.row.N c.words_of-x.result c.args.left.now c.words_of-x.ensures.words 0 k l) in
-    let right : (k : ℕ) → k < g.row.N → get_or c.words_of-y.result k 0 < c.ORDER.result =
-    λ k l. subst (λ p. get_or c.words_of-y.result k 0 < p) (sym order) (words_below w g.row.N c.words_of-y.result c.args.right.now c.words_of-y.ensures.words 0 k l) in
+    let left = words_below w c.ORDER.result g.row.N order c.words_of-x.result c.args.left.now c.words_of-x.ensures.words in
+    let right = words_below w c.ORDER.result g.row.N order c.words_of-y.result c.args.right.now c.words_of-y.ensures.words in
     search (rules, fits, left, right)
 
 pub returns-clause-lanes : goal.returns-clause-lanes

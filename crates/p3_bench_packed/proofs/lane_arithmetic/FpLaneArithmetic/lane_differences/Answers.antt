@@ -1,4 +1,4 @@
-use Rattle.std.proofs.Common.{rules, get_or, ◌≡◌, ◌<◌, ◌+◌, ◌-◌, ◌%◌, ◌^◌, ◌∙◌, ℕ, subst, sym}
+use Rattle.std.proofs.Common.{rules, get_or, ◌≡◌, ◌<◌, ◌+◌, ◌-◌, ◌%◌, ◌^◌, ◌∙◌}
 use Rattle.p3_bench_prime.proofs.LaneValues.{value_of_difference, words_below}
 use Rattle.p3_bench_packed.proofs.lane_arithmetic.FpLaneArithmetic.lane_differences.Goals as goal
 
@@ -7,10 +7,8 @@ subtract_arrays-differences-requires g c =
     let w = g.W.Form in
     let order : c.ORDER-then-this-le-MOST_LANES.result ≡ w.ORDER = c.ORDER-then-this-le-MOST_LANES.ensures in
     let fits : c.ORDER-then-this-le-MOST_LANES.result < 2 ^ 31 = search rules in
-    let left : (k : ℕ) → k < g.row.N → get_or c.words_of-x.result k 0 < c.ORDER-then-this-le-MOST_LANES.result =
-    λ k l. subst (λ p. get_or c.words_of-x.result k 0 < p) (sym order) (words_below w g.row.N c.words_of-x.result c.args.left.now c.words_of-x.ensures.words 0 k l) in
-    let right : (k : ℕ) → k < g.row.N → get_or c.words_of-y.result k 0 < c.ORDER-then-this-le-MOST_LANES.result =
-    λ k l. subst (λ p. get_or c.words_of-y.result k 0 < p) (sym order) (words_below w g.row.N c.words_of-y.result c.args.right.now c.words_of-y.ensures.words 0 k l) in
+    let left = words_below w c.ORDER-then-this-le-MOST_LANES.result g.row.N order c.words_of-x.result c.args.left.now c.words_of-x.ensures.words in
+    let right = words_below w c.ORDER-then-this-le-MOST_LANES.result g.row.N order c.words_of-y.result c.args.right.now c.words_of-y.ensures.words in
     search (rules, fits, left, right)
 
 pub returns-then-this-le-MOST_LANES-clause-lanes : goal.returns-then-this-le-MOST_LANES-clause-lanes
