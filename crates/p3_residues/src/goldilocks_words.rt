@@ -35,8 +35,8 @@ pub fn reduce128(x: u128) -> u64
     };
     let more = middle * 0xffff_ffff;
     let (sum, borrowed) = less.overflowing_sub(P - more);
-    let back = if borrowed { P } else { 0 };
-    sum.wrapping_add(back)
+    let back = sum.wrapping_add(P);
+    if borrowed { back } else { sum }
 }
 
 /// The sum of two residues: the first less what the second lacks of the order, and the order more

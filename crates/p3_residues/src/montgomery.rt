@@ -20,6 +20,23 @@ fn subtract_multiple(number: u64, multiple: u64, order: u32) -> u32
     (kept >> 32) as u32
 }
 
+/// `subtract_multiple` of a sum of products, in 128 bits: of several such differences of 64 bits side by side, as the
+/// coefficients of an extension's product have them, the compiler makes vectors, which take longer.
+#[inline]
+fn subtract_multiple_from_sum(sum: u64, multiple: u64, order: u32) -> u32
+    requires fits { order < 2 ^ 31 }
+    requires same_end { sum % 2 ^ 32 ≡ multiple % 2 ^ 32 }
+    requires sum { sum < order * 2 ^ 32 }
+    requires multiple { multiple < order * 2 ^ 32 }
+    ensures below { result < order }
+    ensures value { (result * 2 ^ 32 + multiple) % order ≡ sum % order }
+{
+    let difference = (sum as u128).wrapping_sub(multiple as u128);
+    let back = difference.wrapping_add((order as u128) << 32);
+    let kept = if difference >> 127 == 1 { back } else { difference };
+    (kept >> 32) as u32
+}
+
 /// The residue that is a number below 2^32 times the order once it is multiplied by 2^32. The inverse is that of the
 /// order modulo 2^32: it gives a multiple of the order that ends in the low 32 bits of the number, so that the
 /// difference of both is what stands above these bits.
@@ -33,6 +50,19 @@ pub fn montgomery_reduce_word(number: u64, order: u32, inverse: u32) -> u32
 {
     let factor = ((number & 0xffff_ffff) as u32).wrapping_mul(inverse);
     subtract_multiple(number, factor as u64 * order as u64, order)
+}
+
+/// `montgomery_reduce_word` of a sum of products.
+#[inline]
+pub fn montgomery_reduce_sum(sum: u64, order: u32, inverse: u32) -> u32
+    requires fits { order < 2 ^ 31 }
+    requires inverse { (order * inverse) % 2 ^ 32 ≡ 1 }
+    requires below { sum < order * 2 ^ 32 }
+    ensures below { result < order }
+    ensures value { (result * 2 ^ 32) % order ≡ sum % order }
+{
+    let factor = ((sum & 0xffff_ffff) as u32).wrapping_mul(inverse);
+    subtract_multiple_from_sum(sum, factor as u64 * order as u64, order)
 }
 
 /// The residue that is the product of both words once it is multiplied by 2^32.
@@ -97,7 +127,7 @@ pub fn montgomery_short_sum(sum: u64, order: u32, inverse: u32) -> u32
     ensures value { (result * 2 ^ 32) % order ≡ sum % order }
 {
     let number = reduce_short_sum(sum, order);
-    montgomery_reduce_word(number, order, inverse)
+    montgomery_reduce_sum(number, order, inverse)
 }
 
 /// The residue that is what two sums of at most four products of residues add up to once it is multiplied by 2^32.
