@@ -1,5 +1,5 @@
 //! Operations on two slices entry by entry, of which sixteen entries go at once.
-ghost use Rattle.std.specs.Prelude.{◌≡◌, ◌<◌, ◌≤◌, ◌*◌, ℕ, length, get_or};
+ghost use Rattle.std.specs.Prelude.{◌≡◌, ◌<◌, ◌≤◌, ◌*◌, ℕ, length, get_or, map};
 ghost use Rattle.p3_theory.specs.Lists.PairedLists.{zip_with};
 
 use p3_integers::packed_value::{Packable, PackedValue};
@@ -79,5 +79,39 @@ pub(crate) fn take_entrywise<O: EntryOperation<F>, F: Packable + Copy>(
     }
     for i in BLOCK * blocks..left.len() {
         left[i] = O::of_values(left[i], right[i]);
+    }
+}
+
+/// What the operation gives of sixteen values and of one other.
+#[inline(always)]
+fn block_with_one<O: EntryOperation<F>, F: Packable + Copy>(values: &[F], other: F) -> [F; BLOCK]
+    requires { length values.now ≡ 16 }
+    ensures { result ≡ map (λ x. O.gives x other) values.now }
+{
+    let x = <[F; BLOCK]>::from_slice(values);
+    let others = [other; BLOCK];
+    O::of_blocks(&x, &others)
+}
+
+/// Writes what the operation gives of each value and of one other to the entry of `out` at the value's index: where
+/// vectors serve, sixteen at a time and the rest one after the other.
+#[inline]
+pub(crate) fn write_with_one<O: EntryOperation<F>, F: Packable + Copy>(
+    values: &[F],
+    other: F,
+    out: &mut [F],
+    by_vectors: bool,
+)
+    requires { length values.now ≡ length out.old }
+    ensures { out.new ≡ map (λ x. O.gives x other) values.now }
+{
+    let blocks = blocks_of(values.len(), by_vectors);
+    for block in 0..blocks {
+        let start = BLOCK * block;
+        let results = block_with_one::<O, F>(&values[start..start + BLOCK], other);
+        write_values::<F, BLOCK>(&mut out[start..start + BLOCK], &results);
+    }
+    for i in BLOCK * blocks..values.len() {
+        out[i] = O::of_values(values[i], other);
     }
 }

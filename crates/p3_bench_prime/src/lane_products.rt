@@ -1,10 +1,10 @@
 //! Products of N residues and N others at once, by vectors where the form of the words has them, and of slices
 //! by sixteen at a time.
-ghost use Rattle.std.specs.Prelude.{◌≡◌, ◌≤◌, ◌<◌, ◌*◌, ◌%◌, ◌^◌, ℕ, true, length, get_or};
+ghost use Rattle.std.specs.Prelude.{◌≡◌, ◌≤◌, ◌<◌, ◌*◌, ◌%◌, ◌^◌, ℕ, true, length, get_or, map};
 ghost use Rattle.p3_theory.specs.Lists.PairedLists.{zip_with};
 ghost use Rattle.p3_bench_prime.specs.Elements.{canon, ops};
 
-use crate::entrywise::{BLOCK, EntryOperation, take_entrywise};
+use crate::entrywise::{BLOCK, EntryOperation, take_entrywise, write_with_one};
 use crate::form::{Form, Word};
 use crate::fp::Fp;
 use crate::lane_words::{MOST_LANES, values_of, words_of};
@@ -121,4 +121,18 @@ pub(crate) fn multiply_values<W: Form<T>, T: Word>(left: &mut [Fp<W, T>], right:
     ensures { left.new ≡ zip_with (ops W.Form).mul left.old right.now }
 {
     take_entrywise::<Products, Fp<W, T>>(left, right, by_vectors::<W, T>());
+}
+
+/// Writes each value times the factor to the entry of `out` at its index: sixteen at a time where products go by
+/// vectors, and the rest one after the other.
+#[inline]
+pub(crate) fn write_multiples_of<W: Form<T>, T: Word>(
+    values: &[Fp<W, T>],
+    factor: Fp<W, T>,
+    out: &mut [Fp<W, T>],
+)
+    requires { length values.now ≡ length out.old }
+    ensures { out.new ≡ map (λ x. (ops W.Form).mul x factor) values.now }
+{
+    write_with_one::<Products, Fp<W, T>>(values, factor, out, by_vectors::<W, T>());
 }

@@ -11,7 +11,7 @@ ghost use Rattle.p3_theory.specs.Rings.Operators.{Gives, GivesOne, Folds, sum_li
 
 use crate::linear_combination::chunked_linear_combination;
 use crate::powers::Powers;
-use crate::strands::multiply_entries;
+use crate::strands::{multiply_entries, write_each_multiple};
 use crate::sums::{sum_in_pairs, sum_of_products};
 use p3_integers::integers::{IntegerQuotient, Quotient};
 use std::alloc::{AllocError, Allocator, Global};
@@ -342,6 +342,16 @@ pub trait PrimeCharacteristicRing: Copy
         ensures { slice_1.new ≡ zip_with ops.mul slice_1.old slice_2.now }
     {
         multiply_entries(slice_1, slice_2);
+    }
+
+    /// Writes each value times the factor to the entry of `out` at its index. The slices have one length. This
+    /// project's own.
+    #[inline]
+    fn write_multiples(values: &[Self], factor: Self, out: &mut [Self])
+        requires { length values.now ≡ length out.old }
+        ensures { out.new ≡ map (λ x. ops.mul x factor) values.now }
+    {
+        write_each_multiple(values, factor, out);
     }
 
     /// A vector of `len` zeros; `Err` where the memory for them is refused.

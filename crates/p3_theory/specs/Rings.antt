@@ -10,7 +10,7 @@ pub mod Accumulation
 pub mod BooleanForms
 pub mod PowerProducts
 pub mod GeometricSequence
-pub mod DoubledTerms
+pub mod FurtherTerms
 pub mod DotProduct
 pub mod MixedDotProduct
 pub mod AdditiveMaps
