@@ -33,7 +33,11 @@ fn subtract_multiple_from_sum(sum: u64, multiple: u64, order: u32) -> u32
 {
     let difference = (sum as u128).wrapping_sub(multiple as u128);
     let back = difference.wrapping_add((order as u128) << 32);
-    let kept = if difference >> 127 == 1 { back } else { difference };
+    let kept = if difference >> 127 == 1 {
+        back
+    } else {
+        difference
+    };
     (kept >> 32) as u32
 }
 
