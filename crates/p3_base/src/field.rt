@@ -11,6 +11,7 @@ ghost use Rattle.p3_theory.specs.Roots.TwoAdic.{AreTwoAdicGenerators, DividesOrd
 use crate::sqrt::tonelli_shanks;
 use p3_integers::integers::{Quotient, QuotientMap};
 use p3_ring::ring::PrimeCharacteristicRing;
+use p3_ring::strands::add_entries;
 use std::fmt::Display;
 use std::ops::{Div, DivAssign};
 
@@ -88,9 +89,7 @@ pub trait Field: PrimeCharacteristicRing + Eq + Display + Div<Output = Self> + D
         requires { length slice_1.old ≡ length slice_2.now }
         ensures { slice_1.new ≡ zip_with Self.ops.add slice_1.old slice_2.now }
     {
-        for i in 0..slice_1.len() {
-            slice_1[i] += slice_2[i];
-        }
+        add_entries(slice_1, slice_2);
     }
 
     /// How many values there are, and `None` where that is `2^128` or more, or not given.

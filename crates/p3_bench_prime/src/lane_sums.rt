@@ -9,7 +9,8 @@ use crate::form::{Form, Word};
 use crate::fp::Fp;
 use crate::lane_words::{MOST_LANES, values_of, words_of};
 use p3_kernels::residue_arrays::add_arrays;
-use std::ops::{Add, AddAssign};
+use p3_ring::strands::add_entries;
+use std::ops::Add;
 
 /// Orders below which the words of two residues add up to a word of 32 bits.
 pub const SHORT_ORDERS: u64 = 0x8000_0000;
@@ -69,18 +70,6 @@ impl<W: Form<T>, T: Word> EntryOperation<Fp<W, T>> for Sums {
     }
 }
 
-/// Adds to each value that of the other slice at its index, one after the other.
-#[inline]
-fn add_by_index<F: Copy + AddAssign>(left: &mut [F], right: &[F])
-    requires lengths { length left.old ≡ length right.now }
-    requires sums { (x y : F) → F.can_add_assign x y }
-    ensures { (sum : F → F → F) → ((x y r : F) → F.add_assign_gives x y r → r ≡ sum x y) → left.new ≡ zip_with sum left.old right.now }
-{
-    for i in 0..left.len() {
-        left[i] += right[i];
-    }
-}
-
 /// Adds to each value that of the other slice at its index: sixteen at a time where sums go by vectors, and the rest
 /// one after the other; elsewhere all one after the other.
 #[inline]
@@ -91,6 +80,6 @@ pub(crate) fn add_values<W: Form<T>, T: Word>(left: &mut [Fp<W, T>], right: &[Fp
     if W::ORDER < SHORT_ORDERS {
         take_entrywise::<Sums, Fp<W, T>>(left, right, true);
     } else {
-        add_by_index(left, right);
+        add_entries(left, right);
     }
 }
