@@ -20,8 +20,8 @@ fn subtract_multiple(number: u64, multiple: u64, order: u32) -> u32
     (kept >> 32) as u32
 }
 
-/// `subtract_multiple` of a sum of products, in 128 bits: of several such differences of 64 bits side by side, as the
-/// coefficients of an extension's product have them, the compiler makes vectors, which take longer.
+/// `subtract_multiple` of a sum of products, in 128 bits: of four such differences of 64 bits, as the coefficients of a
+/// product in an extension of degree 4 have them, the compiler makes vectors, which take longer.
 #[inline]
 fn subtract_multiple_from_sum(sum: u64, multiple: u64, order: u32) -> u32
     requires fits { order < 2 ^ 31 }
@@ -146,5 +146,6 @@ pub fn montgomery_pair_of_sums(first: u64, last: u64, order: u32, inverse: u32) 
 {
     let left = reduce_short_sum(first, order);
     let right = reduce_short_sum(last, order);
-    montgomery_short_sum(left + right, order, inverse)
+    let sum = reduce_short_sum(left + right, order);
+    montgomery_reduce_word(sum, order, inverse)
 }

@@ -1,4 +1,4 @@
-use Rattle.std.proofs.Common.{◌≡◌, ◌<◌, length, get_or, map, ap₂, rules, subst, sym, ◌∙◌}
+use Rattle.std.proofs.Common.{◌<◌, get_or, map, ap₂, rules, subst, sym, ◌∙◌}
 use Rattle.std.proofs.lemmas.List.{ext_get_or, get_or-map, length-map}
 use Rattle.std.proofs.lemmas.Simd.{get_or-replicate}
 use Rattle.p3_bench_prime.proofs.entrywise.block_with_one.Goals as goal
