@@ -149,7 +149,8 @@ impl<F: Copy, const D: usize, S: Copy, A: ExtensionProduct<F, D, S>> Mul for Ext
 
     ghost mul_gives = { λ x y r. A.ext_product_gives x.value y.value r.value };
 
-    #[inline]
+    /// Always inlined: as a call, each product of a chain would wait until the one before is in memory.
+    #[inline(always)]
     fn mul(self, other: Self) -> Self {
         let mut value = self.value;
         A::ext_product(&self.value, &other.value, &mut value);
