@@ -4,6 +4,7 @@ ghost use Rattle.p3_theory.specs.ResidueRings.RootsOfUnity.{is_root_of_unity};
 
 use crate::form::{Order, OverModulus};
 use crate::fp::Fp;
+use crate::lane_products::SMALL_ORDERS;
 use p3_ext::extension::{
     Binomial, BinomiallyExtendable, ExtensionAlgebra, ExtensionOverAlgebra, ExtensionProduct,
     PackedProduct,
@@ -80,9 +81,16 @@ where
 
     ghost modulus = { binomial (ops W.Form) D (of W.Form W.Modulus.W) };
 
+    /// Of more than four coefficients modulo a small order the product with itself takes less time: its sums have one
+    /// number of products each, and so vectors take them.
     #[inline]
     fn ext_square(a: &[Self], res: &mut [Self]) {
-        ring_square::<Self, D>(a, res, Self::new(<W::Modulus>::W));
+        let w = Self::new(<W::Modulus>::W);
+        if D > 4 && W::ORDER <= SMALL_ORDERS {
+            ring_product::<Self, D>(a, a, res, w);
+        } else {
+            ring_square::<Self, D>(a, res, w);
+        }
     }
 
     ghost at_least_two = { W.Modulus.at_least_two };

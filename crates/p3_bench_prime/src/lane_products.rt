@@ -13,7 +13,7 @@ use p3_kernels::small_products::multiply_small_arrays;
 use std::ops::Mul;
 
 /// Orders up to which products of residues have 16 bits.
-const SMALL_ORDERS: u64 = 0x100;
+pub(crate) const SMALL_ORDERS: u64 = 0x100;
 
 /// The products, one after the other.
 #[inline(always)]

@@ -1,5 +1,5 @@
 //! Sums of the products of rows of words below 2^8, lane by lane of two lists of at most 2^16 rows, which 32 bits hold.
-ghost use Rattle.std.specs.Prelude.{◌≡◌, ℕ, ◌+◌, ◌*◌, ◌%◌, ◌^◌, ◌<◌, ◌≤◌, ◌≢◌, IfNone, IfSome, get_or, length, slice_index};
+ghost use Rattle.std.specs.Prelude.{◌≡◌, ℕ, ◌+◌, ◌*◌, ◌%◌, ◌^◌, ◌<◌, ◌≤◌, ◌≢◌, IfNone, IfSome, drop, get_or, length, slice_index};
 ghost use Rattle.p3_kernels.specs.Words.{AreBelow, product_at};
 ghost use Rattle.p3_kernels.specs.Residues.{AreResidues};
 ghost use Rattle.p3_theory.specs.ResidueRings.SumsOfProducts.{sum_of_products};
@@ -58,6 +58,35 @@ fn add_lanes<const L: usize>(sums: Simd<u32, L>, numbers: Simd<u32, L>) -> Simd<
     sums + numbers
 }
 
+/// The sums at L lanes from one on, to which the products of row i of two lists are added.
+#[inline(always)]
+fn add_row<R: WordRow<N>, V: SmallLanes<L>, const N: usize, const L: usize>(
+    sums: Simd<u32, L>,
+    u: &[R],
+    v: &[R],
+    i: usize,
+    lane: usize,
+) -> Simd<u32, L>
+    requires inside { lane + L ≤ N }
+    requires lengths { length u.now ≡ length v.now }
+    requires row { i < length u.now }
+    requires few { i < 2 ^ 16 }
+    requires short { (k : ℕ) (x : R) → k < N → R.word k x < 2 ^ 8 }
+    requires most { (k : ℕ) → k < L → slice_index sums k ≤ i * 65025 }
+    ensures width { length result ≡ L }
+    ensures most { (k : ℕ) → k < L → slice_index result k ≤ (i + 1) * 65025 }
+    ensures value { (k : ℕ) → k < L → slice_index result k + sum_of_products (R.word (lane + k)) (drop (i + 1) u.now) (drop (i + 1) v.now)
+        ≡ slice_index sums.entry k + sum_of_products (R.word (lane + k)) (drop i u.now) (drop i v.now) }
+{
+    let left = lane_words::<R, N, L>(&u[i], lane);
+    let right = lane_words::<R, N, L>(&v[i], lane);
+    let products = V::products(left, right);
+    add_lanes::<L>(sums, products)
+}
+
+/// How many rows go in one step of the loop.
+const ROWS: usize = 4;
+
 /// Writes the sums of the products of two lists of rows at L lanes from one on, modulo the order, after those of the
 /// lanes before.
 #[inline(always)]
@@ -79,11 +108,16 @@ fn write_small_lanes<R: WordRow<N>, V: SmallLanes<L>, const N: usize, const L: u
         → AreResidues (lane + L) order (λ k. sum_of_products (R.word k) u.now v.now) words.new }
 {
     let mut sums = Simd::<u32, L>::splat(0);
-    for i in 0..u.len() {
-        let left = lane_words::<R, N, L>(&u[i], lane);
-        let right = lane_words::<R, N, L>(&v[i], lane);
-        let products = V::products(left, right);
-        sums = add_lanes::<L>(sums, products);
+    let steps = u.len() / ROWS;
+    for step in 0..steps {
+        let first = ROWS * step;
+        sums = add_row::<R, V, N, L>(sums, u, v, first, lane);
+        sums = add_row::<R, V, N, L>(sums, u, v, first + 1, lane);
+        sums = add_row::<R, V, N, L>(sums, u, v, first + 2, lane);
+        sums = add_row::<R, V, N, L>(sums, u, v, first + 3, lane);
+    }
+    for i in ROWS * steps..u.len() {
+        sums = add_row::<R, V, N, L>(sums, u, v, i, lane);
     }
     let totals = sums.to_array();
     for k in 0..L {

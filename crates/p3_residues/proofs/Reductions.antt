@@ -1,6 +1,6 @@
 -- Montgomery's reduction modulo p, whose inverse modulo 2^32 is i.
 use Rattle.std.proofs.Common.{◌≡◌, ◌<◌, ◌≤◌, ◌+◌, ◌-◌, ◌*◌, ◌/◌, ◌%◌, ◌^◌, ℕ, ap, arith, ◌∙◌, sym}
-use Rattle.std.proofs.Math.Nat.{add-mul-mod_self_left, mod-add-div, mod-eq_of_lt, mod-lt, mul-le-mul, mul-one}
+use Rattle.std.proofs.Math.Nat.{add-mul-mod_self_left, mod-add-div, mod-eq_of_lt, mod-lt, mul-le-mul, mul-one, zero-mod}
 use Rattle.std.proofs.lemmas.Nat.{mul-mod_first, mul-mod_second}
 use Rattle.p3_theory.specs.ResidueRings.Modular.{add-mod_second}
 
@@ -47,11 +47,16 @@ module _ (p i low : ℕ) (inverse : (p * i) % 2 ^ 32 ≡ 1) (word : low < 2 ^ 32
       ∙ ap (λ z. z % p) (less_multiple high u factor k multiple_is multiple_below (omega (arith, factor_below)))
       ∙ add-mul-mod_self_left (low + 2 ^ 32 * high) p k
 
+pub multiple_of : (p f : ℕ) → (f * p) % p ≡ 0
+multiple_of p f =
+    let turned : f * p ≡ 0 + p * f = omega arith in
+    ap (λ z. z % p) turned ∙ add-mul-mod_self_left 0 p f ∙ zero-mod p
+
 -- modulo p its multiples count nothing
-pub without_multiple : (p t f n : ℕ) → (t + f * p) % p ≡ n % p → t % p ≡ n % p
-without_multiple p t f n e =
-    let turned : t + p * f ≡ t + f * p = omega arith in
-    sym (add-mul-mod_self_left t p f) ∙ ap (λ z. z % p) turned ∙ e
+pub without_multiple : (p t m n : ℕ) → m % p ≡ 0 → (t + m) % p ≡ n % p → t % p ≡ n % p
+without_multiple p t m n none e =
+    let same : t ≡ t + 0 = omega arith in
+    ap (λ z. z % p) same ∙ ap (λ z. (t + z) % p) (sym none) ∙ add-mod_second t m p ∙ e
 
 -- what stands above 32 bits may be reduced first
 pub high_reduced : (p low rest : ℕ) → (low + 2 ^ 32 * (rest % p)) % p ≡ (low + 2 ^ 32 * rest) % p

@@ -41,9 +41,40 @@ fn subtract_multiple_from_sum(sum: u64, multiple: u64, order: u32) -> u32
     (kept >> 32) as u32
 }
 
-/// The residue that is a number below 2^32 times the order once it is multiplied by 2^32. The inverse is that of the
-/// order modulo 2^32: it gives a multiple of the order that ends in the low 32 bits of the number, so that the
-/// difference of both is what stands above these bits.
+/// `subtract_multiple` of a number below 2^33 times the order, by words of 32 bits: what stands above 32 bits, less the
+/// order where that can be taken off, less what stands there in the multiple. Vectors of 256 bits take it in less time
+/// than differences of 64 bits.
+#[inline]
+fn subtract_high_word(number: u64, multiple: u64, order: u32) -> u32
+    requires fits { order < 2 ^ 31 }
+    requires same_end { number % 2 ^ 32 ≡ multiple % 2 ^ 32 }
+    requires number { number < order * 2 ^ 33 }
+    requires multiple { multiple < order * 2 ^ 32 }
+    ensures below { result < order }
+    ensures value { (result * 2 ^ 32 + multiple) % order ≡ number % order }
+{
+    let high = (number >> 32) as u32;
+    let less = high.min(high.wrapping_sub(order));
+    let difference = less.wrapping_sub((multiple >> 32) as u32);
+    difference.min(difference.wrapping_add(order))
+}
+
+/// The multiple of the order, below 2^32 times it, that ends in the low 32 bits of a number. The inverse is that of the
+/// order modulo 2^32.
+#[inline]
+fn multiple_with_end(number: u64, order: u32, inverse: u32) -> u64
+    requires some { 0 < order }
+    requires inverse { (order * inverse) % 2 ^ 32 ≡ 1 }
+    ensures multiple { result % order ≡ 0 }
+    ensures same_end { number % 2 ^ 32 ≡ result % 2 ^ 32 }
+    ensures below { result < order * 2 ^ 32 }
+{
+    let factor = ((number & 0xffff_ffff) as u32).wrapping_mul(inverse);
+    factor as u64 * order as u64
+}
+
+/// The residue that is a number below 2^32 times the order once it is multiplied by 2^32: what stands above 32 bits of
+/// the number less the multiple of the order that ends in the same bits. The inverse is that of the order modulo 2^32.
 #[inline]
 pub fn montgomery_reduce_word(number: u64, order: u32, inverse: u32) -> u32
     requires fits { order < 2 ^ 31 }
@@ -52,8 +83,8 @@ pub fn montgomery_reduce_word(number: u64, order: u32, inverse: u32) -> u32
     ensures below { result < order }
     ensures value { (result * 2 ^ 32) % order ≡ number % order }
 {
-    let factor = ((number & 0xffff_ffff) as u32).wrapping_mul(inverse);
-    subtract_multiple(number, factor as u64 * order as u64, order)
+    let multiple = multiple_with_end(number, order, inverse);
+    subtract_multiple(number, multiple, order)
 }
 
 /// `montgomery_reduce_word` of a sum of products.
@@ -65,8 +96,21 @@ pub fn montgomery_reduce_sum(sum: u64, order: u32, inverse: u32) -> u32
     ensures below { result < order }
     ensures value { (result * 2 ^ 32) % order ≡ sum % order }
 {
-    let factor = ((sum & 0xffff_ffff) as u32).wrapping_mul(inverse);
-    subtract_multiple_from_sum(sum, factor as u64 * order as u64, order)
+    let multiple = multiple_with_end(sum, order, inverse);
+    subtract_multiple_from_sum(sum, multiple, order)
+}
+
+/// `montgomery_reduce_word` of a number below 2^33 times the order.
+#[inline]
+fn montgomery_reduce_wide(number: u64, order: u32, inverse: u32) -> u32
+    requires fits { order < 2 ^ 31 }
+    requires inverse { (order * inverse) % 2 ^ 32 ≡ 1 }
+    requires below { number < order * 2 ^ 33 }
+    ensures below { result < order }
+    ensures value { (result * 2 ^ 32) % order ≡ number % order }
+{
+    let multiple = multiple_with_end(number, order, inverse);
+    subtract_high_word(number, multiple, order)
 }
 
 /// The residue that is the product of both words once it is multiplied by 2^32.
@@ -146,6 +190,5 @@ pub fn montgomery_pair_of_sums(first: u64, last: u64, order: u32, inverse: u32) 
 {
     let left = reduce_short_sum(first, order);
     let right = reduce_short_sum(last, order);
-    let sum = reduce_short_sum(left + right, order);
-    montgomery_reduce_word(sum, order, inverse)
+    montgomery_reduce_wide(left + right, order, inverse)
 }

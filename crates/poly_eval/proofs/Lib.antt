@@ -2,4 +2,5 @@ pub mod Indices
 pub mod Steps
 pub mod PartValues
 pub mod PointSquares
+pub mod PointTables
 pub mod VectorValues

@@ -3,6 +3,7 @@
 #![tactic(auto)]
 
 mod halves;
+mod points;
 mod values;
 mod vector_values;
 

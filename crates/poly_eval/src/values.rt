@@ -3,7 +3,8 @@ ghost use Rattle.std.specs.Prelude.{◌≡◌, ◌<◌, ◌^◌, length, IfOk};
 ghost use Rattle.p3_field.specs.Powers.{eval};
 ghost use Rattle.poly_eval.specs.CosetValues.{values_on_coset};
 
-use crate::halves::eval_part_into;
+use crate::halves::eval_into;
+use crate::points::Points;
 use p3_field::coset::TwoAdicMultiplicativeCoset;
 use p3_field::{Algebra, HornerIter, PrimeCharacteristicRing, TwoAdicField};
 use std::alloc::{AllocError, Allocator, Global};
@@ -31,9 +32,12 @@ pub fn eval_coset_into<F: TwoAdicField>(
     requires size { length out.old ≡ 2 ^ coset.now.log_size }
     ensures { out.new ≡ values_on_coset F.ops F.two_adic coset.now.shift coset.now.log_size coeffs.now }
 {
-    let shift = coset.shift();
-    let generator = coset.subgroup_generator();
-    eval_part_into(coeffs, 0, 1, shift, generator, coset.log_size(), out);
+    let points = Points {
+        shift: coset.shift(),
+        generator: coset.subgroup_generator(),
+        log_size: coset.log_size(),
+    };
+    eval_into(coeffs, points, out);
 }
 
 /// The values of the polynomial with these coefficients over the coset, whose log size is below 64;

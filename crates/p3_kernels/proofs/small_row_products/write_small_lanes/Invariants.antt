@@ -4,6 +4,12 @@ use Rattle.p3_kernels.specs.Residues.{AreResidues, IsResidue}
 use Rattle.p3_kernels.proofs.StoredBlocks.{Hold}
 use Rattle.p3_kernels.proofs.small_row_products.write_small_lanes.Given as goal
 
+abbrev pub invariant-loop-step : goal.invariant-loop-step
+invariant-loop-step g l =
+    let word = g.R.WordRow.word in
+    ((k : ℕ) → k < g.row.L → get_or l.sums k 0 ≤ 4 * l.step * 65025)
+    × ((k : ℕ) → k < g.row.L → get_or l.sums k 0 + sum_of_products (word (l.lane + k)) (drop (4 * l.step) l.u) (drop (4 * l.step) l.v) ≡ sum_of_products (word (l.lane + k)) l.u l.v)
+
 abbrev pub invariant-loop-i : goal.invariant-loop-i
 invariant-loop-i g l =
     let word = g.R.WordRow.word in

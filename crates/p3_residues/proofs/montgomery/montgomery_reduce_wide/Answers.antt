@@ -1,0 +1,6 @@
+use Rattle.std.proofs.Common.{◌*◌, ◌^◌}
+use Rattle.p3_residues.proofs.Reductions.{without_multiple}
+use Rattle.p3_residues.proofs.montgomery.montgomery_reduce_wide.Goals as goal
+
+pub returns-clause-value : goal.returns-clause-value
+returns-clause-value c = without_multiple c.args.order (c.subtract_high_word.result * 2 ^ 32) c.multiple_with_end-multiple.result c.args.number c.multiple_with_end-multiple.ensures.multiple c.subtract_high_word.ensures.value
