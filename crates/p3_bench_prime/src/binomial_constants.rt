@@ -63,7 +63,7 @@ where
 
     ghost ext_product_gives = { λ a b r. r ≡ quotient_mul (ops W.Form) D (binomial (ops W.Form) D (of W.Form W.Modulus.W)) a b };
 
-    #[inline]
+    #[inline(always)]
     fn ext_product(a: &[Self], b: &[Self], res: &mut [Self]) {
         ring_product::<Self, D>(a, b, res, Self::new(<W::Modulus>::W));
     }
@@ -83,7 +83,7 @@ where
 
     /// Of more than four coefficients modulo a small order the product with itself takes less time: its sums have one
     /// number of products each, and so vectors take them.
-    #[inline]
+    #[inline(always)]
     fn ext_square(a: &[Self], res: &mut [Self]) {
         let w = Self::new(<W::Modulus>::W);
         if D > 4 && W::ORDER <= SMALL_ORDERS {

@@ -48,7 +48,7 @@ impl<W: Form<u32>, const D: usize, S: IntegerPolynomial<D>> ExtensionProduct<Fp<
 
     ghost ext_product_gives = { λ a b r. r ≡ quotient_mul (ops W.Form) D (over (ops W.Form) S.coefficients) a b };
 
-    #[inline]
+    #[inline(always)]
     fn ext_product(a: &[Self], b: &[Self], res: &mut [Self]) {
         S::product::<Self>(a, b, res);
     }
@@ -62,7 +62,7 @@ impl<W: Form<u32>, const D: usize, S: IntegerPolynomial<D>> ExtensionAlgebra<Fp<
 
     ghost modulus = { over (ops W.Form) S.coefficients };
 
-    #[inline]
+    #[inline(always)]
     fn ext_square(a: &[Self], res: &mut [Self]) {
         S::square::<Self>(a, res);
     }

@@ -95,7 +95,7 @@ pub(crate) fn shift_in<A: PrimeCharacteristicRing>(row: &mut [A], first: A)
 }
 
 /// The product modulo `X^D - W` for any D, added to what `res` holds.
-#[inline]
+#[inline(always)]
 fn general_mul<F: PrimeCharacteristicRing, A: Algebra<F>, const D: usize>(
     a: &[A],
     b: &[A],
@@ -119,7 +119,7 @@ fn general_mul<F: PrimeCharacteristicRing, A: Algebra<F>, const D: usize>(
 }
 
 /// Writes the product modulo `X^D - W` at a degree that has a formula of its own; whether it has one.
-#[inline]
+#[inline(always)]
 fn fixed_mul<F: PrimeCharacteristicRing, A: Algebra<F>, const D: usize>(
     a: &[A],
     b: &[A],
@@ -241,7 +241,7 @@ fn clear<A: PrimeCharacteristicRing>(res: &mut [A])
 
 /// The product modulo `X^D - W`, whatever `res` held: what an `ext_product` of a binomial shape
 /// is. This project's own.
-#[inline]
+#[inline(always)]
 pub fn binomial_product<F: PrimeCharacteristicRing, A: Algebra<F>, const D: usize>(
     a: &[A],
     b: &[A],
@@ -262,7 +262,7 @@ pub fn binomial_product<F: PrimeCharacteristicRing, A: Algebra<F>, const D: usiz
 
 /// `binomial_product` by an element W of the ring itself: one bound in coefficient of two, since each
 /// bound costs a check at the type of an extension. This project's own.
-#[inline]
+#[inline(always)]
 pub fn ring_product<R: PrimeCharacteristicRing, const D: usize>(
     a: &[R],
     b: &[R],
@@ -622,7 +622,7 @@ pub fn cubic_inv<F: Field>(a: &[F], res: &mut [F], w: F) -> bool
 }
 
 /// The product of two lists of four coefficients modulo `X^4 - W`.
-#[inline]
+#[inline(always)]
 pub fn quartic_product<F: PrimeCharacteristicRing, A: Algebra<F>>(
     a: &[A],
     b: &[A],
@@ -839,7 +839,7 @@ fn octic_coefficients<A: PrimeCharacteristicRing>(
 }
 
 /// The product of two lists of eight coefficients modulo `X^8 - W`.
-#[inline]
+#[inline(always)]
 pub fn octic_product<F: PrimeCharacteristicRing, A: Algebra<F>>(
     a: &[A],
     b: &[A],

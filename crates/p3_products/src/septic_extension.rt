@@ -54,12 +54,13 @@ pub fn septic_square<R: PrimeCharacteristicRing>(a: &[R], res: &mut [R])
     let a4_d5 = a4 + d5;
     let a5_d6 = a5 + d6;
     let d5_a6 = d5 + a6;
-    let c0 = array_dot_product([a0, d1, d2, d3], [a0, a6, a5, a4]);
+    let zero = R::zero();
+    let c0 = array_dot_product([a0, d1, d2, d3, zero], [a0, a6, a5, a4, zero]);
     let c1 = array_dot_product([d0, d1, d2, d3, a4], [a1, a6, a56, a45, a4]);
     let c2 = array_dot_product([d0, a1, d2, d3, a4], [a2, a1, a6, a56, a4_d5]);
     let c3 = array_dot_product([d0, d1, d3, d4, a5], [a3, a2, a6, a56, a5]);
     let c4 = array_dot_product([d0, d1, a2, d4, a5], [a4, a3, a2, a6, a5_d6]);
-    let c5 = array_dot_product([d0, d1, d2, d5_a6], [a5, a4, a3, a6]);
+    let c5 = array_dot_product([d0, d1, d2, d5_a6, zero], [a5, a4, a3, a6, zero]);
     let c6 = array_dot_product([d0, d1, d2, a3, a6], [a6, a5, a4, a3, a6]);
     write_entries([c0, c1, c2, c3, c4, c5, c6], res);
 }

@@ -4,16 +4,15 @@ ghost use Rattle.std.specs.Prelude.{◌≡◌, ◌≤◌, ◌<◌, ◌+◌, ◌-
 /// The order of Goldilocks, 2^64 - 2^32 + 1.
 pub const P: u64 = 18446744069414584321;
 
-/// The difference of two numbers, of which the second is greater, and the order. One product in 2^32 comes here: such a
-/// call stands apart, so that the others go on with one comparison less, and loops aren't made into vectors of jumps.
+/// A difference that was borrowed 2^64, less the 2^32 - 1 that this is modulo the order. One product in 2^32 comes
+/// here: such a call stands apart, so that the others go on by one jump, and loops aren't made into vectors of jumps.
 #[cold]
 #[inline(never)]
-fn difference_with_order(number: u64, greater: u64) -> u64
-    requires greater { number < greater }
-    requires below { greater < P }
-    ensures { result ≡ number + (P - greater) }
+fn difference_after_borrow(difference: u64) -> u64
+    requires { 2 ^ 32 - 1 ≤ difference }
+    ensures { result + (2 ^ 32 - 1) ≡ difference }
 {
-    number + (P - greater)
+    difference - 0xffff_ffff
 }
 
 /// The remainder modulo the order. The 128 bits are low + 2^64 * middle + 2^96 * top; modulo the
@@ -28,15 +27,16 @@ pub fn reduce128(x: u128) -> u64
     let high = (x >> 64) as u64;
     let middle = high & 0xffff_ffff;
     let top = high >> 32;
-    let less = if low >= top {
-        low - top
+    let (difference, borrowed) = low.overflowing_sub(top);
+    let less = if borrowed {
+        difference_after_borrow(difference)
     } else {
-        difference_with_order(low, top)
+        difference
     };
     let more = middle * 0xffff_ffff;
-    let (sum, borrowed) = less.overflowing_sub(P - more);
+    let (sum, below_zero) = less.overflowing_sub(P - more);
     let back = sum.wrapping_add(P);
-    if borrowed { back } else { sum }
+    if below_zero { back } else { sum }
 }
 
 /// The sum of two residues: the first less what the second lacks of the order, and the order more

@@ -178,6 +178,22 @@ pub fn montgomery_short_sum(sum: u64, order: u32, inverse: u32) -> u32
     montgomery_reduce_sum(number, order, inverse)
 }
 
+/// The sum of two sums of at most four products of residues, both below twice 2^32 times the order, less that where it
+/// can be taken off: the first less what the second lacks of it, and it again where that borrows.
+#[inline]
+fn add_short_sums(first: u64, last: u64, order: u32) -> u64
+    requires fits { order < 2 ^ 31 }
+    requires first { first < 2 ^ 33 * order }
+    requires last { last < 2 ^ 33 * order }
+    ensures below { result < order * 2 ^ 33 }
+    ensures value { result % order ≡ (first + last) % order }
+{
+    let bound = (order as u64) << 33;
+    let (less, borrowed) = first.overflowing_sub(bound - last);
+    let back = less.wrapping_add(bound);
+    if borrowed { back } else { less }
+}
+
 /// The residue that is what two sums of at most four products of residues add up to once it is multiplied by 2^32.
 #[inline]
 pub fn montgomery_pair_of_sums(first: u64, last: u64, order: u32, inverse: u32) -> u32
@@ -188,7 +204,6 @@ pub fn montgomery_pair_of_sums(first: u64, last: u64, order: u32, inverse: u32) 
     ensures below { result < order }
     ensures value { (result * 2 ^ 32) % order ≡ (first + last) % order }
 {
-    let left = reduce_short_sum(first, order);
-    let right = reduce_short_sum(last, order);
-    montgomery_reduce_wide(left + right, order, inverse)
+    let sum = add_short_sums(first, last, order);
+    montgomery_reduce_wide(sum, order, inverse)
 }

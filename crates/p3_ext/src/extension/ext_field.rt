@@ -260,7 +260,7 @@ impl<
         Self::new(value)
     }
 
-    #[inline]
+    #[inline(always)]
     fn square(&self) -> Self {
         let mut res = [A::zero(); D];
         A::ext_square(&self.value, &mut res);
