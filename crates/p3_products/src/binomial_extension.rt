@@ -94,7 +94,8 @@ pub(crate) fn shift_in<A: PrimeCharacteristicRing>(row: &mut [A], first: A)
     }
 }
 
-/// The product modulo `X^D - W` for any D, added to what `res` holds.
+/// The product modulo `X^D - W` for any D, added to what `res` holds. Always inlined, as are all calls down to it from the
+/// product of extension values: as a call, each product of a chain would wait until the one before is in memory.
 #[inline(always)]
 fn general_mul<F: PrimeCharacteristicRing, A: Algebra<F>, const D: usize>(
     a: &[A],
@@ -621,7 +622,7 @@ pub fn cubic_inv<F: Field>(a: &[F], res: &mut [F], w: F) -> bool
     true
 }
 
-/// The product of two lists of four coefficients modulo `X^4 - W`.
+/// The product of two lists of four coefficients modulo `X^4 - W`. Always inlined, as `general_mul` is.
 #[inline(always)]
 pub fn quartic_product<F: PrimeCharacteristicRing, A: Algebra<F>>(
     a: &[A],
@@ -838,7 +839,7 @@ fn octic_coefficients<A: PrimeCharacteristicRing>(
     (c0, c1, c2, c3)
 }
 
-/// The product of two lists of eight coefficients modulo `X^8 - W`.
+/// The product of two lists of eight coefficients modulo `X^8 - W`. Always inlined, as `general_mul` is.
 #[inline(always)]
 pub fn octic_product<F: PrimeCharacteristicRing, A: Algebra<F>>(
     a: &[A],

@@ -38,7 +38,8 @@ pub fn trinomial_septic_mul<R: PrimeCharacteristicRing>(a: &[R], b: &[R], res: &
     write_entries([c0, c1, c2, c3, c4, c5, c6], res);
 }
 
-/// The square of a list of seven coefficients modulo `X^7 - X - 1`.
+/// The square of a list of seven coefficients modulo `X^7 - X - 1`. Two of the sums have a product of zeros, so that all
+/// have five and end alike in Montgomery's form, where zeros that are constants cost nothing.
 #[inline]
 pub fn septic_square<R: PrimeCharacteristicRing>(a: &[R], res: &mut [R])
     requires input { length a.now ≡ 7 }

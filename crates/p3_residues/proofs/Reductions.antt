@@ -52,6 +52,10 @@ multiple_of p f =
     let turned : f * p ≡ 0 + p * f = omega arith in
     ap (λ z. z % p) turned ∙ add-mul-mod_self_left 0 p f ∙ zero-mod p
 
+-- a number and what a multiple of p is more have one remainder
+pub with_multiple : (p r k n : ℕ) → n ≡ r + p * k → n % p ≡ r % p
+with_multiple p r k n e = ap (λ z. z % p) e ∙ add-mul-mod_self_left r p k
+
 -- modulo p its multiples count nothing
 pub without_multiple : (p t m n : ℕ) → m % p ≡ 0 → (t + m) % p ≡ n % p → t % p ≡ n % p
 without_multiple p t m n none e =

@@ -42,8 +42,8 @@ fn subtract_multiple_from_sum(sum: u64, multiple: u64, order: u32) -> u32
 }
 
 /// `subtract_multiple` of a number below 2^33 times the order, by words of 32 bits: what stands above 32 bits, less the
-/// order where that can be taken off, less what stands there in the multiple. Vectors of 256 bits take it in less time
-/// than differences of 64 bits.
+/// order where that can be taken off, less what stands there in the multiple, and the order more where that borrows.
+/// Vectors of 256 bits, which the compiler makes of four of them, take this in less time than differences of 64 bits.
 #[inline]
 fn subtract_high_word(number: u64, multiple: u64, order: u32) -> u32
     requires fits { order < 2 ^ 31 }
@@ -55,8 +55,12 @@ fn subtract_high_word(number: u64, multiple: u64, order: u32) -> u32
 {
     let high = (number >> 32) as u32;
     let less = high.min(high.wrapping_sub(order));
-    let difference = less.wrapping_sub((multiple >> 32) as u32);
-    difference.min(difference.wrapping_add(order))
+    let (difference, borrowed) = less.overflowing_sub((multiple >> 32) as u32);
+    if borrowed {
+        difference.wrapping_add(order)
+    } else {
+        difference
+    }
 }
 
 /// The multiple of the order, below 2^32 times it, that ends in the low 32 bits of a number. The inverse is that of the

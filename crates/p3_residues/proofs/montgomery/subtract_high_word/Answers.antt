@@ -1,29 +1,39 @@
-use Rattle.std.proofs.Common.{◌≡◌, ◌+◌, ◌*◌, ◌/◌, ◌%◌, ◌^◌, inl, inr, arith, ap, sym, ◌∙◌}
-use Rattle.std.proofs.Math.Nat.{add-mul-mod_self_left}
+use Rattle.std.proofs.Common.{◌≡◌, ◌+◌, ◌*◌, ◌/◌, ◌%◌, ◌^◌, ◌≤◌, inl, inr, arith, ap, sym, subst}
 use Rattle.std.proofs.lemmas.Bool.{cases_lt}
+use Rattle.std.specs.Bool.{FalseIff}
+use Rattle.p3_residues.proofs.Reductions.{with_multiple}
 use Rattle.p3_residues.proofs.montgomery.subtract_high_word.Goals as goal
 
-pub returns-clause-value : goal.returns-clause-value
-returns-clause-value c =
+pub returns-then-borrowed-clause-value : goal.returns-then-borrowed-clause-value
+returns-then-borrowed-clause-value c =
     let n = c.args.number in
     let m = c.args.multiple in
     let p = c.args.order in
-    let r = c.min.result in
+    let d = c.overflowing_sub-difference in
+    let r = (d.result.0 + p) % 2 ^ 32 in
+    let over = subst (λ b. FalseIff b (m / 2 ^ 32 ≤ c.min-less.result)) c.if-borrowed.true d.ensures.overflow in
     elim (cases_lt (n / 2 ^ 32) p) [
-      | inl low ↦ elim (cases_lt (n / 2 ^ 32) (m / 2 ^ 32)) [
-        | inl lt ↦
-            let e : r * 2 ^ 32 + m ≡ n + p * 2 ^ 32 = omega (arith, low, lt, c.requires.same_end, c.requires.fits) in
-            ap (λ z. z % p) e ∙ add-mul-mod_self_left n p (2 ^ 32)
-        | inr ge ↦
-            let e : r * 2 ^ 32 + m ≡ n = omega (arith, low, ge, c.requires.same_end, c.requires.fits) in
-            ap (λ z. z % p) e
-      ]
-      | inr high ↦ elim (cases_lt (n / 2 ^ 32) (m / 2 ^ 32 + p)) [
-        | inl lt ↦
-            let e : r * 2 ^ 32 + m ≡ n = omega (arith, high, lt, c.requires.same_end, c.requires.fits, c.requires.number) in
-            ap (λ z. z % p) e
-        | inr ge ↦
-            let e : n ≡ r * 2 ^ 32 + m + p * 2 ^ 32 = omega (arith, high, ge, c.requires.same_end, c.requires.fits, c.requires.number) in
-            sym (ap (λ z. z % p) e ∙ add-mul-mod_self_left (r * 2 ^ 32 + m) p (2 ^ 32))
-      ]
+      | inl low ↦
+          let e : r * 2 ^ 32 + m ≡ n + p * 2 ^ 32 = omega (arith, low, over, c.min-less.ensures, d.ensures.value, d.type_inv, c.requires.same_end, c.requires.multiple, c.requires.fits) in
+          with_multiple p n (2 ^ 32) _ e
+      | inr high ↦
+          let e : r * 2 ^ 32 + m ≡ n = omega (arith, high, over, c.min-less.ensures, d.ensures.value, d.type_inv, c.requires.same_end, c.requires.multiple, c.requires.fits) in
+          ap (λ z. z % p) e
+    ]
+
+pub returns-else-borrowed-clause-value : goal.returns-else-borrowed-clause-value
+returns-else-borrowed-clause-value c =
+    let n = c.args.number in
+    let m = c.args.multiple in
+    let p = c.args.order in
+    let d = c.overflowing_sub-difference in
+    let r = d.result.0 in
+    let fits = subst (λ b. FalseIff b (m / 2 ^ 32 ≤ c.min-less.result)) c.if-borrowed.false d.ensures.overflow in
+    elim (cases_lt (n / 2 ^ 32) p) [
+      | inl low ↦
+          let e : r * 2 ^ 32 + m ≡ n = omega (arith, low, fits, c.min-less.ensures, d.ensures.value, d.type_inv, c.requires.same_end, c.requires.fits) in
+          ap (λ z. z % p) e
+      | inr high ↦
+          let e : n ≡ r * 2 ^ 32 + m + p * 2 ^ 32 = omega (arith, high, fits, c.min-less.ensures, d.ensures.value, d.type_inv, c.requires.same_end, c.requires.fits, c.requires.number) in
+          sym (with_multiple p (r * 2 ^ 32 + m) (2 ^ 32) _ e)
     ]
