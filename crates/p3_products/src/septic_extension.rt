@@ -8,8 +8,9 @@ use crate::integer_polynomial::IntegerPolynomial;
 use crate::vectors::{four_from, three_from, write_entries};
 use p3_ring::ring::PrimeCharacteristicRing;
 
-/// The product of two lists of seven coefficients modulo `X^7 - X - 1`. Upstream has no
-/// such polynomial.
+/// The product of two lists of seven coefficients modulo `X^7 - X - 1`. Each sum begins with the highest coefficients of
+/// `a`: in a chain of products they are ready before the lowest four, of which the compiler makes a vector. Upstream has
+/// no such polynomial.
 #[inline]
 pub fn trinomial_septic_mul<R: PrimeCharacteristicRing>(a: &[R], b: &[R], res: &mut [R])
     requires left { length a.now ≡ 7 }
@@ -27,14 +28,14 @@ pub fn trinomial_septic_mul<R: PrimeCharacteristicRing>(a: &[R], b: &[R], res: &
     let b34 = b3 + b4;
     let b45 = b4 + b5;
     let b56 = b5 + b6;
-    let left = [a0, a1, a2, a3, a4, a5, a6];
-    let c0 = array_dot_product(left, [b0, b6, b5, b4, b3, b2, b1]);
-    let c1 = array_dot_product(left, [b1, b06, b56, b45, b34, b23, b12]);
-    let c2 = array_dot_product(left, [b2, b1, b06, b56, b45, b34, b23]);
-    let c3 = array_dot_product(left, [b3, b2, b1, b06, b56, b45, b34]);
-    let c4 = array_dot_product(left, [b4, b3, b2, b1, b06, b56, b45]);
-    let c5 = array_dot_product(left, [b5, b4, b3, b2, b1, b06, b56]);
-    let c6 = array_dot_product(left, [b6, b5, b4, b3, b2, b1, b06]);
+    let left = [a6, a5, a4, a3, a2, a1, a0];
+    let c0 = array_dot_product(left, [b1, b2, b3, b4, b5, b6, b0]);
+    let c1 = array_dot_product(left, [b12, b23, b34, b45, b56, b06, b1]);
+    let c2 = array_dot_product(left, [b23, b34, b45, b56, b06, b1, b2]);
+    let c3 = array_dot_product(left, [b34, b45, b56, b06, b1, b2, b3]);
+    let c4 = array_dot_product(left, [b45, b56, b06, b1, b2, b3, b4]);
+    let c5 = array_dot_product(left, [b56, b06, b1, b2, b3, b4, b5]);
+    let c6 = array_dot_product(left, [b06, b1, b2, b3, b4, b5, b6]);
     write_entries([c0, c1, c2, c3, c4, c5, c6], res);
 }
 
