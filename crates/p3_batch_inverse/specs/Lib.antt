@@ -1,4 +1,5 @@
 pub mod BatchProducts
 pub mod Chains
 pub mod Inverses
+pub mod LaneBlocks
 pub mod Strands

@@ -1,33 +1,75 @@
 //! The inverses of all lanes of a packed extension value by one inversion.
-ghost use Rattle.std.specs.Prelude.{◌≡◌, ◌<◌, ℕ};
+ghost use Rattle.std.specs.Prelude.{◌≡◌, ◌<◌, ◌≤◌, ℕ};
 ghost use Rattle.p3_theory.specs.Rings.Ring.{Invertible, IsInverse};
 ghost use Rattle.p3_theory.specs.Lanes.Lanes.{lane};
+ghost use Rattle.p3_batch_inverse.specs.LaneBlocks.{Filled, HoldsNeighbours};
 
 use p3_base::field::Field;
 use p3_packings::extension_lanes::{ExtensionLanes, PackedExtensionRing};
 use p3_ring::ring::PrimeCharacteristicRing;
 
-/// The inverse at each lane, of a packing whose lanes all have one, by one inversion: each lane is that of the product
-/// of all, times the lanes before and after it, whose products are taken side by side, by two products a lane. It
-/// takes every number of lanes. Upstream's `invert_packed_extension`.
+/// Writes the value to the lanes from `start` up to `end`.
+#[inline]
+fn fill_lanes<F, EF: PrimeCharacteristicRing, PE: ExtensionLanes<F, EF>>(
+    packed: &mut PE,
+    start: usize,
+    end: usize,
+    value: EF,
+)
+    requires { end ≤ PE.LANES }
+    ensures { Filled EF.ops.zero value (PE.ext_lanes packed.old) (PE.ext_lanes packed.new) start end }
+{
+    for lane in start..end {
+        packed.set_ext_lane(lane, value);
+    }
+}
+
+/// Of two blocks of `size` lanes, one after the other, each lane gets the value with which the other block begins, or
+/// one where the lanes end before.
+#[inline]
+fn of_neighbours<F, EF: PrimeCharacteristicRing, PE: ExtensionLanes<F, EF>>(
+    packed: PE,
+    size: usize,
+) -> PE
+    requires { 0 < size }
+    ensures { HoldsNeighbours EF.ops size (PE.ext_lanes packed) (PE.ext_lanes result) PE.LANES }
+{
+    let mut neighbours = packed;
+    let mut start = 0;
+    while start < PE::LANES {
+        let middle = start + size.min(PE::LANES - start);
+        let end = middle + size.min(PE::LANES - middle);
+        let lower = ExtensionLanes::<F, EF>::extract(&packed, start);
+        let upper = if middle < PE::LANES {
+            ExtensionLanes::<F, EF>::extract(&packed, middle)
+        } else {
+            EF::one()
+        };
+        fill_lanes::<F, EF, PE>(&mut neighbours, start, middle, upper);
+        fill_lanes::<F, EF, PE>(&mut neighbours, middle, end, lower);
+        start = end;
+    }
+    neighbours
+}
+
+/// The inverse at each lane, of a packing whose lanes all have one, by one inversion: that of the product of all lanes,
+/// times the others of each. These are joined in pairs, then pairs of pairs, by two packed products each time. It takes
+/// every number of lanes. Upstream's `invert_packed_extension`.
 #[inline]
 pub fn invert_packed_extension<F, EF: Field, PE: PackedExtensionRing<F, EF>>(packed: PE) -> PE
     requires { (k : ℕ) → k < PE.LANES → Invertible EF.ops (lane EF.ops PE.ext_lanes k packed) }
     ensures lanes { (k : ℕ) → k < PE.LANES → IsInverse EF.ops (lane EF.ops PE.ext_lanes k packed) (lane EF.ops PE.ext_lanes k result) }
     ensures inverse { IsInverse PE.ops packed result }
 {
-    let mut before = packed;
-    let mut after = packed;
-    let mut product = EF::one();
-    let mut rest = product;
-    for lane in 0..PE::LANES {
-        let opposite = PE::LANES - 1 - lane;
-        before.set_ext_lane(lane, product);
-        after.set_ext_lane(opposite, rest);
-        product *= ExtensionLanes::<F, EF>::extract(&packed, lane);
-        rest *= ExtensionLanes::<F, EF>::extract(&packed, opposite);
+    let mut others = of_neighbours::<F, EF, PE>(packed, 1);
+    let mut size = 2;
+    while size < PE::LANES {
+        let products = packed * others;
+        others *= of_neighbours::<F, EF, PE>(products, size);
+        size += size.min(PE::LANES - size);
     }
-    let others = before * after;
+    let first = ExtensionLanes::<F, EF>::extract(&packed, 0);
+    let product = first * ExtensionLanes::<F, EF>::extract(&others, 0);
     others * ExtensionLanes::<F, EF>::ext_broadcast(product.inverse())
 }
 

@@ -1,15 +1,11 @@
-use Rattle.std.proofs.Common.{◌≡◌, ◌-◌}
-use Rattle.std.specs.Prelude.{take, drop}
-use Rattle.p3_theory.specs.Rings.Operators.{product_list}
-use Rattle.p3_batch_inverse.specs.BatchProducts.{HoldsPrefixes, HoldsSuffixes}
+use Rattle.std.proofs.Common.{◌<◌, ◌-◌}
+use Rattle.p3_batch_inverse.specs.LaneBlocks.{Joined}
 use Rattle.p3_batch_inverse.proofs.packed_inverse.invert_packed_extension.Given as goal
 
-abbrev pub invariant-loop-lane : goal.invariant-loop-lane
-invariant-loop-lane g l =
-    let o = g.EF.PrimeCharacteristicRing.ops in
-    let r = g.met.EF.PrimeCharacteristicRing.ring in
+abbrev pub invariant-loop-size : goal.invariant-loop-size
+invariant-loop-size g l =
     let lanes = g.PE.ExtensionLanes.ext_lanes in
-    let xs = lanes l.packed in
-    let i = g.PE.ExtensionLanes.LANES - l.lane in
-    (l.product ≡ product_list o (take l.lane xs)) × HoldsPrefixes r xs (lanes l.before) l.lane
-    × (l.rest ≡ product_list o (drop i xs)) × HoldsSuffixes r xs (lanes l.after) i
+    (0 < l.size) × Joined g.met.EF.PrimeCharacteristicRing.ring g.PE.ExtensionLanes.LANES l.size (lanes (g.PE.PrimeCharacteristicRing.ops.mul l.packed l.others))
+
+abbrev pub decreases-loop-size : goal.decreases-loop-size
+decreases-loop-size g l = g.PE.ExtensionLanes.LANES - l.size
