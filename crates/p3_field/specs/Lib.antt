@@ -2,6 +2,7 @@ pub mod CoefficientRuns
 pub use Rattle.p3_batch_inverse.specs.BatchProducts
 pub use Rattle.p3_batch_inverse.specs.Chains
 pub use Rattle.p3_batch_inverse.specs.Inverses
+pub use Rattle.p3_batch_inverse.specs.LaneBlocks
 pub use Rattle.p3_residues.specs.Halves
 pub use Rattle.p3_residues.specs.Inverses as ResidueInverses
 pub use Rattle.p3_residues.specs.ResidueMultiples
