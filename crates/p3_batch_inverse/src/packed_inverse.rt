@@ -2,7 +2,7 @@
 ghost use Rattle.std.specs.Prelude.{◌≡◌, ◌<◌, ◌≤◌, ℕ};
 ghost use Rattle.p3_theory.specs.Rings.Ring.{Invertible, IsInverse};
 ghost use Rattle.p3_theory.specs.Lanes.Lanes.{lane};
-ghost use Rattle.p3_batch_inverse.specs.LaneBlocks.{Filled, HoldsNeighbours};
+ghost use Rattle.p3_theory.specs.Lanes.LaneBlocks.{Filled, HoldsNeighbours};
 
 use p3_base::field::Field;
 use p3_packings::extension_lanes::{ExtensionLanes, PackedExtensionRing};

@@ -2,7 +2,6 @@ pub mod CoefficientRuns
 pub use Rattle.p3_batch_inverse.specs.BatchProducts
 pub use Rattle.p3_batch_inverse.specs.Chains
 pub use Rattle.p3_batch_inverse.specs.Inverses
-pub use Rattle.p3_batch_inverse.specs.LaneBlocks
 pub use Rattle.p3_residues.specs.Halves
 pub use Rattle.p3_residues.specs.Inverses as ResidueInverses
 pub use Rattle.p3_residues.specs.ResidueMultiples
@@ -52,6 +51,7 @@ pub use Rattle.p3_theory.specs.FrobeniusMaps.FrobeniusTable
 pub use Rattle.p3_theory.specs.FrobeniusMaps.TableEntries
 pub use Rattle.p3_theory.specs.Inverses.ListInverses
 pub use Rattle.p3_theory.specs.Lanes.Interleaves
+pub use Rattle.p3_theory.specs.Lanes.LaneBlocks
 pub use Rattle.p3_theory.specs.Lanes.Lanes
 pub use Rattle.p3_theory.specs.Lanes.RowRing
 pub use Rattle.p3_theory.specs.Lanes.Rows

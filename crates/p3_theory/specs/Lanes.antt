@@ -6,3 +6,4 @@ pub mod RowRing
 pub mod VectorLanes
 pub mod InterleavedBelow
 pub mod Interleaves
+pub mod LaneBlocks

@@ -2,7 +2,7 @@ use Rattle.std.proofs.Common.{◌≡◌, ◌<◌, ◌≤◌, ◌+◌, ◌∙◌,
 use Rattle.std.proofs.lemmas.List.{ext_get_or}
 use Rattle.p3_theory.specs.Rings.Ring.{Invertible}
 use Rattle.p3_theory.specs.Lanes.Lanes.{at_replicate}
-use Rattle.p3_batch_inverse.specs.LaneBlocks.{HoldsBlocks, HoldsNeighbours, read-product, blocks-single, joined-more, joined-whole}
+use Rattle.p3_theory.specs.Lanes.LaneBlocks.{HoldsBlocks, HoldsNeighbours, read-product, blocks-single, joined-more, joined-whole}
 use Rattle.p3_batch_inverse.proofs.packed_inverse.invert_packed_extension.Goals as goal
 
 pub loop-size-init : goal.loop-size-init
@@ -55,8 +55,8 @@ inverse-requires g c =
     let y = c.loop-size.others in
     let products = g.PE.PrimeCharacteristicRing.ops.mul x y in
     let product : c.mul-product.result ≡ get_or (lanes products) 0 o.zero =
-    g.met.EF.PrimeCharacteristicRing.muls.exact c.extract-first.result c.extract.result c.mul-product.result c.mul-product.ensures
-    ∙ read-product o (lanes x) (lanes y) (lanes products) 0 c.extract-first.result c.extract.result c.extract-first.ensures c.extract.ensures ((g.met.PE.PackedExtensionRing.ext_keeps 0 some).mul x y) in
+    read-product o (lanes x) (lanes y) (lanes products) 0 c.extract-first.result c.extract.result c.mul-product.result c.extract-first.ensures c.extract.ensures
+    (g.met.EF.PrimeCharacteristicRing.muls.exact c.extract-first.result c.extract.result c.mul-product.result c.mul-product.ensures) ((g.met.PE.PackedExtensionRing.ext_keeps 0 some).mul x y) in
     subst (Invertible o) (sym product) (c.loop-size.invariant.1.4 0 some)
 
 pub returns-clause-lanes : goal.returns-clause-lanes
@@ -73,7 +73,8 @@ returns-clause-lanes g c k below =
     let products = g.PE.PrimeCharacteristicRing.ops.mul x y in
     let done : n ≤ c.loop-size.size = omega (arith, c.LANES.ensures, c.loop-size-test.false) in
     let product : c.mul-product.result ≡ get_or (lanes products) 0 o.zero =
-    m.muls.exact c.extract-first.result c.extract.result c.mul-product.result c.mul-product.ensures ∙ read-product o (lanes x) (lanes y) (lanes products) 0 c.extract-first.result c.extract.result c.extract-first.ensures c.extract.ensures ((keeps 0 some).mul x y) in
+    read-product o (lanes x) (lanes y) (lanes products) 0 c.extract-first.result c.extract.result c.mul-product.result c.extract-first.ensures c.extract.ensures
+    (m.muls.exact c.extract-first.result c.extract.result c.mul-product.result c.mul-product.ensures) ((keeps 0 some).mul x y) in
     let same = joined-whole m.ring n c.loop-size.size (lanes products) (g.met.PE.ExtensionLanes.ext_lengths products) done c.loop-size.invariant.1 k 0 below some in
     let made : get_or (lanes c.mul.result) k o.zero ≡ o.mul (get_or (lanes y) k o.zero) z =
     ap (λ q. get_or (lanes q) k o.zero) (g.met.PE.PrimeCharacteristicRing.muls.exact y c.ext_broadcast.result c.mul.result c.mul.ensures) ∙ (keeps k below).mul y c.ext_broadcast.result

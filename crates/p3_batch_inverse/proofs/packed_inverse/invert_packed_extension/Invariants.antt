@@ -1,5 +1,5 @@
 use Rattle.std.proofs.Common.{◌<◌, ◌-◌}
-use Rattle.p3_batch_inverse.specs.LaneBlocks.{Joined}
+use Rattle.p3_theory.specs.Lanes.LaneBlocks.{Joined}
 use Rattle.p3_batch_inverse.proofs.packed_inverse.invert_packed_extension.Given as goal
 
 abbrev pub invariant-loop-size : goal.invariant-loop-size

@@ -1,7 +1,7 @@
 use Rattle.std.proofs.Common.{◌≡◌, ◌<◌, ◌+◌, ◌*◌, ◌∙◌, length, get_or, arith, ap, sym}
 use Rattle.std.proofs.lemmas.List.{get_or_past}
 use Rattle.std.proofs.lemmas.Option.{get_or_from_slice_get}
-use Rattle.p3_batch_inverse.specs.LaneBlocks.{neighbours-more}
+use Rattle.p3_theory.specs.Lanes.LaneBlocks.{neighbours-more}
 use Rattle.p3_batch_inverse.proofs.packed_inverse.of_neighbours.Goals as goal
 use Rattle.p3_batch_inverse.proofs.packed_inverse.of_neighbours.Goals.{then-middle-LANES, else-middle-LANES}
 

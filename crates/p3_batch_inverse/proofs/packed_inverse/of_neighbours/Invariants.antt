@@ -1,5 +1,5 @@
 use Rattle.std.proofs.Common.{◌≡◌, ◌<◌, ◌≤◌, ◌*◌, ◌-◌, ℕ}
-use Rattle.p3_batch_inverse.specs.LaneBlocks.{HoldsNeighbours}
+use Rattle.p3_theory.specs.Lanes.LaneBlocks.{HoldsNeighbours}
 use Rattle.p3_batch_inverse.proofs.packed_inverse.of_neighbours.Given as goal
 
 abbrev pub invariant-loop-start : goal.invariant-loop-start

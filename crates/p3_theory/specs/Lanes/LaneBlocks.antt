@@ -22,9 +22,12 @@ HoldsNeighbours O w xs ns i = (m k : ℕ) → k < i →
     (InBlock w (2 * m) k → get_or ns k O.zero ≡ get_or xs ((2 * m + 1) * w) O.one)
     × (InBlock w (2 * m + 1) k → get_or ns k O.zero ≡ get_or xs (2 * m * w) O.one)
 
--- from start up to end now holds the value, and before start what old holds
+-- from start up to end now holds the value, and elsewhere what old holds
 abbrev pub Filled : {A : Type 0} → A → A → List A → List A → ℕ → ℕ → Type 0
-Filled z v old now start end = ((k : ℕ) → k < start → get_or now k z ≡ get_or old k z) × ((k : ℕ) → start ≤ k → k < end → get_or now k z ≡ v)
+Filled z v old now start end =
+    ((k : ℕ) → k < start → get_or now k z ≡ get_or old k z)
+    × ((k : ℕ) → start ≤ k → k < end → get_or now k z ≡ v)
+    × ((k : ℕ) → end ≤ k → get_or now k z ≡ get_or old k z)
 
 -- an index stands in one block alone
 pub one_block : (w m n k : ℕ) → InBlock w m k → InBlock w n k → m ≡ n
@@ -46,10 +49,10 @@ halves w m k b =
       | inr high ↦ inr (omega (arith, high), omega (arith, b.1))
     ]
 
--- the product of what is read at one index of two lists, where zs holds the products of their entries
-pub read-product : {A : Type 0} (O : Ops A) (xs ys zs : List A) (k : ℕ) (a b : A) → slice_get xs k ≡ Some a → slice_get ys k ≡ Some b
-    → get_or zs k O.zero ≡ O.mul (get_or xs k O.zero) (get_or ys k O.zero) → O.mul a b ≡ get_or zs k O.zero
-read-product O xs ys zs k a b e f made = sym (made ∙ ap₂ O.mul (get_or_from_slice_get xs k a O.zero e) (get_or_from_slice_get ys k b O.zero f))
+-- the product p of what is read at one index of two lists, where zs holds the products of their entries
+pub read-product : {A : Type 0} (O : Ops A) (xs ys zs : List A) (k : ℕ) (a b p : A) → slice_get xs k ≡ Some a → slice_get ys k ≡ Some b → p ≡ O.mul a b
+    → get_or zs k O.zero ≡ O.mul (get_or xs k O.zero) (get_or ys k O.zero) → p ≡ get_or zs k O.zero
+read-product O xs ys zs k a b p e f product made = product ∙ sym (made ∙ ap₂ O.mul (get_or_from_slice_get xs k a O.zero e) (get_or_from_slice_get ys k b O.zero f))
 
 -- where two blocks of xs begin at start, and what the second of them begins with is written over the first and the other way round, two blocks more hold their neighbours
 pub neighbours-more : {A : Type 0} (O : Ops A) (w : ℕ) (xs ns ms ls : List A) (m start middle end : ℕ) (lower upper : A) → start ≡ 2 * m * w → start ≤ middle → middle ≤ start + w → (middle < length xs → middle ≡ start + w)
