@@ -181,7 +181,8 @@ impl<F: PackedProduct<P, D, S>, const D: usize, S: Copy, P: Copy> Mul
 
     ghost mul_gives = { λ x y r. F.packed_product_gives x.value.value y.value.value r.value.value };
 
-    #[inline]
+    /// Always inlined: as a call, each product of a chain would wait until the one before is in memory.
+    #[inline(always)]
     fn mul(self, other: Self) -> Self {
         let x = self.value;
         let y = other.value;
@@ -195,7 +196,7 @@ impl<F: PackedProduct<P, D, S>, const D: usize, S: Copy, P: Copy> MulAssign
     for PackedExtField<F, D, S, P> {
     ghost mul_assign_gives = { λ x y r. F.packed_product_gives x.value.value y.value.value r.value.value };
 
-    #[inline]
+    #[inline(always)]
     fn mul_assign(&mut self, other: Self) {
         *self = *self * other;
     }
