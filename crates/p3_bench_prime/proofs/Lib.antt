@@ -1,4 +1,3 @@
 mod ArrayItems
 mod WordBlocks
-mod WordProducts
 pub mod LaneValues

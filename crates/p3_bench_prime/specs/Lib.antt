@@ -2,4 +2,3 @@ pub mod ComplexNumbers
 pub mod ComplexTower
 pub mod Elements
 pub mod MontgomeryForms
-pub mod WordSums

@@ -3,10 +3,10 @@ ghost use Rattle.p3_residues.specs.Forms.{IsForm};
 ghost use Rattle.p3_bench_prime.specs.MontgomeryForms.{IsMontgomery};
 
 use crate::fp::Fp;
-use crate::short_sums::{
+use crate::word_products::short_product;
+use p3_blocks::short_sums::{
     STRIP, ShortWord, sum_products, sum_small_products, sum_strip, sum_strips,
 };
-use crate::word_products::short_product;
 use p3_residues::remainder::remainder_of_sum;
 use p3_residues::short_words::{add_words, halve_word, negate_word, subtract_words};
 use std::alloc::AllocError;
@@ -247,7 +247,7 @@ impl<M> Copy for Plain<M> {}
 impl<M: Modulus> Form<u32> for Plain<M> {
     ghost use Rattle.p3_residues.specs.Forms.{plain, order_below};
     ghost use Rattle.p3_bench_prime.specs.MontgomeryForms.{no_inverse};
-    ghost use Rattle.p3_bench_prime.specs.WordSums.{scaled_by_one};
+    ghost use Rattle.p3_blocks.specs.WordSums.{scaled_by_one};
 
     ghost ORDER = { M.ORDER };
 

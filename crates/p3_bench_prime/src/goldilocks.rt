@@ -104,7 +104,7 @@ impl Form<u64> for GoldilocksForm {
     ghost use Rattle.p3_residues.specs.Forms.{plain};
     ghost use Rattle.p3_residues.specs.declared.goldilocks_words.TheConstants.{P};
     ghost use Rattle.p3_bench_prime.specs.MontgomeryForms.{no_inverse};
-    ghost use Rattle.p3_bench_prime.specs.WordSums.{scaled_by_one};
+    ghost use Rattle.p3_blocks.specs.WordSums.{scaled_by_one};
 
     ghost ORDER = { P };
 

@@ -4,10 +4,10 @@ ghost use Rattle.std.specs.Prelude.{◌≡◌, ◌≤◌, ◌<◌, ◌*◌, ◌%
 ghost use Rattle.p3_theory.specs.Lists.PairedLists.{zip_with};
 ghost use Rattle.p3_bench_prime.specs.Elements.{canon, ops};
 
-use crate::entrywise::{BLOCK, EntryOperation, take_entrywise, write_with_one};
 use crate::form::{Form, Word};
 use crate::fp::Fp;
 use crate::lane_words::{MOST_LANES, values_of, words_of};
+use p3_blocks::entrywise::{BLOCK, EntryOperation, take_entrywise, write_with_one};
 use p3_kernels::montgomery_slices::multiply_arrays;
 use p3_kernels::small_products::multiply_small_arrays;
 use std::ops::Mul;

@@ -4,10 +4,10 @@ ghost use Rattle.std.specs.Prelude.{◌≡◌, ◌<◌, ◌+◌, ◌%◌, ◌^�
 ghost use Rattle.p3_theory.specs.Lists.PairedLists.{zip_with};
 ghost use Rattle.p3_bench_prime.specs.Elements.{canon, ops};
 
-use crate::entrywise::{BLOCK, EntryOperation, take_entrywise};
 use crate::form::{Form, Word};
 use crate::fp::Fp;
 use crate::lane_words::{MOST_LANES, values_of, words_of};
+use p3_blocks::entrywise::{BLOCK, EntryOperation, take_entrywise};
 use p3_kernels::residue_arrays::add_arrays;
 use p3_ring::strands::add_entries;
 use std::ops::Add;

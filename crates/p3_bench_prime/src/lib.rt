@@ -5,7 +5,6 @@
 pub mod baby_bear;
 pub mod binomial_constants;
 pub mod complex_tower;
-mod entrywise;
 pub mod extensions;
 pub mod form;
 pub mod fp;
@@ -18,7 +17,6 @@ pub mod lane_words;
 pub mod monomials;
 pub mod montgomery;
 pub mod polynomial_constants;
-mod short_sums;
 pub mod small;
 pub mod two_adic;
 pub mod two_adic_constants;

@@ -5,7 +5,7 @@ ghost use Rattle.p3_bench_prime.specs.Elements.{canon, word_number};
 
 use crate::form::{Form, Order, OverModulus, ShortForm, add_short};
 use crate::fp::Fp;
-use crate::short_sums::{ShortWord, sum_last_products, sum_products};
+use p3_blocks::short_sums::{ShortWord, sum_last_products, sum_products};
 use p3_residues::montgomery::{
     montgomery_pair_of_sums, montgomery_product, montgomery_reduce_word, montgomery_residue,
     montgomery_short_sum, montgomery_sum,

@@ -2,7 +2,7 @@ use Rattle.std.proofs.Common.{◌≡◌, ◌<◌, ◌≤◌, ◌+◌, ◌%◌, a
 use Rattle.std.proofs.lemmas.List.{length-drop}
 use Rattle.p3_theory.specs.ResidueRings.SumsOfProducts.{sum_of_products, products-split}
 use Rattle.p3_bench_prime.specs.Elements.{word_number}
-use Rattle.p3_bench_prime.proofs.WordProducts.{short_sum_below, words-short}
+use Rattle.p3_blocks.proofs.WordProducts.{short_sum_below, words-short}
 use Rattle.p3_bench_prime.proofs.montgomery.dot_of_eight.Goals as goal
 
 pub sum_last_products-first-requires-clause-left : goal.sum_last_products-first-requires-clause-left

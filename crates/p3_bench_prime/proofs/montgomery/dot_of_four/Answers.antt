@@ -1,6 +1,6 @@
 use Rattle.std.proofs.Common.{◌<◌, ◌≤◌, ◌%◌, ap, arith, length, rules, ◌∙◌}
 use Rattle.p3_bench_prime.specs.Elements.{word_number}
-use Rattle.p3_bench_prime.proofs.WordProducts.{pair_sum_below, short_sum_below, words-short}
+use Rattle.p3_blocks.proofs.WordProducts.{pair_sum_below, short_sum_below, words-short}
 use Rattle.p3_bench_prime.proofs.montgomery.dot_of_four.Goals as goal
 
 pub sum_last_products-sum-requires-clause-left : goal.sum_last_products-sum-requires-clause-left
