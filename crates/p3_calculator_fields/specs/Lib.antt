@@ -7,4 +7,3 @@ pub mod Premise
 pub mod Registers
 pub mod Representation
 pub mod States
-pub mod Tables

@@ -1,7 +1,7 @@
 -- The fields that have a name, by their numbers: a row a name.
 use Rattle.std.specs.Prelude.{ℕ, List, [], ◌∷◌, Option, codes}
 use Rattle.p3_calculator_fields.specs.Fields.{FieldSpec, ResiduesModulo, PolynomialsModulo}
-use Rattle.p3_calculator_fields.specs.Tables.{lookup}
+use Rattle.p3_calculator_text.specs.Tables.{lookup}
 
 -- residues, and extensions of degree 2, of degree 3 and 4, and of degree 5 and more
 abbrev pub named_fields : List (List ℕ × FieldSpec)

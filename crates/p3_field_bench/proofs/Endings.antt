@@ -8,13 +8,14 @@ use Rattle.std.proofs.KnownBytes.{Appends-trans}
 use Rattle.p3_field_bench.specs.declared.machine.Machine.{Machine}
 use Rattle.p3_field_bench.specs.declared.machine.Stop.{Stop}
 use Rattle.p3_field_bench.specs.declared.machine.Stop.TheVariants.{AtFault, AtWrite}
-use Rattle.p3_field_bench.specs.declared.faults.Fault.{Fault}
-use Rattle.p3_field_bench.specs.declared.faults.Fault.TheVariants.{ReadFault}
+use Rattle.p3_calculator_text.specs.declared.faults.Fault.{Fault}
+use Rattle.p3_calculator_text.specs.declared.faults.Fault.TheVariants.{ReadFault}
 use Rattle.p3_field_bench.specs.Bank.{state_of}
 use Rattle.p3_calculator_fields.specs.States.{State, no_field}
-use Rattle.p3_field_bench.specs.Lines.{lines_of}
+use Rattle.p3_calculator_text.specs.Lines.{lines_of}
 use Rattle.p3_field_bench.specs.RegisterValues.{Filled}
-use Rattle.p3_field_bench.specs.Text.{IsTextFrom, IsText, rest_of, IsCutShort, RunEnds, fault_line, ends}
+use Rattle.p3_calculator_text.specs.Faults.{fault_line}
+use Rattle.p3_field_bench.specs.Text.{IsTextFrom, IsText, rest_of, IsCutShort, RunEnds, ends}
 use Rattle.p3_field_bench.specs.RunSoFar.{RunSoFar, TakesBytes, Ended, EndedAt, StopsAtFailure, Finishes, HasNoEnd, HaveNoEnd, ended}
 use Rattle.p3_field_bench.proofs.TakenBytes.{pending_of, so_far, lines_now, front_rest}
 

@@ -1,4 +1,3 @@
-pub mod Digits
 pub mod Endings
 pub mod FieldValues
 pub mod InverseLemmas
@@ -10,4 +9,3 @@ pub mod RootLemmas
 pub mod TakenBytes
 pub mod Totality
 pub mod ValueLemmas
-pub mod WordLemmas

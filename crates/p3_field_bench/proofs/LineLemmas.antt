@@ -2,7 +2,7 @@
 use Rattle.std.proofs.Common.{◌≡◌, ◌∙◌, ℕ, ◌≤◌, cond, List, [], ◌∷◌, ◌++◌, length, refl, sym, ap, arith, append_assoc}
 use Rattle.std.proofs.lemmas.Bool.{ne_eqb}
 use Rattle.std.specs.List.{flat_map}
-use Rattle.p3_field_bench.specs.Lines.{lines_of, onto_first}
+use Rattle.p3_calculator_text.specs.Lines.{lines_of, onto_first}
 use Rattle.p3_field_bench.specs.RunSoFar.{HasNoEnd, HaveNoEnd, ended}
 
 -- a byte that ends no line goes onto the first

@@ -3,19 +3,20 @@ use Rattle.std.proofs.Common.{◌≡◌, ◌≢◌, ◌∙◌, ◌<◌, ℕ, ◌
 use Rattle.std.specs.Prelude.{IfOk}
 use Rattle.std.specs.Str.{bytes_eq}
 use Rattle.std.proofs.lemmas.Slice.Eq.{bytes_eq-Decides}
-use Rattle.p3_field_bench.specs.declared.commands.Command.{Command}
-use Rattle.p3_field_bench.specs.declared.commands.Command.TheVariants.{Field, Compute}
-use Rattle.p3_field_bench.specs.declared.commands.Operation.{Operation}
-use Rattle.p3_field_bench.specs.declared.commands.Operation.TheVariants.{Put, Binary, Unary, Pow, Inv, Sqrt, Show}
-use Rattle.p3_field_bench.specs.declared.faults.Fault.{Fault}
-use Rattle.p3_field_bench.specs.declared.faults.Fault.TheVariants.{NoMemory, LongLine}
+use Rattle.p3_calculator_text.specs.declared.commands.Command.{Command}
+use Rattle.p3_calculator_text.specs.declared.commands.Command.TheVariants.{Field, Compute}
+use Rattle.p3_calculator_text.specs.declared.commands.Operation.{Operation}
+use Rattle.p3_calculator_text.specs.declared.commands.Operation.TheVariants.{Put, Binary, Unary, Pow, Inv, Sqrt, Show}
+use Rattle.p3_calculator_text.specs.declared.faults.Fault.{Fault}
+use Rattle.p3_calculator_text.specs.declared.faults.Fault.TheVariants.{NoMemory, LongLine}
 use Rattle.p3_calculator_fields.specs.States.{State, register_at}
 use Rattle.p3_calculator_fields.specs.Fields.{FieldSpec, IsValue}
-use Rattle.p3_calculator_fields.specs.Tables.{lookup}
-use Rattle.p3_field_bench.specs.Lines.{words}
-use Rattle.p3_field_bench.specs.Words.{commands, command_of, one_register, two_registers, three_registers, registers_and_number}
+use Rattle.p3_calculator_text.specs.Tables.{lookup}
+use Rattle.p3_calculator_text.specs.Lines.{words}
+use Rattle.p3_calculator_text.specs.Words.{commands, command_of, one_register, two_registers, three_registers, registers_and_number}
 use Rattle.p3_field_bench.specs.Effects.{Outcome, Continues, Faults, At, Inverts, Shows, Computes, ComputesAt, Chooses, Commands, Does, May, sets}
-use Rattle.p3_field_bench.specs.Text.{IsTextFrom, After, fault_line}
+use Rattle.p3_calculator_text.specs.Faults.{fault_line}
+use Rattle.p3_field_bench.specs.Text.{IsTextFrom, After}
 use Rattle.p3_field_bench.specs.SameTexts.{TakesNoRoot, TakeNoRoots, EndsForMemory, AreOneFrom}
 use Rattle.p3_field_bench.specs.RegisterValues.{HasValues, HoldValues, IsFilled, Filled}
 use Rattle.p3_field_bench.proofs.RegisterValues.{FilledAfter, two_below, may_filled}

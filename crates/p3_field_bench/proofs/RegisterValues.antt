@@ -6,23 +6,23 @@ use Rattle.std.proofs.lemmas.Bool.{eqb-true, leb-true}
 use Rattle.std.proofs.lemmas.List.{get_or-replicate}
 use Rattle.p3_theory.specs.RingSolver.SolverSound.{and_true}
 use Rattle.p3_theory.specs.Rings.Powers.{power}
-use Rattle.p3_field_bench.specs.declared.commands.Command.{Command}
-use Rattle.p3_field_bench.specs.declared.commands.Command.TheVariants.{Field, Compute}
-use Rattle.p3_field_bench.specs.declared.commands.Operation.{Operation}
-use Rattle.p3_field_bench.specs.declared.commands.Operation.TheVariants.{Put, Binary, Unary, Pow, Inv, Sqrt, Show}
-use Rattle.p3_field_bench.specs.declared.commands.BinaryOperation.{BinaryOperation}
-use Rattle.p3_field_bench.specs.declared.commands.BinaryOperation.TheVariants.{Add, Sub, Mul}
-use Rattle.p3_field_bench.specs.declared.commands.UnaryOperation.{UnaryOperation}
-use Rattle.p3_field_bench.specs.declared.commands.UnaryOperation.TheVariants.{Neg, Sq, Dbl}
-use Rattle.p3_field_bench.specs.declared.faults.Fault.{Fault}
-use Rattle.p3_field_bench.specs.declared.faults.Fault.TheVariants.{UnknownCommand, WordCount, NoInverse, NoRoot, NoField, NoMemory, LongLine}
+use Rattle.p3_calculator_text.specs.declared.commands.Command.{Command}
+use Rattle.p3_calculator_text.specs.declared.commands.Command.TheVariants.{Field, Compute}
+use Rattle.p3_calculator_text.specs.declared.commands.Operation.{Operation}
+use Rattle.p3_calculator_text.specs.declared.commands.Operation.TheVariants.{Put, Binary, Unary, Pow, Inv, Sqrt, Show}
+use Rattle.p3_calculator_text.specs.declared.commands.BinaryOperation.{BinaryOperation}
+use Rattle.p3_calculator_text.specs.declared.commands.BinaryOperation.TheVariants.{Add, Sub, Mul}
+use Rattle.p3_calculator_text.specs.declared.commands.UnaryOperation.{UnaryOperation}
+use Rattle.p3_calculator_text.specs.declared.commands.UnaryOperation.TheVariants.{Neg, Sq, Dbl}
+use Rattle.p3_calculator_text.specs.declared.faults.Fault.{Fault}
+use Rattle.p3_calculator_text.specs.declared.faults.Fault.TheVariants.{UnknownCommand, WordCount, NoInverse, NoRoot, NoField, NoMemory, LongLine}
 use Rattle.p3_calculator_fields.specs.Display.{display}
 use Rattle.p3_calculator_fields.specs.States.{State, at_field, register_at}
 use Rattle.p3_calculator_fields.specs.Fields.{FieldSpec, IsValue, AllBelow, order, dimension, ops}
 use Rattle.p3_calculator_fields.specs.Names.{named_fields, field_named}
-use Rattle.p3_calculator_fields.specs.Tables.{lookup}
-use Rattle.p3_field_bench.specs.Lines.{words}
-use Rattle.p3_field_bench.specs.Words.{command_of, number_from, up_to, decimal_up_to, number, register, one_of, two_of, three_of, two_with_number, one_register, two_registers, three_registers, registers_and_number}
+use Rattle.p3_calculator_text.specs.Tables.{lookup}
+use Rattle.p3_calculator_text.specs.Lines.{words}
+use Rattle.p3_calculator_text.specs.Words.{command_of, number_from, up_to, decimal_up_to, number, register, one_of, two_of, three_of, two_with_number, one_register, two_registers, three_registers, registers_and_number}
 use Rattle.p3_field_bench.specs.Effects.{Outcome, Continues, Faults, At, Inverts, TakesRoot, Shows, Computes, ComputesAt, Chooses, Commands, Does, May, sets, puts, chosen, onto, numbers_below, binary, unary}
 use Rattle.p3_field_bench.specs.RegisterValues.{HasValues, HoldValues, IsFilled, Filled}
 use Rattle.p3_field_bench.proofs.FieldValues.{is_sound, has_values, power_is}

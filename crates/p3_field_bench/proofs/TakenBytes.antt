@@ -4,16 +4,17 @@ use Rattle.std.proofs.lemmas.List.{take_more, take_all, take-append-drop, length
 use Rattle.std.proofs.Math.Seq.{take-add, take-length}
 use Rattle.std.specs.List.{flat_map}
 use Rattle.p3_field_bench.specs.declared.machine.Machine.{Machine}
-use Rattle.p3_field_bench.specs.declared.faults.Fault.{Fault}
-use Rattle.p3_field_bench.specs.declared.faults.Fault.TheVariants.{LongLine}
+use Rattle.p3_calculator_text.specs.declared.faults.Fault.{Fault}
+use Rattle.p3_calculator_text.specs.declared.faults.Fault.TheVariants.{LongLine}
 use Rattle.p3_field_bench.specs.declared.machine.Stop.{Stop}
 use Rattle.p3_field_bench.specs.declared.machine.Stop.TheVariants.{AtFault, AtWrite}
 use Rattle.std.proofs.KnownBytes.{Appends-nil, Appends-trans}
-use Rattle.p3_field_bench.specs.Lines.{lines_of}
+use Rattle.p3_calculator_text.specs.Lines.{lines_of}
 use Rattle.p3_field_bench.specs.Bank.{state_of}
 use Rattle.p3_field_bench.specs.Effects.{Continues, Faults, May}
 use Rattle.p3_calculator_fields.specs.States.{State}
-use Rattle.p3_field_bench.specs.Text.{IsTextFrom, IsText, BeginsText, fault_line}
+use Rattle.p3_calculator_text.specs.Faults.{fault_line}
+use Rattle.p3_field_bench.specs.Text.{IsTextFrom, IsText, BeginsText}
 use Rattle.p3_field_bench.specs.RegisterValues.{Filled}
 use Rattle.p3_field_bench.proofs.RegisterValues.{may_filled}
 use Rattle.p3_field_bench.proofs.Totality.{every_text}

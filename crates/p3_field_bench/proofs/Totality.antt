@@ -1,21 +1,22 @@
 -- Every input has a text: each line has an outcome, since it can be found whether a value has an inverse or a root.
 use Rattle.std.proofs.Common.{◌≡◌, ◌<◌, ℕ, ◌+◌, zero, suc, Bool, true, false, MatchBool, List, [], ◌∷◌, ◌++◌, length, nat_lt, Option, Some, None, Result, Ok, Err, ◌⊎◌, ◌∙◌, inl, inr, refl, ap, arith, subst, sym}
 use Rattle.std.proofs.lemmas.Bool.{cases_eq}
-use Rattle.p3_field_bench.specs.declared.commands.Command.{Command}
-use Rattle.p3_field_bench.specs.declared.commands.Command.TheVariants.{Field, Compute}
-use Rattle.p3_field_bench.specs.declared.commands.Operation.{Operation}
-use Rattle.p3_field_bench.specs.declared.commands.Operation.TheVariants.{Put, Binary, Unary, Pow, Inv, Sqrt, Show}
-use Rattle.p3_field_bench.specs.declared.faults.Fault.{Fault}
-use Rattle.p3_field_bench.specs.declared.faults.Fault.TheVariants.{NoInverse, NoRoot, LongLine}
+use Rattle.p3_calculator_text.specs.declared.commands.Command.{Command}
+use Rattle.p3_calculator_text.specs.declared.commands.Command.TheVariants.{Field, Compute}
+use Rattle.p3_calculator_text.specs.declared.commands.Operation.{Operation}
+use Rattle.p3_calculator_text.specs.declared.commands.Operation.TheVariants.{Put, Binary, Unary, Pow, Inv, Sqrt, Show}
+use Rattle.p3_calculator_text.specs.declared.faults.Fault.{Fault}
+use Rattle.p3_calculator_text.specs.declared.faults.Fault.TheVariants.{NoInverse, NoRoot, LongLine}
 use Rattle.p3_theory.specs.Rings.Powers.{power}
 use Rattle.p3_field_bench.specs.Effects.{Outcome, Continues, Faults, At, Inverts, IsInverse, IsRoot, TakesRoot, Computes, ComputesAt, Chooses, Commands, Does, May, sets, binary, unary}
 use Rattle.p3_calculator_fields.specs.States.{State, register_at}
 use Rattle.p3_calculator_fields.specs.Fields.{FieldSpec, AllBelow, order, dimension, ops}
 use Rattle.p3_field_bench.specs.RegisterValues.{HasValues, IsFilled, Filled}
 use Rattle.p3_field_bench.proofs.RegisterValues.{FilledAfter, may_filled}
-use Rattle.p3_field_bench.specs.Lines.{words}
-use Rattle.p3_field_bench.specs.Text.{IsTextFrom, After, fault_line}
-use Rattle.p3_field_bench.specs.Words.{command_of, two_registers, three_registers, one_register, registers_and_number}
+use Rattle.p3_calculator_text.specs.Lines.{words}
+use Rattle.p3_calculator_text.specs.Faults.{fault_line}
+use Rattle.p3_field_bench.specs.Text.{IsTextFrom, After}
+use Rattle.p3_calculator_text.specs.Words.{command_of, two_registers, three_registers, one_register, registers_and_number}
 
 -- P holds, or it does not
 abbrev Decided : Type 0 → Type 0

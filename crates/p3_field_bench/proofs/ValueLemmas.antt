@@ -2,7 +2,7 @@
 use Rattle.std.proofs.Common.{◌≡◌, ◌∙◌, ℕ, ◌+◌, ◌-◌, ◌<◌, ◌≤◌, zero, suc, List, [], ◌∷◌, ◌++◌, length, take, sym, ap, refl, arith, append_assoc, append-nil, Option, Some, None, set, add-one}
 use Rattle.std.proofs.lemmas.List.{take_all}
 use Rattle.p3_field_bench.specs.Effects.{numbers_below, onto}
-use Rattle.p3_field_bench.specs.Words.{number}
+use Rattle.p3_calculator_text.specs.Words.{number}
 
 -- coefficients in front of those that are still to be read
 abbrev pub prefixed : List ℕ → Option (List ℕ) → Option (List ℕ)

@@ -1,24 +1,24 @@
 -- What a line does.
 use Rattle.std.specs.Prelude.{◌≡◌, ◌≢◌, ℕ, ◌-◌, ◌⊎◌, ◌==◌, nat_lt, if◌then◌else◌, List, [], ◌∷◌, ◌++◌, length, Option, Some, None, Result, Ok, Err, MatchBool, slice_set}
-use Rattle.p3_field_bench.specs.declared.commands.Command.{Command}
-use Rattle.p3_field_bench.specs.declared.commands.Command.TheVariants.{Field, Compute}
-use Rattle.p3_field_bench.specs.declared.commands.Operation.{Operation}
-use Rattle.p3_field_bench.specs.declared.commands.Operation.TheVariants.{Put, Binary, Unary, Pow, Inv, Sqrt, Show}
-use Rattle.p3_field_bench.specs.declared.commands.BinaryOperation.{BinaryOperation}
-use Rattle.p3_field_bench.specs.declared.commands.BinaryOperation.TheVariants.{Add, Sub, Mul}
-use Rattle.p3_field_bench.specs.declared.commands.UnaryOperation.{UnaryOperation}
-use Rattle.p3_field_bench.specs.declared.commands.UnaryOperation.TheVariants.{Neg, Sq, Dbl}
-use Rattle.p3_field_bench.specs.declared.faults.Fault.{Fault}
-use Rattle.p3_field_bench.specs.declared.faults.Fault.TheVariants.{UnknownCommand, WordCount, BadRegister, BadNumber, NoInverse, NoRoot, NoField, NoMemory, LongLine}
+use Rattle.p3_calculator_text.specs.declared.commands.Command.{Command}
+use Rattle.p3_calculator_text.specs.declared.commands.Command.TheVariants.{Field, Compute}
+use Rattle.p3_calculator_text.specs.declared.commands.Operation.{Operation}
+use Rattle.p3_calculator_text.specs.declared.commands.Operation.TheVariants.{Put, Binary, Unary, Pow, Inv, Sqrt, Show}
+use Rattle.p3_calculator_text.specs.declared.commands.BinaryOperation.{BinaryOperation}
+use Rattle.p3_calculator_text.specs.declared.commands.BinaryOperation.TheVariants.{Add, Sub, Mul}
+use Rattle.p3_calculator_text.specs.declared.commands.UnaryOperation.{UnaryOperation}
+use Rattle.p3_calculator_text.specs.declared.commands.UnaryOperation.TheVariants.{Neg, Sq, Dbl}
+use Rattle.p3_calculator_text.specs.declared.faults.Fault.{Fault}
+use Rattle.p3_calculator_text.specs.declared.faults.Fault.TheVariants.{UnknownCommand, WordCount, BadRegister, BadNumber, NoInverse, NoRoot, NoField, NoMemory, LongLine}
 use Rattle.p3_theory.specs.Rings.Ring.{Ops, subtract}
 use Rattle.p3_theory.specs.Rings.Powers.{power}
 use Rattle.p3_calculator_fields.specs.Display.{display}
 use Rattle.p3_calculator_fields.specs.States.{State, at_field, all_zero, register_at}
 use Rattle.p3_calculator_fields.specs.Fields.{FieldSpec, order, dimension, ops, IsValue}
 use Rattle.p3_calculator_fields.specs.Names.{field_named}
-use Rattle.p3_field_bench.specs.Lines.{words}
+use Rattle.p3_calculator_text.specs.Lines.{words}
 use Rattle.p3_calculator_fields.specs.Premise.{MeetsPremise}
-use Rattle.p3_field_bench.specs.Words.{command_of, number, register, one_register, two_registers, three_registers, registers_and_number}
+use Rattle.p3_calculator_text.specs.Words.{command_of, number, register, one_register, two_registers, three_registers, registers_and_number}
 
 -- a line goes on from a new state after some text, or ends the run with a fault
 pub data Outcome : Type 0 where

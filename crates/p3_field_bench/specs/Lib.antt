@@ -1,11 +1,8 @@
 pub mod Bank
 pub mod Effects
-pub mod Faults
-pub mod Lines
 pub mod Lists
 pub mod Outcomes
 pub mod RegisterValues
 pub mod RunSoFar
 pub mod SameTexts
 pub mod Text
-pub mod Words

@@ -1,7 +1,7 @@
 -- What the functions of a line answer, as an outcome.
 use Rattle.std.specs.Prelude.{ℕ, [], Option, Some, None, Result, Ok, Err, Vec}
-use Rattle.p3_field_bench.specs.declared.faults.Fault.{Fault}
-use Rattle.p3_field_bench.specs.declared.faults.Fault.TheVariants.{NoField}
+use Rattle.p3_calculator_text.specs.declared.faults.Fault.{Fault}
+use Rattle.p3_calculator_text.specs.declared.faults.Fault.TheVariants.{NoField}
 use Rattle.p3_field_bench.specs.Effects.{Outcome, Continues, Faults}
 use Rattle.p3_calculator_fields.specs.States.{State}
 

@@ -6,10 +6,11 @@ use Rattle.p3_field_bench.specs.declared.machine.Machine.{Machine}
 use Rattle.p3_field_bench.specs.declared.machine.Stop.{Stop}
 use Rattle.p3_field_bench.specs.declared.machine.Stop.TheVariants.{AtFault, AtWrite}
 use Rattle.p3_field_bench.specs.Bank.{state_of}
-use Rattle.p3_field_bench.specs.Lines.{lines_of}
+use Rattle.p3_calculator_text.specs.Lines.{lines_of}
 use Rattle.p3_field_bench.specs.RegisterValues.{Filled}
 use Rattle.p3_calculator_streams.specs.Streams.{AppendsFront}
-use Rattle.p3_field_bench.specs.Text.{IsTextFrom, IsText, BeginsText, fault_line}
+use Rattle.p3_calculator_text.specs.Faults.{fault_line}
+use Rattle.p3_field_bench.specs.Text.{IsTextFrom, IsText, BeginsText}
 
 -- no byte is 10
 abbrev pub HasNoEnd : List ℕ → Type 0

@@ -1,9 +1,10 @@
 -- When two texts of the same lines are one text.
 use Rattle.std.specs.Prelude.{◌≡◌, ◌≢◌, ℕ, ◌+◌, ◌⊎◌, List, [], ◌∷◌, ◌++◌, take, codes}
-use Rattle.p3_field_bench.specs.declared.faults.Fault.TheVariants.{NoMemory}
+use Rattle.p3_calculator_text.specs.declared.faults.Fault.TheVariants.{NoMemory}
 use Rattle.p3_calculator_fields.specs.States.{State}
-use Rattle.p3_field_bench.specs.Lines.{words}
-use Rattle.p3_field_bench.specs.Text.{IsTextFrom, fault_line}
+use Rattle.p3_calculator_text.specs.Lines.{words}
+use Rattle.p3_calculator_text.specs.Faults.{fault_line}
+use Rattle.p3_field_bench.specs.Text.{IsTextFrom}
 
 -- the words of a line that takes no square root
 abbrev pub TakesNoRoot : List (List ℕ) → Type 0

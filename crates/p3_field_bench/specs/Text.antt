@@ -1,15 +1,10 @@
 -- The texts of the calculator, and how a run ends.
-use Rattle.std.specs.Prelude.{◌≡◌, ℕ, ◌+◌, ◌≤◌, ◌⊎◌, ◌==◌, Bool, true, false, if◌then◌else◌, List, [], ◌∷◌, ◌++◌, length, take, codes, decimal}
-use Rattle.p3_field_bench.specs.declared.faults.Fault.{Fault}
-use Rattle.p3_field_bench.specs.declared.faults.Fault.TheVariants.{ReadFault}
+use Rattle.std.specs.Prelude.{◌≡◌, ℕ, ◌+◌, ◌≤◌, ◌⊎◌, ◌==◌, Bool, true, false, if◌then◌else◌, List, [], ◌∷◌, ◌++◌, length, take}
+use Rattle.p3_calculator_text.specs.declared.faults.Fault.TheVariants.{ReadFault}
 use Rattle.p3_field_bench.specs.Effects.{Outcome, Continues, Faults, May}
 use Rattle.p3_calculator_fields.specs.States.{State, no_field}
-use Rattle.p3_field_bench.specs.Faults.{fault_code}
-use Rattle.p3_field_bench.specs.Lines.{lines_of}
-
--- the line of a fault at line n
-abbrev pub fault_line : ℕ → Fault → List ℕ
-fault_line n fault = codes "line " ++ decimal n ++ codes ": fault " ++ decimal (fault_code fault) ++ 10 ∷ []
+use Rattle.p3_calculator_text.specs.Faults.{fault_line}
+use Rattle.p3_calculator_text.specs.Lines.{lines_of}
 
 -- after an outcome of line n, the text goes on with the rest, or ends with the fault's line
 abbrev pub After : ℕ → Outcome → (State → List ℕ → ℕ → Type 0) → List ℕ → ℕ → Type 0

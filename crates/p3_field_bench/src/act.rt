@@ -1,22 +1,22 @@
 ghost use Rattle.std.specs.Prelude.{◌≡◌, ◌≢◌, ◌++◌, ◌∷◌, [], ℕ, List, Some, None, length, IfOk, OnErr, IfSome, IfNone};
 ghost use Rattle.p3_theory.specs.Rings.Powers.{power};
+ghost use Rattle.p3_calculator_text.specs.Lines.{words};
 ghost use Rattle.p3_calculator_fields.specs.Registers.{state_at};
 ghost use Rattle.p3_calculator_fields.specs.Display.{display};
-ghost use Rattle.p3_field_bench.specs.Effects.{Computes, numbers_below, IsInverse, IsRoot, binary, unary};
 ghost use Rattle.p3_calculator_fields.specs.States.{State};
 ghost use Rattle.p3_calculator_fields.specs.Fields.{order, dimension, ops};
-ghost use Rattle.p3_field_bench.specs.Lines.{words};
-ghost use Rattle.p3_field_bench.specs.Outcomes.{outcome, silent};
 ghost use Rattle.p3_calculator_fields.specs.Premise.{MeetsPremise};
+ghost use Rattle.p3_field_bench.specs.Effects.{Computes, numbers_below, IsInverse, IsRoot, binary, unary};
+ghost use Rattle.p3_field_bench.specs.Outcomes.{outcome, silent};
 
-use crate::commands::{BinaryOperation, Operation, UnaryOperation};
-use crate::faults::Fault;
-use crate::words::{
+use p3_calculator_fields::field::CalculatorField;
+use p3_calculator_fields::registers::Registers;
+use p3_calculator_text::commands::{BinaryOperation, Operation, UnaryOperation};
+use p3_calculator_text::faults::Fault;
+use p3_calculator_text::words::{
     has_words, next_word, one_register, parse_number, parse_register, registers_and_number,
     three_registers, two_registers,
 };
-use p3_calculator_fields::field::CalculatorField;
-use p3_calculator_fields::registers::Registers;
 use std::alloc::{AllocError, Allocator};
 
 /// The value whose coefficients are the words of a line, as many as a value has.

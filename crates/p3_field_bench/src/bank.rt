@@ -1,18 +1,15 @@
 //! The registers of the chosen field, each group of names as a list of types.
 ghost use Rattle.std.specs.Prelude.{◌≡◌, ℕ, List, [], ◌∷◌, OnErr, map, replicate};
+ghost use Rattle.p3_calculator_text.specs.Tables.{lookup};
+ghost use Rattle.p3_calculator_text.specs.Lines.{words};
 ghost use Rattle.p3_calculator_fields.specs.Fields.{FieldSpec, ops};
 ghost use Rattle.p3_calculator_fields.specs.Names.{field_named};
 ghost use Rattle.p3_calculator_fields.specs.States.{State, at_field, no_field};
-ghost use Rattle.p3_calculator_fields.specs.Tables.{lookup};
 ghost use Rattle.p3_field_bench.specs.Effects.{Computes, ComputesAt, chosen};
-ghost use Rattle.p3_field_bench.specs.Lines.{words};
 ghost use Rattle.p3_field_bench.specs.Lists.{rows};
 ghost use Rattle.p3_field_bench.specs.Outcomes.{outcome, opened_as};
 
 use crate::act::act;
-use crate::commands::Operation;
-use crate::faults::Fault;
-use crate::words::next_word;
 use p3_bench_prime::binomial_constants::BinomialConstants;
 use p3_bench_prime::form::{Form, Word};
 use p3_bench_prime::fp::Fp;
@@ -24,6 +21,9 @@ use p3_calculator_fields::names::{
 };
 use p3_calculator_fields::registers::Registers;
 use p3_calculator_fields::zeros::{zero_polynomials, zero_residues};
+use p3_calculator_text::commands::Operation;
+use p3_calculator_text::faults::Fault;
+use p3_calculator_text::words::next_word;
 use p3_ext::extension::{Binomial, ExtField, IntegerPolynomial, Modulo};
 use std::alloc::Allocator;
 use std::marker::Model;

@@ -2,9 +2,9 @@
 
 ghost use Rattle.std.specs.Prelude.{◌≡◌, ◌*◌, ◌%◌, ◌^◌, ℕ, List, Option, false, IfSome};
 ghost use Rattle.std.specs.Io.KnownBytes.{Consumes, IsAtEnd};
-ghost use Rattle.p3_field_bench.specs.Lines.{lines_of};
-ghost use Rattle.p3_field_bench.specs.Text.{RunEnds, IsText};
+ghost use Rattle.p3_calculator_text.specs.Lines.{lines_of};
 ghost use Rattle.p3_calculator_fields.specs.States.{no_field};
+ghost use Rattle.p3_field_bench.specs.Text.{RunEnds, IsText};
 ghost use Rattle.p3_field_bench.specs.SameTexts.{TakeNoRoots, AreOneFrom};
 
 use p3_base::field::PrimeField32;

@@ -4,14 +4,10 @@
 
 mod act;
 mod bank;
-mod commands;
-mod faults;
 pub mod laws;
 mod machine;
-mod report;
 mod run;
 mod step;
-mod words;
 
 pub use p3_bench_prime::baby_bear::BabyBear;
 pub use p3_bench_prime::complex_tower::F31cx2;

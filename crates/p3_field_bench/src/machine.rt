@@ -1,7 +1,7 @@
 ghost use Rattle.std.specs.Prelude.{◌≡◌, ◌≤◌, length};
 
 use crate::bank::Bank;
-use crate::faults::Fault;
+use p3_calculator_text::faults::Fault;
 
 /// The bytes of a line so far.
 #[derive(Drop)]

@@ -1,13 +1,14 @@
 ghost use Rattle.std.specs.Prelude.{◌≡◌, ◌+◌, ◌-◌, ◌<◌, ◌≤◌, ◌^◌, ◌++◌, ◌∷◌, [], true, false, Err, List, ℕ, length, take};
 ghost use Rattle.std.specs.Io.KnownBytes.{Appends, Consumes, IsAtEnd};
+ghost use Rattle.p3_calculator_text.specs.Faults.{fault_line};
 ghost use Rattle.p3_field_bench.specs.RunSoFar.{TakesBytes, HasNoEnd, StopsAtFailure, Ended, EndedAt, Finishes};
-ghost use Rattle.p3_field_bench.specs.Text.{RunEnds, fault_line};
+ghost use Rattle.p3_field_bench.specs.Text.{RunEnds};
 
-use crate::faults::Fault;
 use crate::machine::{Line, Machine, Stop};
-use crate::report::FaultLine;
 use crate::step::step;
 use p3_calculator_streams::streams::{Sink, Source, write_all};
+use p3_calculator_text::faults::Fault;
+use p3_calculator_text::report::FaultLine;
 use std::alloc::{Allocator, Global};
 
 /// Carries out the line in the buffer, which its byte 10 ends, and writes its text.

@@ -1,15 +1,15 @@
 ghost use Rattle.std.specs.Prelude.{◌≡◌, OnErr};
+ghost use Rattle.p3_calculator_text.specs.Lines.{words};
 ghost use Rattle.p3_calculator_fields.specs.Names.{field_named};
 ghost use Rattle.p3_field_bench.specs.Bank.{state_of};
 ghost use Rattle.p3_field_bench.specs.Effects.{May, Chooses, chosen};
-ghost use Rattle.p3_field_bench.specs.Lines.{words};
 ghost use Rattle.p3_field_bench.specs.Outcomes.{outcome, silent};
 
 use crate::act::without_text;
 use crate::bank::Bank;
-use crate::commands::{Command, parse_command};
-use crate::faults::Fault;
-use crate::words::{next_word, one_word};
+use p3_calculator_text::commands::{Command, parse_command};
+use p3_calculator_text::faults::Fault;
+use p3_calculator_text::words::{next_word, one_word};
 use std::alloc::Allocator;
 
 /// Chooses a field by its name, with all registers zero. A fault leaves the state as before.

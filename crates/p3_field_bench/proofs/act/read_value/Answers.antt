@@ -1,5 +1,5 @@
 use Rattle.std.proofs.Common.{◌≡◌, ◌∙◌, ap, sym, arith, length, ◌∷◌}
-use Rattle.p3_field_bench.specs.Lines.{words}
+use Rattle.p3_calculator_text.specs.Lines.{words}
 use Rattle.p3_field_bench.specs.Effects.{numbers_below}
 use Rattle.p3_calculator_fields.specs.Fields.{order}
 use Rattle.p3_field_bench.proofs.ValueLemmas.{value_more, prefixed-end}

@@ -1,5 +1,5 @@
 use Rattle.std.proofs.Common.{ℕ, List, ◌≢◌, inr, refl, subst}
-use Rattle.p3_field_bench.specs.declared.faults.Fault.TheVariants.{NoRoot}
+use Rattle.p3_calculator_text.specs.declared.faults.Fault.TheVariants.{NoRoot}
 use Rattle.p3_calculator_fields.specs.Registers.{state_at}
 use Rattle.p3_field_bench.specs.Effects.{At, Faults, TakesRoot, IsRoot}
 use Rattle.p3_calculator_fields.specs.States.{register_at}

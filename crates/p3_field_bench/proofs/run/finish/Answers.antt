@@ -3,7 +3,7 @@ use Rattle.std.proofs.KnownBytes.{Appends-nil}
 use Rattle.std.specs.Io.KnownBytes.{Appends}
 use Rattle.p3_field_bench.specs.Bank.{state_of}
 use Rattle.p3_field_bench.specs.Effects.{Continues, Faults}
-use Rattle.p3_field_bench.specs.Text.{fault_line}
+use Rattle.p3_calculator_text.specs.Faults.{fault_line}
 use Rattle.p3_field_bench.proofs.TakenBytes.{nothing_left, last_line, front_rest, some_pending}
 use Rattle.p3_field_bench.proofs.run.finish.Goals as goal
 

@@ -1,5 +1,5 @@
 ghost use Rattle.std.specs.Prelude.{◌≡◌, Some};
-ghost use Rattle.p3_field_bench.specs.Words.{command_of};
+ghost use Rattle.p3_calculator_text.specs.Words.{command_of};
 
 /// What a line asks for by its first word.
 #[derive(Clone, Copy, Debug, PartialEq, Eq)]

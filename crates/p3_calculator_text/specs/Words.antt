@@ -1,13 +1,13 @@
 -- What a word says.
 use Rattle.std.specs.Prelude.{ℕ, ◌+◌, ◌-◌, ◌*◌, ◌&&◌, nat_lt, nat_le, if◌then◌else◌, List, [], ◌∷◌, length, Option, Some, None, Result, Ok, Err, codes}
-use Rattle.p3_calculator_fields.specs.Tables.{lookup}
-use Rattle.p3_field_bench.specs.declared.commands.Command.{Command}
-use Rattle.p3_field_bench.specs.declared.commands.Command.TheVariants.{Field, Compute}
-use Rattle.p3_field_bench.specs.declared.commands.Operation.TheVariants.{Put, Binary, Unary, Pow, Inv, Sqrt, Show}
-use Rattle.p3_field_bench.specs.declared.commands.BinaryOperation.TheVariants.{Add, Sub, Mul}
-use Rattle.p3_field_bench.specs.declared.commands.UnaryOperation.TheVariants.{Neg, Sq, Dbl}
-use Rattle.p3_field_bench.specs.declared.faults.Fault.{Fault}
-use Rattle.p3_field_bench.specs.declared.faults.Fault.TheVariants.{WordCount, BadRegister, BadNumber}
+use Rattle.p3_calculator_text.specs.Tables.{lookup}
+use Rattle.p3_calculator_text.specs.declared.commands.Command.{Command}
+use Rattle.p3_calculator_text.specs.declared.commands.Command.TheVariants.{Field, Compute}
+use Rattle.p3_calculator_text.specs.declared.commands.Operation.TheVariants.{Put, Binary, Unary, Pow, Inv, Sqrt, Show}
+use Rattle.p3_calculator_text.specs.declared.commands.BinaryOperation.TheVariants.{Add, Sub, Mul}
+use Rattle.p3_calculator_text.specs.declared.commands.UnaryOperation.TheVariants.{Neg, Sq, Dbl}
+use Rattle.p3_calculator_text.specs.declared.faults.Fault.{Fault}
+use Rattle.p3_calculator_text.specs.declared.faults.Fault.TheVariants.{WordCount, BadRegister, BadNumber}
 
 -- the commands by their words
 abbrev pub commands : List (List ℕ × Command)

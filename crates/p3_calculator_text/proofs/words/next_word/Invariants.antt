@@ -1,6 +1,6 @@
 use Rattle.std.proofs.Common.{◌≡◌, ◌≤◌, ◌<◌, ◌-◌, ◌≢◌, ℕ, length, drop, get_or}
-use Rattle.p3_field_bench.specs.Lines.{words}
-use Rattle.p3_field_bench.proofs.words.next_word.Given as goal
+use Rattle.p3_calculator_text.specs.Lines.{words}
+use Rattle.p3_calculator_text.proofs.words.next_word.Given as goal
 
 abbrev pub invariant-loop-start : goal.invariant-loop-start
 invariant-loop-start l = (l.start ≤ length l.line) × (words (drop l.start l.line) ≡ words l.line)

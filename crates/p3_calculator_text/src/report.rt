@@ -1,5 +1,5 @@
 ghost use Rattle.std.specs.Prelude.{◌≡◌, ◌+◌, ◌≤◌, ◌++◌, length, take, drop, decimal};
-ghost use Rattle.p3_field_bench.specs.Text.{fault_line};
+ghost use Rattle.p3_calculator_text.specs.Faults.{fault_line};
 
 use crate::faults::Fault;
 

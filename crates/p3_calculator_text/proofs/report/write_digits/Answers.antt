@@ -1,7 +1,7 @@
 use Rattle.std.proofs.Common.{◌∙◌, ◌++◌, decimal, ap, arith, append-nil}
 use Rattle.std.proofs.lemmas.List.{drop_all, length-set}
-use Rattle.p3_field_bench.proofs.Digits.{last_digit, next_digit, below_power}
-use Rattle.p3_field_bench.proofs.report.write_digits.Goals as goal
+use Rattle.p3_calculator_text.proofs.Digits.{last_digit, next_digit, below_power}
+use Rattle.p3_calculator_text.proofs.report.write_digits.Goals as goal
 
 pub digits-init : goal.digits-init
 digits-init c =

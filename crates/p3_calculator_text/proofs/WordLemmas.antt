@@ -2,7 +2,7 @@
 use Rattle.std.proofs.Common.{◌≡◌, ◌≢◌, ◌∙◌, ℕ, ◌+◌, ◌-◌, ◌<◌, ◌≤◌, zero, suc, cond, eqb, List, [], ◌∷◌, length, take, drop, get_or, sym, ap, subst, inl, inr, arith}
 use Rattle.std.proofs.lemmas.Bool.{ne_eqb, cases_lt}
 use Rattle.std.proofs.lemmas.List.{take_all, get_or-drop, length-drop, drop-drop}
-use Rattle.p3_field_bench.specs.Lines.{words, letter_onto, onto_first}
+use Rattle.p3_calculator_text.specs.Lines.{words, letter_onto, onto_first}
 
 words-letter : (b : ℕ) (bytes : List ℕ) → (b ≡ 32 → ⊥) → words (b ∷ bytes) ≡ letter_onto b bytes (words bytes)
 words-letter b bytes h = ap (λ t. cond t (words bytes) (letter_onto b bytes (words bytes))) (ne_eqb b 32 h)

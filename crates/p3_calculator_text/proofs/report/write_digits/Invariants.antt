@@ -1,5 +1,5 @@
 use Rattle.std.proofs.Common.{◌≡◌, ◌<◌, ◌≤◌, ◌^◌, ◌++◌, length, drop, decimal}
-use Rattle.p3_field_bench.proofs.report.write_digits.Given as goal
+use Rattle.p3_calculator_text.proofs.report.write_digits.Given as goal
 
 abbrev pub invariant-digits : goal.invariant-digits
 invariant-digits l = (0 < l.at) × (l.at ≤ 39) × (length l.digits ≡ 39) × (l.rest < 10 ^ l.at) × (decimal l.rest ++ drop l.at l.digits ≡ decimal l.number)

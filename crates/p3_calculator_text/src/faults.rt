@@ -1,5 +1,5 @@
 ghost use Rattle.std.specs.Prelude.{◌≡◌};
-ghost use Rattle.p3_field_bench.specs.Faults.{fault_code};
+ghost use Rattle.p3_calculator_text.specs.Faults.{fault_code};
 
 /// Why a line, or a read, ends the run.
 #[derive(Clone, Copy, Debug, PartialEq, Eq, Drop)]

@@ -1,7 +1,7 @@
 use Rattle.std.proofs.Common.{◌≡◌, ◌<◌, ◌∙◌, length, arith, sym, get_or}
-use Rattle.p3_field_bench.proofs.WordLemmas.{first_word, apart}
-use Rattle.p3_field_bench.proofs.words.next_word.Goals as goal
-use Rattle.p3_field_bench.proofs.words.next_word.Goals.{then-loop-start-test+else-line-start-eq32, else-loop-start-test, then-loop-end-test+else-line-end-ne32, else-loop-end-test}
+use Rattle.p3_calculator_text.proofs.WordLemmas.{first_word, apart}
+use Rattle.p3_calculator_text.proofs.words.next_word.Goals as goal
+use Rattle.p3_calculator_text.proofs.words.next_word.Goals.{then-loop-start-test+else-line-start-eq32, else-loop-start-test, then-loop-end-test+else-line-end-ne32, else-loop-end-test}
 
 pub returns-clause-some : goal.returns-clause-some
 returns-clause-some c =
