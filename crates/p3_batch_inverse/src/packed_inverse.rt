@@ -9,7 +9,7 @@ use p3_packings::extension_lanes::{ExtensionLanes, PackedExtensionRing};
 use p3_ring::ring::PrimeCharacteristicRing;
 
 /// Writes the value to the lanes from `start` up to `end`.
-#[inline]
+#[inline(always)]
 fn fill_lanes<F, EF: PrimeCharacteristicRing, PE: ExtensionLanes<F, EF>>(
     packed: &mut PE,
     start: usize,
@@ -25,8 +25,9 @@ fn fill_lanes<F, EF: PrimeCharacteristicRing, PE: ExtensionLanes<F, EF>>(
 }
 
 /// Of two blocks of `size` lanes, one after the other, each lane gets the value with which the other block begins, or
-/// one where the lanes end before.
-#[inline]
+/// one where the lanes end before. Always inlined, as what it calls: where the compiler knows the lanes, they stay in
+/// vectors.
+#[inline(always)]
 fn of_neighbours<F, EF: PrimeCharacteristicRing, PE: ExtensionLanes<F, EF>>(
     packed: PE,
     size: usize,

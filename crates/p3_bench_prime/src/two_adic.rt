@@ -1,6 +1,6 @@
 //! Two-adic generators of the prime fields: from the top generator as a number to all laws.
 ghost use Rattle.std.specs.Prelude.{◌≡◌, ℕ, true, refl};
-ghost use Rattle.p3_theory.specs.ResidueRings.ResidueGenerators.{is_two_adic_generator, top_generator};
+ghost use Rattle.p3_theory.specs.ResidueRings.ResidueGenerators.{ArePowersOf, is_two_adic_generator, top_generator};
 
 use crate::baby_bear::BabyBearModulus;
 use crate::form::{Order, OverModulus, Word};
@@ -8,8 +8,13 @@ use crate::fp::Fp;
 use crate::koala_bear::KoalaBearModulus;
 use crate::small::{M2, M15, M17, M17b, M31};
 use p3_base::field::TwoAdicField;
-pub use p3_residues::two_adic_powers::TwoAdicPowers;
 use p3_ring::ring::PrimeCharacteristicRing;
+
+/// A two-adic field whose two-adic generators are powers of its `generator`. This project's own.
+pub trait TwoAdicPowers: TwoAdicField {
+    /// For n values the generator for so many bits is the power `(n - 1) / 2^bits`.
+    ghost powers: { ArePowersOf Self.ops Self.generator Self.size Self.TWO_ADICITY Self.two_adic };
+}
 
 /// The two-adicity and the top generator, as numbers, for the marker of an order. It stands for what
 /// upstream writes in each impl of `TwoAdicField`.

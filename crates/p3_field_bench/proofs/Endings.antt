@@ -11,7 +11,7 @@ use Rattle.p3_field_bench.specs.declared.machine.Stop.TheVariants.{AtFault, AtWr
 use Rattle.p3_calculator_text.specs.declared.faults.Fault.{Fault}
 use Rattle.p3_calculator_text.specs.declared.faults.Fault.TheVariants.{ReadFault}
 use Rattle.p3_field_bench.specs.Bank.{state_of}
-use Rattle.p3_calculator_fields.specs.States.{State, no_field}
+use Rattle.p3_field_bench.specs.States.{State, no_field}
 use Rattle.p3_calculator_text.specs.Lines.{lines_of}
 use Rattle.p3_field_bench.specs.RegisterValues.{Filled}
 use Rattle.p3_calculator_text.specs.Faults.{fault_line}

@@ -12,9 +12,9 @@ use Rattle.p3_theory.specs.Rings.Homomorphism.{length-map, at-map}
 use Rattle.p3_theory.specs.ResidueRings.Residues.{residues, residue_ops, residue_laws, are_residues, IsResidues}
 use Rattle.p3_theory.specs.Polynomials.Polynomial.{at, IsMonic}
 use Rattle.p3_ext.specs.Values.{ext_ops, ext_laws}
-use Rattle.p3_calculator_fields.specs.Fields.{FieldSpec, ResiduesModulo, PolynomialsModulo, IsValue, AllBelow, ops}
-use Rattle.p3_calculator_fields.specs.Representation.{Represents}
-use Rattle.p3_calculator_fields.specs.Coefficients.{residues_represented, extension_represented, one_coefficient, all_coefficients}
+use Rattle.p3_field_bench.specs.Fields.{FieldSpec, ResiduesModulo, PolynomialsModulo, IsValue, AllBelow, ops}
+use Rattle.p3_field_bench.specs.Representation.{Represents}
+use Rattle.p3_field_bench.specs.Coefficients.{residues_represented, extension_represented, one_coefficient, all_coefficients}
 use Rattle.p3_field_bench.specs.RegisterValues.{HasValues}
 
 -- a field has them where a ring's values stand for its coefficient lists

@@ -3,8 +3,8 @@ use Rattle.std.proofs.Common.{◌≢◌, ◌∙◌, List, ℕ, sym, ap, Option, 
 use Rattle.std.specs.Prelude.{MatchOption, IfSome, IfNone}
 use Rattle.p3_theory.specs.Rings.Ring.{Ops, IsInverse as IsInverseIn}
 use Rattle.p3_field_bench.specs.Effects.{IsInverse}
-use Rattle.p3_calculator_fields.specs.Fields.{FieldSpec, ops}
-use Rattle.p3_calculator_fields.specs.Representation.{Represents}
+use Rattle.p3_field_bench.specs.Fields.{FieldSpec, ops}
+use Rattle.p3_field_bench.specs.Representation.{Represents}
 
 module _ {A : Type 0} (s : FieldSpec) (O : Ops A) (c : A → List ℕ) (R : Represents s O c) where
   pub inverse_some : (x : A) (o : Option A) → MatchOption o ((y : A) → O.mul x y ≢ O.one) (λ y. IsInverseIn O x y) → IfSome o (λ y. IsInverse s (c x) (c y))

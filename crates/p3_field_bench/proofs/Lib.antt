@@ -4,8 +4,12 @@ pub mod InverseLemmas
 pub mod Letters
 pub mod LineLemmas
 pub mod OneText
+pub mod PremiseLemmas
 pub mod RegisterValues
 pub mod RootLemmas
+pub mod RootSearches
+pub mod SetCoefficients
 pub mod TakenBytes
+pub mod TextLemmas
 pub mod Totality
 pub mod ValueLemmas

@@ -9,8 +9,8 @@ use Rattle.p3_calculator_text.specs.declared.commands.Operation.{Operation}
 use Rattle.p3_calculator_text.specs.declared.commands.Operation.TheVariants.{Put, Binary, Unary, Pow, Inv, Sqrt, Show}
 use Rattle.p3_calculator_text.specs.declared.faults.Fault.{Fault}
 use Rattle.p3_calculator_text.specs.declared.faults.Fault.TheVariants.{NoMemory, LongLine}
-use Rattle.p3_calculator_fields.specs.States.{State, register_at}
-use Rattle.p3_calculator_fields.specs.Fields.{FieldSpec, IsValue}
+use Rattle.p3_field_bench.specs.States.{State, register_at}
+use Rattle.p3_field_bench.specs.Fields.{FieldSpec, IsValue}
 use Rattle.p3_calculator_text.specs.Tables.{lookup}
 use Rattle.p3_calculator_text.specs.Lines.{words}
 use Rattle.p3_calculator_text.specs.Words.{commands, command_of, one_register, two_registers, three_registers, registers_and_number}

@@ -16,10 +16,10 @@ use Rattle.p3_calculator_text.specs.declared.commands.UnaryOperation.{UnaryOpera
 use Rattle.p3_calculator_text.specs.declared.commands.UnaryOperation.TheVariants.{Neg, Sq, Dbl}
 use Rattle.p3_calculator_text.specs.declared.faults.Fault.{Fault}
 use Rattle.p3_calculator_text.specs.declared.faults.Fault.TheVariants.{UnknownCommand, WordCount, NoInverse, NoRoot, NoField, NoMemory, LongLine}
-use Rattle.p3_calculator_fields.specs.Display.{display}
-use Rattle.p3_calculator_fields.specs.States.{State, at_field, register_at}
-use Rattle.p3_calculator_fields.specs.Fields.{FieldSpec, IsValue, AllBelow, order, dimension, ops}
-use Rattle.p3_calculator_fields.specs.Names.{named_fields, field_named}
+use Rattle.p3_field_bench.specs.Display.{display}
+use Rattle.p3_field_bench.specs.States.{State, at_field, register_at}
+use Rattle.p3_field_bench.specs.Fields.{FieldSpec, IsValue, AllBelow, order, dimension, ops}
+use Rattle.p3_field_bench.specs.Names.{named_fields, field_named}
 use Rattle.p3_calculator_text.specs.Tables.{lookup}
 use Rattle.p3_calculator_text.specs.Lines.{words}
 use Rattle.p3_calculator_text.specs.Words.{command_of, number_from, up_to, decimal_up_to, number, register, one_of, two_of, three_of, two_with_number, one_register, two_registers, three_registers, registers_and_number}

@@ -6,9 +6,9 @@ use Rattle.p3_theory.specs.Rings.Powers.{power}
 use Rattle.p3_theory.specs.Rings.Homomorphism.{map-power}
 use Rattle.p3_theory.specs.Roots.SquareRoots.{FiniteFieldPremise}
 use Rattle.p3_field_bench.specs.Effects.{IsRoot}
-use Rattle.p3_calculator_fields.specs.Fields.{FieldSpec, ops, value_count, generator_of}
-use Rattle.p3_calculator_fields.specs.Premise.{MeetsPremise}
-use Rattle.p3_calculator_fields.specs.Representation.{Represents, RootOrNone}
+use Rattle.p3_field_bench.specs.Fields.{FieldSpec, ops, value_count, generator_of}
+use Rattle.p3_field_bench.specs.Premise.{MeetsPremise}
+use Rattle.p3_field_bench.specs.Representation.{Represents, RootOrNone}
 
 module _ {A : Type 0} (f : FieldSpec) (O : Ops A) (c : A → List ℕ) (R : Represents f O c) where
   pub root_some : (n : ℕ) (g x : A) (o : Option A) → RootOrNone O n g x o → IfSome o (λ y. IsRoot f (c x) (c y))

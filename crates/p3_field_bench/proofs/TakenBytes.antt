@@ -12,7 +12,7 @@ use Rattle.std.proofs.KnownBytes.{Appends-nil, Appends-trans}
 use Rattle.p3_calculator_text.specs.Lines.{lines_of}
 use Rattle.p3_field_bench.specs.Bank.{state_of}
 use Rattle.p3_field_bench.specs.Effects.{Continues, Faults, May}
-use Rattle.p3_calculator_fields.specs.States.{State}
+use Rattle.p3_field_bench.specs.States.{State}
 use Rattle.p3_calculator_text.specs.Faults.{fault_line}
 use Rattle.p3_field_bench.specs.Text.{IsTextFrom, IsText, BeginsText}
 use Rattle.p3_field_bench.specs.RegisterValues.{Filled}

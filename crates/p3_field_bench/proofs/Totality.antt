@@ -9,8 +9,8 @@ use Rattle.p3_calculator_text.specs.declared.faults.Fault.{Fault}
 use Rattle.p3_calculator_text.specs.declared.faults.Fault.TheVariants.{NoInverse, NoRoot, LongLine}
 use Rattle.p3_theory.specs.Rings.Powers.{power}
 use Rattle.p3_field_bench.specs.Effects.{Outcome, Continues, Faults, At, Inverts, IsInverse, IsRoot, TakesRoot, Computes, ComputesAt, Chooses, Commands, Does, May, sets, binary, unary}
-use Rattle.p3_calculator_fields.specs.States.{State, register_at}
-use Rattle.p3_calculator_fields.specs.Fields.{FieldSpec, AllBelow, order, dimension, ops}
+use Rattle.p3_field_bench.specs.States.{State, register_at}
+use Rattle.p3_field_bench.specs.Fields.{FieldSpec, AllBelow, order, dimension, ops}
 use Rattle.p3_field_bench.specs.RegisterValues.{HasValues, IsFilled, Filled}
 use Rattle.p3_field_bench.proofs.RegisterValues.{FilledAfter, may_filled}
 use Rattle.p3_calculator_text.specs.Lines.{words}

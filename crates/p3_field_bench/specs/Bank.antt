@@ -1,7 +1,7 @@
 -- The state that the registers of a bank stand for.
 use Rattle.p3_field_bench.specs.declared.bank.Bank.{Bank}
 use Rattle.p3_field_bench.specs.declared.bank.Bank.TheVariants.{Empty, Residues, Quadratic, Middle, High}
-use Rattle.p3_calculator_fields.specs.States.{State, no_field}
+use Rattle.p3_field_bench.specs.States.{State, no_field}
 
 -- the state that the registers of a kind stand for
 abbrev pub state_of : Bank → State

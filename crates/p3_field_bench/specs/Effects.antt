@@ -12,12 +12,12 @@ use Rattle.p3_calculator_text.specs.declared.faults.Fault.{Fault}
 use Rattle.p3_calculator_text.specs.declared.faults.Fault.TheVariants.{UnknownCommand, WordCount, BadRegister, BadNumber, NoInverse, NoRoot, NoField, NoMemory, LongLine}
 use Rattle.p3_theory.specs.Rings.Ring.{Ops, subtract}
 use Rattle.p3_theory.specs.Rings.Powers.{power}
-use Rattle.p3_calculator_fields.specs.Display.{display}
-use Rattle.p3_calculator_fields.specs.States.{State, at_field, all_zero, register_at}
-use Rattle.p3_calculator_fields.specs.Fields.{FieldSpec, order, dimension, ops, IsValue}
-use Rattle.p3_calculator_fields.specs.Names.{field_named}
+use Rattle.p3_field_bench.specs.Display.{display}
+use Rattle.p3_field_bench.specs.States.{State, at_field, all_zero, register_at}
+use Rattle.p3_field_bench.specs.Fields.{FieldSpec, order, dimension, ops, IsValue}
+use Rattle.p3_field_bench.specs.Names.{field_named}
 use Rattle.p3_calculator_text.specs.Lines.{words}
-use Rattle.p3_calculator_fields.specs.Premise.{MeetsPremise}
+use Rattle.p3_field_bench.specs.Premise.{MeetsPremise}
 use Rattle.p3_calculator_text.specs.Words.{command_of, number, register, one_register, two_registers, three_registers, registers_and_number}
 
 -- a line goes on from a new state after some text, or ends the run with a fault

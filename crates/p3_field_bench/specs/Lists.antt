@@ -1,9 +1,9 @@
 -- Registers as one of a list of types.
 use Rattle.std.specs.Prelude.{ℕ, List, [], ◌∷◌}
-use Rattle.p3_calculator_fields.specs.declared.lists.OneOf.{OneOf}
-use Rattle.p3_calculator_fields.specs.declared.lists.OneOf.TheVariants.{This, Other}
-use Rattle.p3_calculator_fields.specs.Fields.{FieldSpec}
-use Rattle.p3_calculator_fields.specs.States.{State, at_field}
+use Rattle.p3_field_bench.specs.declared.lists.OneOf.{OneOf}
+use Rattle.p3_field_bench.specs.declared.lists.OneOf.TheVariants.{This, Other}
+use Rattle.p3_field_bench.specs.Fields.{FieldSpec}
+use Rattle.p3_field_bench.specs.States.{State, at_field}
 
 -- the fields beside their names
 abbrev pub rows : List FieldSpec → List (List ℕ) → List (List ℕ × FieldSpec)

@@ -3,7 +3,7 @@ use Rattle.std.specs.Prelude.{ℕ, [], Option, Some, None, Result, Ok, Err, Vec}
 use Rattle.p3_calculator_text.specs.declared.faults.Fault.{Fault}
 use Rattle.p3_calculator_text.specs.declared.faults.Fault.TheVariants.{NoField}
 use Rattle.p3_field_bench.specs.Effects.{Outcome, Continues, Faults}
-use Rattle.p3_calculator_fields.specs.States.{State}
+use Rattle.p3_field_bench.specs.States.{State}
 
 -- the text that was made, in the state that was left
 abbrev pub outcome : {A : Type 0} → Result (Vec ℕ A) Fault → State → Outcome

@@ -1,7 +1,7 @@
 -- Registers that hold values of their field.
 use Rattle.std.specs.Prelude.{◌≡◌, ◌<◌, ℕ, List, Option, Some, None}
-use Rattle.p3_calculator_fields.specs.Fields.{FieldSpec, IsValue, order, ops}
-use Rattle.p3_calculator_fields.specs.States.{State, register_at}
+use Rattle.p3_field_bench.specs.Fields.{FieldSpec, IsValue, order, ops}
+use Rattle.p3_field_bench.specs.States.{State, register_at}
 use Rattle.p3_field_bench.specs.Effects.{IsInverse}
 
 -- sums, negations and products of a field's values are values, zero is its own square, and a value has one inverse at most

@@ -1,7 +1,7 @@
 -- When two texts of the same lines are one text.
 use Rattle.std.specs.Prelude.{◌≡◌, ◌≢◌, ℕ, ◌+◌, ◌⊎◌, List, [], ◌∷◌, ◌++◌, take, codes}
 use Rattle.p3_calculator_text.specs.declared.faults.Fault.TheVariants.{NoMemory}
-use Rattle.p3_calculator_fields.specs.States.{State}
+use Rattle.p3_field_bench.specs.States.{State}
 use Rattle.p3_calculator_text.specs.Lines.{words}
 use Rattle.p3_calculator_text.specs.Faults.{fault_line}
 use Rattle.p3_field_bench.specs.Text.{IsTextFrom}

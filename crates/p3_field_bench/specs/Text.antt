@@ -2,7 +2,7 @@
 use Rattle.std.specs.Prelude.{◌≡◌, ℕ, ◌+◌, ◌≤◌, ◌⊎◌, ◌==◌, Bool, true, false, if◌then◌else◌, List, [], ◌∷◌, ◌++◌, length, take}
 use Rattle.p3_calculator_text.specs.declared.faults.Fault.TheVariants.{ReadFault}
 use Rattle.p3_field_bench.specs.Effects.{Outcome, Continues, Faults, May}
-use Rattle.p3_calculator_fields.specs.States.{State, no_field}
+use Rattle.p3_field_bench.specs.States.{State, no_field}
 use Rattle.p3_calculator_text.specs.Faults.{fault_line}
 use Rattle.p3_calculator_text.specs.Lines.{lines_of}
 

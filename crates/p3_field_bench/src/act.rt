@@ -1,16 +1,16 @@
 ghost use Rattle.std.specs.Prelude.{◌≡◌, ◌≢◌, ◌++◌, ◌∷◌, [], ℕ, List, Some, None, length, IfOk, OnErr, IfSome, IfNone};
 ghost use Rattle.p3_theory.specs.Rings.Powers.{power};
 ghost use Rattle.p3_calculator_text.specs.Lines.{words};
-ghost use Rattle.p3_calculator_fields.specs.Registers.{state_at};
-ghost use Rattle.p3_calculator_fields.specs.Display.{display};
-ghost use Rattle.p3_calculator_fields.specs.States.{State};
-ghost use Rattle.p3_calculator_fields.specs.Fields.{order, dimension, ops};
-ghost use Rattle.p3_calculator_fields.specs.Premise.{MeetsPremise};
+ghost use Rattle.p3_field_bench.specs.Registers.{state_at};
+ghost use Rattle.p3_field_bench.specs.Display.{display};
+ghost use Rattle.p3_field_bench.specs.States.{State};
+ghost use Rattle.p3_field_bench.specs.Fields.{order, dimension, ops};
+ghost use Rattle.p3_field_bench.specs.Premise.{MeetsPremise};
 ghost use Rattle.p3_field_bench.specs.Effects.{Computes, numbers_below, IsInverse, IsRoot, binary, unary};
 ghost use Rattle.p3_field_bench.specs.Outcomes.{outcome, silent};
 
-use p3_calculator_fields::field::CalculatorField;
-use p3_calculator_fields::registers::Registers;
+use crate::field::CalculatorField;
+use crate::registers::Registers;
 use p3_calculator_text::commands::{BinaryOperation, Operation, UnaryOperation};
 use p3_calculator_text::faults::Fault;
 use p3_calculator_text::words::{

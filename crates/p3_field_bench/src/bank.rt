@@ -2,25 +2,25 @@
 ghost use Rattle.std.specs.Prelude.{◌≡◌, ℕ, List, [], ◌∷◌, OnErr, map, replicate};
 ghost use Rattle.p3_calculator_text.specs.Tables.{lookup};
 ghost use Rattle.p3_calculator_text.specs.Lines.{words};
-ghost use Rattle.p3_calculator_fields.specs.Fields.{FieldSpec, ops};
-ghost use Rattle.p3_calculator_fields.specs.Names.{field_named};
-ghost use Rattle.p3_calculator_fields.specs.States.{State, at_field, no_field};
+ghost use Rattle.p3_field_bench.specs.Fields.{FieldSpec, ops};
+ghost use Rattle.p3_field_bench.specs.Names.{field_named};
+ghost use Rattle.p3_field_bench.specs.States.{State, at_field, no_field};
 ghost use Rattle.p3_field_bench.specs.Effects.{Computes, ComputesAt, chosen};
 ghost use Rattle.p3_field_bench.specs.Lists.{rows};
 ghost use Rattle.p3_field_bench.specs.Outcomes.{outcome, opened_as};
 
 use crate::act::act;
+use crate::lists::{ComplexRegisters, NoField, OneOf};
+use crate::names::{
+    HIGH_NAMES, HighList, MIDDLE_NAMES, MiddleList, NamedBinomial, NamedComplex, NamedPolynomial,
+    QUADRATIC_NAMES, QuadraticList, RESIDUE_NAMES, ResidueList,
+};
+use crate::registers::Registers;
+use crate::zeros::{zero_polynomials, zero_residues};
 use p3_bench_prime::binomial_constants::BinomialConstants;
 use p3_bench_prime::form::{Form, Word};
 use p3_bench_prime::fp::Fp;
 use p3_bench_prime::polynomial_constants::PolynomialConstants;
-use p3_calculator_fields::lists::{ComplexRegisters, NoField, OneOf};
-use p3_calculator_fields::names::{
-    HIGH_NAMES, HighList, MIDDLE_NAMES, MiddleList, NamedBinomial, NamedComplex, NamedPolynomial,
-    QUADRATIC_NAMES, QuadraticList, RESIDUE_NAMES, ResidueList,
-};
-use p3_calculator_fields::registers::Registers;
-use p3_calculator_fields::zeros::{zero_polynomials, zero_residues};
 use p3_calculator_text::commands::Operation;
 use p3_calculator_text::faults::Fault;
 use p3_calculator_text::words::next_word;
@@ -53,9 +53,9 @@ pub trait NamedRegisters: Drop {
 }
 
 impl<W: Form<T>, T: Word> NamedRegisters for Registers<Fp<W, T>> {
-    ghost use Rattle.p3_calculator_fields.specs.Coefficients.{one_coefficient};
-    ghost use Rattle.p3_calculator_fields.specs.Fields.{ResiduesModulo};
-    ghost use Rattle.p3_calculator_fields.specs.Registers.{canon};
+    ghost use Rattle.p3_field_bench.specs.Coefficients.{one_coefficient};
+    ghost use Rattle.p3_field_bench.specs.Fields.{ResiduesModulo};
+    ghost use Rattle.p3_field_bench.specs.Registers.{canon};
 
     ghost field = { ResiduesModulo W.ORDER W.GENERATOR };
 
@@ -80,9 +80,9 @@ impl<W: NamedBinomial<D>, const D: usize> NamedRegisters
 where
     W::Modulus: BinomialConstants<D>,
 {
-    ghost use Rattle.p3_calculator_fields.specs.Bases.{binomial_field};
-    ghost use Rattle.p3_calculator_fields.specs.Coefficients.{all_coefficients};
-    ghost use Rattle.p3_calculator_fields.specs.Registers.{canon};
+    ghost use Rattle.p3_field_bench.specs.Bases.{binomial_field};
+    ghost use Rattle.p3_field_bench.specs.Coefficients.{all_coefficients};
+    ghost use Rattle.p3_field_bench.specs.Registers.{canon};
 
     ghost field = { binomial_field W.Form ⟦<u32 as Word>⟧ D W.Modulus.W W.Modulus.ext_generator };
 
@@ -107,9 +107,9 @@ impl<W: NamedPolynomial<D, S>, const D: usize, S: IntegerPolynomial<D>> NamedReg
 where
     W::Modulus: PolynomialConstants<D, S>,
 {
-    ghost use Rattle.p3_calculator_fields.specs.Bases.{polynomial_field};
-    ghost use Rattle.p3_calculator_fields.specs.Coefficients.{all_coefficients};
-    ghost use Rattle.p3_calculator_fields.specs.Registers.{canon};
+    ghost use Rattle.p3_field_bench.specs.Bases.{polynomial_field};
+    ghost use Rattle.p3_field_bench.specs.Coefficients.{all_coefficients};
+    ghost use Rattle.p3_field_bench.specs.Registers.{canon};
 
     ghost field = { polynomial_field W.Form ⟦<u32 as Word>⟧ D S.coefficients W.Modulus.ext_generator };
 
@@ -131,8 +131,8 @@ where
 
 impl<F: NamedComplex> NamedRegisters for ComplexRegisters<F> {
     ghost use Rattle.p3_theory.specs.Polynomials.Polynomial.{tabulate, binomial};
-    ghost use Rattle.p3_calculator_fields.specs.Coefficients.{all_coefficients};
-    ghost use Rattle.p3_calculator_fields.specs.Fields.{PolynomialsModulo};
+    ghost use Rattle.p3_field_bench.specs.Coefficients.{all_coefficients};
+    ghost use Rattle.p3_field_bench.specs.Fields.{PolynomialsModulo};
 
     ghost field = { PolynomialsModulo F.base_order 2 (map F.canon (binomial F.ops 2 (F.ops.neg F.ops.one))) (map F.canon (tabulate 2 F.complex_generator_coefficient)) };
 

@@ -4,10 +4,17 @@
 
 mod act;
 mod bank;
+mod bases;
+pub mod field;
 pub mod laws;
+mod lists;
 mod machine;
+mod names;
+mod primes;
+pub mod registers;
 mod run;
 mod step;
+mod zeros;
 
 pub use p3_bench_prime::baby_bear::BabyBear;
 pub use p3_bench_prime::complex_tower::F31cx2;
@@ -19,7 +26,6 @@ pub use p3_bench_prime::fp::Fp;
 pub use p3_bench_prime::goldilocks::Goldilocks;
 pub use p3_bench_prime::koala_bear::KoalaBear;
 pub use p3_bench_prime::small::{F2, F17, F17b, F31, Z15};
-pub use p3_calculator_fields::{field as field, registers as registers};
 pub use p3_calculator_streams::memory::{MemSink, MemSource};
 pub use p3_calculator_streams::standard::{StdSink, StdSource};
 pub use p3_calculator_streams::streams::{ReadFailed, Sink, Source, WriteFailed, write_all};

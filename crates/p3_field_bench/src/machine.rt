@@ -36,7 +36,7 @@ pub struct Machine {
 
 impl Machine {
     ghost use Rattle.p3_field_bench.specs.Bank.{state_of};
-    ghost use Rattle.p3_calculator_fields.specs.States.{no_field};
+    ghost use Rattle.p3_field_bench.specs.States.{no_field};
 
     /// Before the first line.
     pub fn new() -> Self

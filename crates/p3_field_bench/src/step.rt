@@ -1,6 +1,6 @@
 ghost use Rattle.std.specs.Prelude.{◌≡◌, OnErr};
 ghost use Rattle.p3_calculator_text.specs.Lines.{words};
-ghost use Rattle.p3_calculator_fields.specs.Names.{field_named};
+ghost use Rattle.p3_field_bench.specs.Names.{field_named};
 ghost use Rattle.p3_field_bench.specs.Bank.{state_of};
 ghost use Rattle.p3_field_bench.specs.Effects.{May, Chooses, chosen};
 ghost use Rattle.p3_field_bench.specs.Outcomes.{outcome, silent};

@@ -46,7 +46,7 @@ fn pack_coefficients<F: PrimeCharacteristicRing, P: PackedRing<F>, const D: usiz
 }
 
 /// Writes a lane of each packing: that of packing i gets value i.
-#[inline]
+#[inline(always)]
 fn write_lanes<F: PrimeCharacteristicRing, P: PackedRing<F>>(
     parts: &mut [P],
     lane: usize,
@@ -90,7 +90,7 @@ impl<
         Self::new(value)
     }
 
-    #[inline]
+    #[inline(always)]
     fn extract(&self, lane: usize) -> ExtField<F, D, S, F> {
         let mut value = [F::zero(); D];
         for i in 0..D {
@@ -100,7 +100,7 @@ impl<
         ExtField::<F, D, S, F>::new(value)
     }
 
-    #[inline]
+    #[inline(always)]
     fn set_ext_lane(&mut self, lane: usize, value: ExtField<F, D, S, F>) {
         write_lanes::<F, P>(&mut self.value.value, lane, &value.value);
     }

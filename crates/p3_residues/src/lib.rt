@@ -7,4 +7,3 @@ pub mod montgomery;
 mod odd_modulus;
 pub mod remainder;
 pub mod short_words;
-pub mod two_adic_powers;

@@ -1,7 +1,7 @@
 use Rattle.std.proofs.Common.{◌≡◌, ◌∙◌, ap, sym, arith, length, ◌∷◌}
 use Rattle.p3_calculator_text.specs.Lines.{words}
 use Rattle.p3_field_bench.specs.Effects.{numbers_below}
-use Rattle.p3_calculator_fields.specs.Fields.{order}
+use Rattle.p3_field_bench.specs.Fields.{order}
 use Rattle.p3_field_bench.proofs.ValueLemmas.{value_more, prefixed-end}
 use Rattle.p3_field_bench.proofs.act.read_value.Goals as goal
 

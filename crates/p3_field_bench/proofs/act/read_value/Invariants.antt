@@ -1,7 +1,7 @@
 use Rattle.std.proofs.Common.{◌≡◌, ◌+◌, length, take}
 use Rattle.p3_calculator_text.specs.Lines.{words}
 use Rattle.p3_field_bench.specs.Effects.{numbers_below}
-use Rattle.p3_calculator_fields.specs.Fields.{order, dimension}
+use Rattle.p3_field_bench.specs.Fields.{order, dimension}
 use Rattle.p3_field_bench.proofs.ValueLemmas.{prefixed}
 use Rattle.p3_field_bench.proofs.act.read_value.Given as goal
 

@@ -1,10 +1,10 @@
 use Rattle.std.proofs.Common.{ℕ, List, ◌≢◌, inr, refl, subst}
 use Rattle.p3_calculator_text.specs.declared.faults.Fault.TheVariants.{NoRoot}
-use Rattle.p3_calculator_fields.specs.Registers.{state_at}
+use Rattle.p3_field_bench.specs.Registers.{state_at}
 use Rattle.p3_field_bench.specs.Effects.{At, Faults, TakesRoot, IsRoot}
-use Rattle.p3_calculator_fields.specs.States.{register_at}
-use Rattle.p3_calculator_fields.specs.Fields.{ops}
-use Rattle.p3_calculator_fields.specs.Premise.{MeetsPremise}
+use Rattle.p3_field_bench.specs.States.{register_at}
+use Rattle.p3_field_bench.specs.Fields.{ops}
+use Rattle.p3_field_bench.specs.Premise.{MeetsPremise}
 use Rattle.p3_field_bench.proofs.act.sqrt.Goals as goal
 
 pub returns-in_default-clause-computes : goal.returns-in_default-clause-computes

@@ -1,4 +1,4 @@
-use Rattle.p3_calculator_fields.specs.States.{no_field}
+use Rattle.p3_field_bench.specs.States.{no_field}
 use Rattle.p3_field_bench.proofs.OneText.{one_text}
 use Rattle.p3_field_bench.proofs.laws.a_text_without_roots_is_one.Goals as goal
 

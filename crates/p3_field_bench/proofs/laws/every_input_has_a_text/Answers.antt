@@ -1,4 +1,4 @@
-use Rattle.p3_calculator_fields.specs.States.{no_field}
+use Rattle.p3_field_bench.specs.States.{no_field}
 use Rattle.p3_calculator_text.specs.Lines.{lines_of}
 use Rattle.p3_field_bench.proofs.Totality.{every_text}
 use Rattle.p3_field_bench.proofs.laws.every_input_has_a_text.Goals as goal

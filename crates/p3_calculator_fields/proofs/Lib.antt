@@ -1,4 +1,0 @@
-pub mod PremiseLemmas
-pub mod RootSearches
-pub mod SetCoefficients
-pub mod TextLemmas

@@ -1,5 +1,0 @@
-use Rattle.p3_calculator_fields.proofs.SetCoefficients.{canon-zero}
-use Rattle.p3_calculator_fields.proofs.bases.FpBase.zero_residue.Goals as goal
-
-pub returns : goal.returns
-returns g c = canon-zero c.default.result c.default.ensures

@@ -1,9 +1,0 @@
-pub mod Bases
-pub mod Coefficients
-pub mod Display
-pub mod Fields
-pub mod Names
-pub mod Premise
-pub mod Registers
-pub mod Representation
-pub mod States
