@@ -5,7 +5,8 @@ import sys
 
 sys.dont_write_bytecode = True
 
-ROOT = os.path.dirname(os.path.dirname(os.path.abspath(__file__)))
+# The checkout of the script that runs, by the path that it was called by: scripts/ may be a link to another one's.
+ROOT = os.path.dirname(os.path.dirname(os.path.abspath(sys.argv[0])))
 KIT = os.path.dirname(subprocess.run(["rt", "doc"], capture_output=True, text=True).stdout.strip())
 TOOLCHAIN = f"{KIT}/toolchain"
 
