@@ -2,7 +2,7 @@
 ghost use Rattle.std.specs.Prelude.{◌≡◌, ◌<◌, ◌≤◌, ℕ};
 ghost use Rattle.p3_theory.specs.Rings.Ring.{Invertible, IsInverse};
 ghost use Rattle.p3_theory.specs.Lanes.Lanes.{lane};
-ghost use Rattle.p3_theory.specs.Lanes.LaneBlocks.{Filled, HoldsNeighbours};
+ghost use Rattle.p3_theory.specs.Lanes.LaneBlocks.{Filled, HoldsNeighbours, Joined};
 
 use p3_base::field::Field;
 use p3_packings::extension_lanes::{ExtensionLanes, PackedExtensionRing};
@@ -53,6 +53,29 @@ fn of_neighbours<F, EF: PrimeCharacteristicRing, PE: ExtensionLanes<F, EF>>(
     neighbours
 }
 
+/// Where the lanes are more than a block of `size`, joins each block with its neighbour: the others of a lane get the
+/// product of the neighbour's lanes as a factor. It answers how many lanes a block has then, and `size` where there is
+/// one block. Up to 16 lanes the packed inverse calls it with constants, so that neighbours are exchanged in vectors.
+#[inline(always)]
+fn join_blocks<F, EF: Field, PE: PackedExtensionRing<F, EF>>(
+    packed: PE,
+    others: &mut PE,
+    size: usize,
+) -> usize
+    requires some { 0 < size }
+    requires held { Joined EF.ops PE.LANES size (PE.ext_lanes (PE.ops.mul packed others.old)) }
+    ensures held { Joined EF.ops PE.LANES result (PE.ext_lanes (PE.ops.mul packed others.new)) }
+    ensures grows { size ≤ result }
+    ensures more { size < PE.LANES → size < result }
+{
+    if size >= PE::LANES {
+        return size;
+    }
+    let products = packed * *others;
+    *others *= of_neighbours::<F, EF, PE>(products, size);
+    size + size.min(PE::LANES - size)
+}
+
 /// The inverse at each lane, of a packing whose lanes all have one, by one inversion: that of the product of all lanes,
 /// times the others of each. These are joined in pairs, then pairs of pairs, by two packed products each time. It takes
 /// every number of lanes. Upstream's `invert_packed_extension`.
@@ -63,11 +86,11 @@ pub fn invert_packed_extension<F, EF: Field, PE: PackedExtensionRing<F, EF>>(pac
     ensures inverse { IsInverse PE.ops packed result }
 {
     let mut others = of_neighbours::<F, EF, PE>(packed, 1);
-    let mut size = 2;
+    let fours = join_blocks::<F, EF, PE>(packed, &mut others, 2);
+    let eights = join_blocks::<F, EF, PE>(packed, &mut others, fours);
+    let mut size = join_blocks::<F, EF, PE>(packed, &mut others, eights);
     while size < PE::LANES {
-        let products = packed * others;
-        others *= of_neighbours::<F, EF, PE>(products, size);
-        size += size.min(PE::LANES - size);
+        size = join_blocks::<F, EF, PE>(packed, &mut others, size);
     }
     let first = ExtensionLanes::<F, EF>::extract(&packed, 0);
     let product = first * ExtensionLanes::<F, EF>::extract(&others, 0);

@@ -22,6 +22,10 @@ HoldsNeighbours O w xs ns i = (m k : ℕ) → k < i →
     (InBlock w (2 * m) k → get_or ns k O.zero ≡ get_or xs ((2 * m + 1) * w) O.one)
     × (InBlock w (2 * m + 1) k → get_or ns k O.zero ≡ get_or xs (2 * m * w) O.one)
 
+-- the n entries have inverses, and stand in blocks of at least size entries, or of just as many where that is less than n, of which each holds one value
+abbrev pub Joined : {A : Type 0} → Ops A → ℕ → ℕ → List A → Type 0
+Joined O n size xs = (w : ℕ) × (size ≤ w) × (size < n → size ≡ w) × HoldsBlocks O w xs × ((k : ℕ) → k < n → Invertible O (get_or xs k O.zero))
+
 -- from start up to end now holds the value, and elsewhere what old holds
 abbrev pub Filled : {A : Type 0} → A → A → List A → List A → ℕ → ℕ → Type 0
 Filled z v old now start end =
@@ -128,17 +132,13 @@ module _ {A : Type 0} {O : Ops A} (r : RingLaws O) where
             | inr outside ↦ subst (Invertible O) (sym (get_or_past xs i O.one outside)) (O.one, r.mul_one O.one)
           ]
 
-  -- the n entries have inverses, and stand in blocks of at least size entries, or of just as many where that is less than n, of which each holds one value
-  abbrev pub Joined : ℕ → ℕ → List A → Type 0
-  Joined n size xs = (w : ℕ) × (size ≤ w) × (size < n → size ≡ w) × HoldsBlocks O w xs × ((k : ℕ) → k < n → Invertible O (get_or xs k O.zero))
-
   -- a block of one entry holds one value
   pub blocks-single : (xs : List A) → HoldsBlocks O 1 xs
   blocks-single xs m j k jn kn a b = ap (λ i. get_or xs i O.zero) (omega (arith, a, b))
 
   pub joined-more : (n w next : ℕ) (xs ns ys : List A) → length xs ≡ n → length ys ≡ n → 0 < w → next ≤ 2 * w → (next < n → next ≡ 2 * w) → HoldsBlocks O w xs
       → ((k : ℕ) → k < n → Invertible O (get_or xs k O.zero)) → HoldsNeighbours O w xs ns n → ((k : ℕ) → k < n → get_or ys k O.zero ≡ O.mul (get_or xs k O.zero) (get_or ns k O.zero))
-      → Joined n next ys
+      → Joined O n next ys
   joined-more n w next xs ns ys lx ly some most whole same each near made =
       let near' : HoldsNeighbours O w xs ns (length xs) = subst (HoldsNeighbours O w xs ns) (sym lx) near in
       let each' : (k : ℕ) → k < length xs → Invertible O (get_or xs k O.zero) = λ k b. each k (omega (arith, b, lx)) in (
@@ -152,7 +152,7 @@ module _ {A : Type 0} {O : Ops A} (r : RingLaws O) where
       )
 
   -- in the end all entries are one value
-  pub joined-whole : (n size : ℕ) (xs : List A) → length xs ≡ n → n ≤ size → Joined n size xs → (j k : ℕ) → j < n → k < n → get_or xs j O.zero ≡ get_or xs k O.zero
+  pub joined-whole : (n size : ℕ) (xs : List A) → length xs ≡ n → n ≤ size → Joined O n size xs → (j k : ℕ) → j < n → k < n → get_or xs j O.zero ≡ get_or xs k O.zero
   joined-whole n size xs long all held j k jn kn =
       let first : (i : ℕ) → i < n → InBlock held.0 0 i = λ i b. (omega arith, omega (arith, b, all, held.1)) in
       held.3 0 j k (omega (arith, jn, long)) (omega (arith, kn, long)) (first j jn) (first k kn)

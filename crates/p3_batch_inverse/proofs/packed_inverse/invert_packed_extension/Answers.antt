@@ -2,49 +2,20 @@ use Rattle.std.proofs.Common.{◌≡◌, ◌<◌, ◌≤◌, ◌+◌, ◌∙◌,
 use Rattle.std.proofs.lemmas.List.{ext_get_or}
 use Rattle.p3_theory.specs.Rings.Ring.{Invertible}
 use Rattle.p3_theory.specs.Lanes.Lanes.{at_replicate}
-use Rattle.p3_theory.specs.Lanes.LaneBlocks.{HoldsBlocks, HoldsNeighbours, read-product, blocks-single, joined-more, joined-whole}
+use Rattle.p3_theory.specs.Lanes.LaneBlocks.{read-product, blocks-single, joined-more, joined-whole}
 use Rattle.p3_batch_inverse.proofs.packed_inverse.invert_packed_extension.Goals as goal
 
-pub loop-size-init : goal.loop-size-init
-loop-size-init g c =
+pub join_blocks-fours-requires-clause-held : goal.join_blocks-fours-requires-clause-held
+join_blocks-fours-requires-clause-held g c =
     let r = g.met.EF.PrimeCharacteristicRing.ring in
     let lanes = g.PE.ExtensionLanes.ext_lanes in
     let n = g.PE.ExtensionLanes.LANES in
     let long = g.met.PE.ExtensionLanes.ext_lengths in
     let x = c.args.packed in
     let y = c.of_neighbours-others.result in
-    let xs = lanes x in (
-      omega arith,
-      joined-more r n 1 2 xs (lanes y) (lanes (g.PE.PrimeCharacteristicRing.ops.mul x y)) (long x) (long _) (omega arith) (omega arith) (λ _. refl) (blocks-single r xs) c.requires
-          c.of_neighbours-others.ensures (λ k b. (g.met.PE.PackedExtensionRing.ext_keeps k b).mul x y),
-    )
-
-pub loop-size-preserved : goal.loop-size-preserved
-loop-size-preserved g c =
-    let o = g.EF.PrimeCharacteristicRing.ops in
-    let p = g.PE.PrimeCharacteristicRing.ops in
-    let m = g.met.PE.PrimeCharacteristicRing in
-    let lanes = g.PE.ExtensionLanes.ext_lanes in
-    let n = g.PE.ExtensionLanes.LANES in
-    let long = g.met.PE.ExtensionLanes.ext_lengths in
-    let s = c.loop-size in
-    let v = s.invariant in
-    let x = c.args.packed in
-    let products = p.mul x s.others in
-    let ns = c.of_neighbours.result in
-    let others = c.mul_assign.new.self in
-    let next = s.size + c.min-size.result in
-    let early : s.size < n = omega (arith, c.LANES.ensures, c.loop-size-test.true) in
-    let blocks : HoldsBlocks o s.size (lanes products) = subst (λ w. HoldsBlocks o w (lanes products)) (sym (v.1.2 early)) v.1.3 in
-    let near : HoldsNeighbours o s.size (lanes products) (lanes ns) n = subst (λ q. HoldsNeighbours o s.size (lanes q) (lanes ns) n) (m.muls.exact x s.others c.mul-products.result c.mul-products.ensures) c.of_neighbours.ensures in
-    let fresh : others ≡ p.mul s.others ns = m.mul_assigns.exact s.others ns others c.mul_assign.ensures.after in
-    let whole : p.mul x others ≡ p.mul products ns = ap (p.mul x) fresh ∙ sym (m.ring.mul_assoc x s.others ns) in
-    let made : (k : ℕ) → k < n → get_or (lanes (p.mul x others)) k o.zero ≡ o.mul (get_or (lanes products) k o.zero) (get_or (lanes ns) k o.zero) =
-    λ k b. ap (λ q. get_or (lanes q) k o.zero) whole ∙ (g.met.PE.PackedExtensionRing.ext_keeps k b).mul products ns in (
-      omega (arith, v.0),
-      joined-more g.met.EF.PrimeCharacteristicRing.ring n s.size next (lanes products) (lanes ns) (lanes (p.mul x others)) (long _) (long _) v.0 (omega (arith, c.min-size.ensures))
-          (λ more. omega (arith, more, c.min-size.ensures, c.LANES-in-loop-size.ensures)) blocks v.1.4 near made,
-    )
+    let xs = lanes x in
+    joined-more r n 1 2 xs (lanes y) (lanes (g.PE.PrimeCharacteristicRing.ops.mul x y)) (long x) (long _) (omega arith) (omega arith) (λ _. refl) (blocks-single r xs) c.requires
+    c.of_neighbours-others.ensures (λ k b. (g.met.PE.PackedExtensionRing.ext_keeps k b).mul x y)
 
 pub inverse-requires : goal.inverse-requires
 inverse-requires g c =
