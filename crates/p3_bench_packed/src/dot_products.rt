@@ -1,6 +1,6 @@
 //! Dot products of packings: of two to four positions at all lanes at once, or at each lane one of the values
 //! there; of more four positions at a time.
-ghost use Rattle.std.specs.Prelude.{◌≡◌, ◌≤◌, ◌<◌, ◌^◌, IfSome, length, map, drop};
+ghost use Rattle.std.specs.Prelude.{◌≡◌, ◌≤◌, ◌<◌, ◌^◌, length, map, drop};
 ghost use Rattle.p3_theory.specs.Rings.DotProduct.{dot};
 ghost use Rattle.p3_theory.specs.Lanes.RowRing.{item, row_ops};
 ghost use Rattle.p3_bench_packed.specs.Values.{packed_rows};
@@ -85,16 +85,17 @@ fn rows_of<F: PrimeCharacteristicRing, const N: usize, const K: usize>(
 fn dot_at_once<F: LaneDotProducts<N>, const N: usize, const K: usize>(
     u: &[Packed<F, N>],
     v: &[Packed<F, N>],
-) -> Option<Packed<F, N>>
+) -> Packed<F, N>
+    requires at_once { F.at_once }
     requires few { K ≤ 4 }
     requires left { length u.now ≡ K }
     requires right { length v.now ≡ K }
-    ensures { IfSome result (λ sum. sum ≡ dot (row_ops packed_rows F.ops) u.now v.now) }
+    ensures { result ≡ dot (row_ops packed_rows F.ops) u.now v.now }
 {
     let left = rows_of::<F, N, K>(u);
     let right = rows_of::<F, N, K>(v);
-    let sums = F::lane_dot_products(&left[..], &right[..])?;
-    Some(Packed::new(sums))
+    let sums = F::lane_dot_products(&left[..], &right[..]);
+    Packed::new(sums)
 }
 
 /// The dot product of K packings and K others: at all lanes at once, or lane by lane.
@@ -108,9 +109,10 @@ fn dot_of_few<F: LaneDotProducts<N>, const N: usize, const K: usize>(
     requires right { length v.now ≡ K }
     ensures { result ≡ dot (row_ops packed_rows F.ops) u.now v.now }
 {
-    match dot_at_once::<F, N, K>(u, v) {
-        Some(sum) => sum,
-        None => dot_by_lanes::<F, N, K>(u, v),
+    if F::at_once() {
+        dot_at_once::<F, N, K>(u, v)
+    } else {
+        dot_by_lanes::<F, N, K>(u, v)
     }
 }
 

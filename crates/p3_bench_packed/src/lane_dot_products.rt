@@ -1,5 +1,5 @@
 //! Dot products of at most four rows of N values, index by index, and of slices of packings, which packings go by.
-ghost use Rattle.std.specs.Prelude.{◌≡◌, ◌≤◌, ◌<◌, ◌^◌, ℕ, [], true, IfSome, length, get_or};
+ghost use Rattle.std.specs.Prelude.{◌≡◌, ◌≤◌, ◌<◌, ◌^◌, ◌⊎◌, ℕ, [], true, IfSome, length, get_or};
 ghost use Rattle.p3_theory.specs.Rings.DotProduct.{dot};
 ghost use Rattle.p3_theory.specs.Lanes.RowRing.{row_ops};
 ghost use Rattle.p3_bench_packed.specs.Columns.{column};
@@ -23,13 +23,21 @@ const SHORT_ORDERS: u64 = 0x100;
 
 /// A type that may have the dot products of rows of N values at once. This project's own.
 pub trait LaneDotProducts<const N: usize>: PrimeCharacteristicRing {
-    /// The dot products of the values at each index of at most four rows. `None` where the type has no way
-    /// that is faster than one index after the other.
-    fn lane_dot_products(left: &[[Self; N]], right: &[[Self; N]]) -> Option<[Self; N]>
+    /// That the type has a way to the dot products of rows that is faster than one index after the other.
+    ghost at_once: { Type 0 };
+
+    /// Whether it has.
+    fn at_once() -> bool
+        ensures { result ≡ true → at_once };
+
+    /// The dot products of the values at each index of at most four rows, where the type has such a way. They are
+    /// no `Option`: out of one the compiler takes values lane by lane.
+    fn lane_dot_products(left: &[[Self; N]], right: &[[Self; N]]) -> [Self; N]
+        requires at_once { at_once }
         requires few { length left.now ≤ 4 }
         requires lengths { length left.now ≡ length right.now }
-        ensures length { IfSome result (λ sums. length sums ≡ N) }
-        ensures lanes { IfSome result (λ sums. (d : Self) (k : ℕ) → k < N → get_or sums k d ≡ dot Self.ops (column k d left.now) (column k d right.now)) };
+        ensures length { length result ≡ N }
+        ensures lanes { (d : Self) (k : ℕ) → k < N → get_or result k d ≡ dot Self.ops (column k d left.now) (column k d right.now) };
 
     /// The dot product of two slices of at most 2^16 packings. `None` where the type has no way that is faster than a
     /// few packings after the others.
@@ -100,14 +108,19 @@ fn small_dot_products<W: Form<T>, T: Word, const N: usize>(
 
 /// By vectors in Montgomery's form and modulo small orders.
 impl<W: Form<T>, T: Word, const N: usize> LaneDotProducts<N> for Fp<W, T> {
+    ghost at_once = { (N ≤ 64) × ((0 < W.INVERSE) ⊎ ((W.PLAIN ≡ true) × (W.ORDER ≤ 2 ^ 7))) };
+
     #[inline(always)]
-    fn lane_dot_products(left: &[[Self; N]], right: &[[Self; N]]) -> Option<[Self; N]> {
-        if W::INVERSE > 0 && N <= MOST_LANES {
-            Some(montgomery_dot_products::<W, T, N>(left, right))
-        } else if W::PLAIN && W::ORDER <= SMALL_ORDERS && N <= MOST_LANES {
-            Some(small_dot_products::<W, T, N>(left, right))
+    fn at_once() -> bool {
+        N <= MOST_LANES && (W::INVERSE > 0 || W::PLAIN && W::ORDER <= SMALL_ORDERS)
+    }
+
+    #[inline(always)]
+    fn lane_dot_products(left: &[[Self; N]], right: &[[Self; N]]) -> [Self; N] {
+        if W::INVERSE > 0 {
+            montgomery_dot_products::<W, T, N>(left, right)
         } else {
-            None
+            small_dot_products::<W, T, N>(left, right)
         }
     }
 

@@ -9,4 +9,4 @@ pub returns : goal.returns
 returns g c =
     let o = g.F.PrimeCharacteristicRing.ops in
     dot_by_columns packed_rows o c.args.u.now c.args.v.now c.new.result _ c.new.ensures
-    (λ k w. c.in_ok-sums.ensures.lanes o.zero k w ∙ ap₂ (dot o) (ap (column k o.zero) c.rows_of-left.ensures) (ap (column k o.zero) c.rows_of-right.ensures))
+    (λ k w. c.lane_dot_products-sums.ensures.lanes o.zero k w ∙ ap₂ (dot o) (ap (column k o.zero) c.rows_of-left.ensures) (ap (column k o.zero) c.rows_of-right.ensures))
