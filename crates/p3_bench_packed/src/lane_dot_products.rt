@@ -1,5 +1,5 @@
 //! Dot products of at most four rows of N values, index by index, and of slices of packings, which packings go by.
-ghost use Rattle.std.specs.Prelude.{◌≡◌, ◌≤◌, ◌<◌, ◌^◌, ◌⊎◌, ℕ, [], true, IfSome, length, get_or};
+ghost use Rattle.std.specs.Prelude.{◌≡◌, ◌≤◌, ◌<◌, ◌^◌, ◌⊎◌, ◌↔◌, ℕ, [], true, IfSome, IsTrue, length, get_or};
 ghost use Rattle.p3_theory.specs.Rings.DotProduct.{dot};
 ghost use Rattle.p3_theory.specs.Lanes.RowRing.{row_ops};
 ghost use Rattle.p3_bench_packed.specs.Columns.{column};
@@ -28,7 +28,7 @@ pub trait LaneDotProducts<const N: usize>: PrimeCharacteristicRing {
 
     /// Whether it has.
     fn at_once() -> bool
-        ensures { result ≡ true → at_once };
+        ensures { IsTrue result ↔ at_once };
 
     /// The dot products of the values at each index of at most four rows, where the type has such a way. They are
     /// no `Option`: out of one the compiler takes values lane by lane.
