@@ -2,31 +2,38 @@
 ghost use Rattle.std.specs.Prelude.{◌≡◌, ◌<◌, ◌≤◌, ℕ};
 ghost use Rattle.p3_theory.specs.Rings.Ring.{Invertible, IsInverse};
 ghost use Rattle.p3_theory.specs.Lanes.Lanes.{lane};
-ghost use Rattle.p3_theory.specs.Lanes.LaneBlocks.{Filled, HoldsNeighbours, Joined};
+ghost use Rattle.p3_theory.specs.Lanes.LaneBlocks.{HoldsNeighbours, IsNeighbours, Joined};
 
 use p3_base::field::Field;
 use p3_packings::extension_lanes::{ExtensionLanes, PackedExtensionRing};
 use p3_ring::ring::PrimeCharacteristicRing;
 
-/// Writes the value to the lanes from `start` up to `end`.
+/// Of blocks of `size` lanes, two by two, the value with which the other block begins than that in which a lane stands, or
+/// one where the lanes end before.
 #[inline(always)]
-fn fill_lanes<F, EF: PrimeCharacteristicRing, PE: ExtensionLanes<F, EF>>(
-    packed: &mut PE,
-    start: usize,
-    end: usize,
-    value: EF,
-)
-    requires { end ≤ PE.LANES }
-    ensures { Filled EF.ops.zero value (PE.ext_lanes packed.old) (PE.ext_lanes packed.new) start end }
+fn of_neighbour<F, EF: PrimeCharacteristicRing, PE: ExtensionLanes<F, EF>>(
+    packed: &PE,
+    size: usize,
+    lane: usize,
+) -> EF
+    requires some { 0 < size }
+    requires inside { lane < PE.LANES }
+    ensures { (m : ℕ) → IsNeighbours EF.ops size (PE.ext_lanes packed.now) m lane result }
 {
-    for lane in start..end {
-        packed.set_ext_lane(lane, value);
+    let block = lane / size;
+    let start = block * size;
+    if block % 2 == 1 {
+        ExtensionLanes::<F, EF>::extract(packed, start - size)
+    } else if size < PE::LANES - start {
+        ExtensionLanes::<F, EF>::extract(packed, start + size)
+    } else {
+        EF::one()
     }
 }
 
 /// Of two blocks of `size` lanes, one after the other, each lane gets the value with which the other block begins, or
-/// one where the lanes end before. Always inlined, as what it calls: where the compiler knows the lanes, they stay in
-/// vectors.
+/// one where the lanes end before. Always inlined, as what it calls, and one loop: where the compiler knows the lanes,
+/// they stay in vectors.
 #[inline(always)]
 fn of_neighbours<F, EF: PrimeCharacteristicRing, PE: ExtensionLanes<F, EF>>(
     packed: PE,
@@ -36,19 +43,9 @@ fn of_neighbours<F, EF: PrimeCharacteristicRing, PE: ExtensionLanes<F, EF>>(
     ensures { HoldsNeighbours EF.ops size (PE.ext_lanes packed) (PE.ext_lanes result) PE.LANES }
 {
     let mut neighbours = packed;
-    let mut start = 0;
-    while start < PE::LANES {
-        let middle = start + size.min(PE::LANES - start);
-        let end = middle + size.min(PE::LANES - middle);
-        let lower = ExtensionLanes::<F, EF>::extract(&packed, start);
-        let upper = if middle < PE::LANES {
-            ExtensionLanes::<F, EF>::extract(&packed, middle)
-        } else {
-            EF::one()
-        };
-        fill_lanes::<F, EF, PE>(&mut neighbours, start, middle, upper);
-        fill_lanes::<F, EF, PE>(&mut neighbours, middle, end, lower);
-        start = end;
+    for lane in 0..PE::LANES {
+        let value = of_neighbour::<F, EF, PE>(&packed, size, lane);
+        neighbours.set_ext_lane(lane, value);
     }
     neighbours
 }
@@ -78,8 +75,9 @@ fn join_blocks<F, EF: Field, PE: PackedExtensionRing<F, EF>>(
 
 /// The inverse at each lane, of a packing whose lanes all have one, by one inversion: that of the product of all lanes,
 /// times the others of each. These are joined in pairs, then pairs of pairs, by two packed products each time. It takes
-/// every number of lanes. Upstream's `invert_packed_extension`.
-#[inline]
+/// every number of lanes. It isn't inlined: its lanes are read one by one, and in a caller's loop the value would go from
+/// step to step so. Upstream's `invert_packed_extension`.
+#[inline(never)]
 pub fn invert_packed_extension<F, EF: Field, PE: PackedExtensionRing<F, EF>>(packed: PE) -> PE
     requires { (k : ℕ) → k < PE.LANES → Invertible EF.ops (lane EF.ops PE.ext_lanes k packed) }
     ensures lanes { (k : ℕ) → k < PE.LANES → IsInverse EF.ops (lane EF.ops PE.ext_lanes k packed) (lane EF.ops PE.ext_lanes k result) }

@@ -1,5 +1,5 @@
 -- Lists in blocks of w entries, of which each holds one value, and what a block's neighbour holds.
-use Rattle.std.specs.Prelude.{◌≡◌, ◌<◌, ◌≤◌, ◌+◌, ◌*◌, ◌/◌, ◌⊎◌, ℕ, List, length, get_or, slice_get, Some}
+use Rattle.std.specs.Prelude.{◌≡◌, ◌≢◌, ◌<◌, ◌≤◌, ◌+◌, ◌-◌, ◌*◌, ◌/◌, ◌%◌, ◌⊎◌, ℕ, List, length, get_or, slice_get, Some}
 use Rattle.std.proofs.Common.{arith, ap, ap₂, sym, subst, ◌∙◌, inl, inr}
 use Rattle.std.proofs.Math.Nat.{mul-le-mul_right, div-mul-le_self, lt-div-mul-add}
 use Rattle.std.proofs.lemmas.Bool.{cases_lt}
@@ -16,22 +16,17 @@ InBlock w m k = (m * w ≤ k) × (k < m * w + w)
 abbrev pub HoldsBlocks : {A : Type 0} → Ops A → ℕ → List A → Type 0
 HoldsBlocks O w xs = (m j k : ℕ) → j < length xs → k < length xs → InBlock w m j → InBlock w m k → get_or xs j O.zero ≡ get_or xs k O.zero
 
+-- of xs in blocks of w entries, v is the value with which the other one of blocks 2 * m and 2 * m + 1 begins than that in which index k stands, or one where the list ends before
+abbrev pub IsNeighbours : {A : Type 0} → Ops A → ℕ → List A → ℕ → ℕ → A → Type 0
+IsNeighbours O w xs m k v = (InBlock w (2 * m) k → v ≡ get_or xs ((2 * m + 1) * w) O.one) × (InBlock w (2 * m + 1) k → v ≡ get_or xs (2 * m * w) O.one)
+
 -- at each index below i of two blocks, one after the other, ns holds the value with which the other one begins, or one where the list ends before
 abbrev pub HoldsNeighbours : {A : Type 0} → Ops A → ℕ → List A → List A → ℕ → Type 0
-HoldsNeighbours O w xs ns i = (m k : ℕ) → k < i →
-    (InBlock w (2 * m) k → get_or ns k O.zero ≡ get_or xs ((2 * m + 1) * w) O.one)
-    × (InBlock w (2 * m + 1) k → get_or ns k O.zero ≡ get_or xs (2 * m * w) O.one)
+HoldsNeighbours O w xs ns i = (m k : ℕ) → k < i → IsNeighbours O w xs m k (get_or ns k O.zero)
 
 -- the n entries have inverses, and stand in blocks of at least size entries, or of just as many where that is less than n, of which each holds one value
 abbrev pub Joined : {A : Type 0} → Ops A → ℕ → ℕ → List A → Type 0
 Joined O n size xs = (w : ℕ) × (size ≤ w) × (size < n → size ≡ w) × HoldsBlocks O w xs × ((k : ℕ) → k < n → Invertible O (get_or xs k O.zero))
-
--- from start up to end now holds the value, and elsewhere what old holds
-abbrev pub Filled : {A : Type 0} → A → A → List A → List A → ℕ → ℕ → Type 0
-Filled z v old now start end =
-    ((k : ℕ) → k < start → get_or now k z ≡ get_or old k z)
-    × ((k : ℕ) → start ≤ k → k < end → get_or now k z ≡ v)
-    × ((k : ℕ) → end ≤ k → get_or now k z ≡ get_or old k z)
 
 -- an index stands in one block alone
 pub one_block : (w m n k : ℕ) → InBlock w m k → InBlock w n k → m ≡ n
@@ -58,27 +53,32 @@ pub read-product : {A : Type 0} (O : Ops A) (xs ys zs : List A) (k : ℕ) (a b p
     → get_or zs k O.zero ≡ O.mul (get_or xs k O.zero) (get_or ys k O.zero) → p ≡ get_or zs k O.zero
 read-product O xs ys zs k a b p e f product made = product ∙ sym (made ∙ ap₂ O.mul (get_or_from_slice_get xs k a O.zero e) (get_or_from_slice_get ys k b O.zero f))
 
--- where two blocks of xs begin at start, and what the second of them begins with is written over the first and the other way round, two blocks more hold their neighbours
-pub neighbours-more : {A : Type 0} (O : Ops A) (w : ℕ) (xs ns ms ls : List A) (m start middle end : ℕ) (lower upper : A) → start ≡ 2 * m * w → start ≤ middle → middle ≤ start + w → (middle < length xs → middle ≡ start + w)
-    → end ≤ middle + w → end ≤ length xs → HoldsNeighbours O w xs ns start → Filled O.zero upper ns ms start middle → Filled O.zero lower ms ls middle end
-    → lower ≡ get_or xs start O.one → upper ≡ get_or xs (start + w) O.one → HoldsNeighbours O w xs ls end
-neighbours-more O w xs ns ms ls m start middle end lower upper at from to whole last inside near first second e-lower e-upper n k h =
-    elim (cases_lt k start) [
-      | inl old ↦
-          let front : k < middle = omega (arith, old, from) in
-          let kept = second.0 k front ∙ first.0 k old in
-          (λ b. kept ∙ (near n k old).0 b, λ b. kept ∙ (near n k old).1 b)
-      | inr new ↦ (
-        λ b.
-            let same = one_block (2 * w) n m k (omega (arith, b.0), omega (arith, b.1)) (omega (arith, at, new), omega (arith, at, h, last, to)) in
-            let early : k < middle = elim (cases_lt middle (length xs)) [ inl more ↦ omega (arith, b.1, ap (λ i. i * w) same, at, whole more) | inr all ↦ omega (arith, all, h, inside) ] in
-            second.0 k early ∙ first.1 k new early ∙ e-upper ∙ ap (λ i. get_or xs i O.one) (omega (arith, at, ap (λ i. i * w) same)),
-        λ b.
-            let same = one_block (2 * w) n m k (omega (arith, b.0), omega (arith, b.1)) (omega (arith, at, new), omega (arith, at, h, last, to)) in
-            let late : middle ≤ k = omega (arith, b.0, ap (λ i. i * w) same, at, to) in
-            second.1 k late h ∙ e-lower ∙ ap (λ i. get_or xs i O.one) (omega (arith, at, ap (λ i. i * w) same)),
-      )
-    ]
+-- an index stands in the block of its quotient
+pub own_block : (w k : ℕ) → 0 < w → InBlock w (k / w) k
+own_block w k some = (div-mul-le_self k w, lt-div-mul-add {a = k} {b = w} some)
+
+-- in an odd block, the neighbour is the block before
+pub block-before : {A : Type 0} (O : Ops A) (w : ℕ) (xs : List A) (k : ℕ) (v : A) → 0 < w → k / w % 2 ≡ 1 → slice_get xs (k / w * w - w) ≡ Some v → (m : ℕ) → IsNeighbours O w xs m k v
+block-before O w xs k v some odd e m = (
+    λ b. absurd (omega (arith, odd, one_block w (k / w) (2 * m) k (own_block w k some) b)),
+    λ b.
+        let start : k / w * w - w ≡ 2 * m * w = omega (arith, ap (λ i. i * w) (one_block w (k / w) (2 * m + 1) k (own_block w k some) b)) in
+        sym (get_or_from_slice_get xs _ v O.one e) ∙ ap (λ i. get_or xs i O.one) start,
+)
+
+-- and in an even one the block after
+after : {A : Type 0} (O : Ops A) (w : ℕ) (xs : List A) (k : ℕ) (v : A) → 0 < w → k / w % 2 ≢ 1 → v ≡ get_or xs (k / w * w + w) O.one → (m : ℕ) → IsNeighbours O w xs m k v
+after O w xs k v some even e m = (
+    λ b. e ∙ ap (λ i. get_or xs i O.one) (omega (arith, ap (λ i. i * w) (one_block w (k / w) (2 * m) k (own_block w k some) b))),
+    λ b. absurd (even (omega (arith, one_block w (k / w) (2 * m + 1) k (own_block w k some) b))),
+)
+
+pub block-after : {A : Type 0} (O : Ops A) (w : ℕ) (xs : List A) (k : ℕ) (v : A) → 0 < w → k / w % 2 ≢ 1 → slice_get xs (k / w * w + w) ≡ Some v → (m : ℕ) → IsNeighbours O w xs m k v
+block-after O w xs k v some even e = after O w xs k v some even (sym (get_or_from_slice_get xs (k / w * w + w) v O.one e))
+
+-- where the list ends before that, the neighbour is one
+pub last-block : {A : Type 0} (O : Ops A) (w : ℕ) (xs : List A) (k : ℕ) (v : A) → 0 < w → k / w % 2 ≢ 1 → length xs ≤ k / w * w + w → v ≡ O.one → (m : ℕ) → IsNeighbours O w xs m k v
+last-block O w xs k v some even past e = after O w xs k v some even (e ∙ sym (get_or_past xs (k / w * w + w) O.one past))
 
 module _ {A : Type 0} {O : Ops A} (r : RingLaws O) where
   -- the value with which a block begins is that at each of its indices
@@ -119,7 +119,7 @@ module _ {A : Type 0} {O : Ops A} (r : RingLaws O) where
   neighbours-invertible w xs ns some near each k h =
       let m = k / (2 * w) in
       let wide : 0 < 2 * w = omega (arith, some) in
-      let b : InBlock (2 * w) m k = (div-mul-le_self k (2 * w), lt-div-mul-add {a = k} {b = 2 * w} wide) in
+      let b : InBlock (2 * w) m k = own_block (2 * w) k wide in
       elim (halves w m k b) [
         | inl low ↦ subst (Invertible O) (sym ((near m k h).0 low)) (or-one ((2 * m + 1) * w))
         | inr high ↦ subst (Invertible O) (sym ((near m k h).1 high)) (or-one (2 * m * w))
