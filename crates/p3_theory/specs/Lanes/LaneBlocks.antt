@@ -60,17 +60,17 @@ own_block w k some = (div-mul-le_self k w, lt-div-mul-add {a = k} {b = w} some)
 -- in an odd block, the neighbour is the block before
 pub block-before : {A : Type 0} (O : Ops A) (w : ℕ) (xs : List A) (k : ℕ) (v : A) → 0 < w → k / w % 2 ≡ 1 → slice_get xs (k / w * w - w) ≡ Some v → (m : ℕ) → IsNeighbours O w xs m k v
 block-before O w xs k v some odd e m = (
-    λ b. absurd (omega (arith, odd, one_block w (k / w) (2 * m) k (own_block w k some) b)),
-    λ b.
-        let start : k / w * w - w ≡ 2 * m * w = omega (arith, ap (λ i. i * w) (one_block w (k / w) (2 * m + 1) k (own_block w k some) b)) in
-        sym (get_or_from_slice_get xs _ v O.one e) ∙ ap (λ i. get_or xs i O.one) start,
+  λ b. absurd (omega (arith, odd, one_block w (k / w) (2 * m) k (own_block w k some) b)),
+  λ b.
+      let start : k / w * w - w ≡ 2 * m * w = omega (arith, ap (λ i. i * w) (one_block w (k / w) (2 * m + 1) k (own_block w k some) b)) in
+      sym (get_or_from_slice_get xs _ v O.one e) ∙ ap (λ i. get_or xs i O.one) start,
 )
 
 -- and in an even one the block after
 after : {A : Type 0} (O : Ops A) (w : ℕ) (xs : List A) (k : ℕ) (v : A) → 0 < w → k / w % 2 ≢ 1 → v ≡ get_or xs (k / w * w + w) O.one → (m : ℕ) → IsNeighbours O w xs m k v
 after O w xs k v some even e m = (
-    λ b. e ∙ ap (λ i. get_or xs i O.one) (omega (arith, ap (λ i. i * w) (one_block w (k / w) (2 * m) k (own_block w k some) b))),
-    λ b. absurd (even (omega (arith, one_block w (k / w) (2 * m + 1) k (own_block w k some) b))),
+  λ b. e ∙ ap (λ i. get_or xs i O.one) (omega (arith, ap (λ i. i * w) (one_block w (k / w) (2 * m) k (own_block w k some) b))),
+  λ b. absurd (even (omega (arith, one_block w (k / w) (2 * m + 1) k (own_block w k some) b))),
 )
 
 pub block-after : {A : Type 0} (O : Ops A) (w : ℕ) (xs : List A) (k : ℕ) (v : A) → 0 < w → k / w % 2 ≢ 1 → slice_get xs (k / w * w + w) ≡ Some v → (m : ℕ) → IsNeighbours O w xs m k v
