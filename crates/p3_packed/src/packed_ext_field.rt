@@ -175,25 +175,24 @@ impl<F: Copy, const D: usize, S: Copy, P: Copy + Neg<Output = P>> Neg
     }
 }
 
-impl<F: PackedProduct<P, D, S>, const D: usize, S: Copy, P: PrimeCharacteristicRing> Mul
+impl<F: PackedProduct<P, D, S>, const D: usize, S: Copy, P: Copy> Mul
     for PackedExtField<F, D, S, P> {
     type Output = Self;
 
     ghost mul_gives = { λ x y r. F.packed_product_gives x.value.value y.value.value r.value.value };
 
-    /// Always inlined: as a call, each product of a chain would wait until the one before is in memory. The product is
-    /// written over zeros: over a factor whose lanes are read one by one, the compiler writes it one by one, too.
+    /// Always inlined: as a call, each product of a chain would wait until the one before is in memory.
     #[inline(always)]
     fn mul(self, other: Self) -> Self {
         let x = self.value;
         let y = other.value;
-        let mut value = [P::zero(); D];
+        let mut value = x.value;
         F::packed_product(&x.value, &y.value, &mut value);
         Self::new(value)
     }
 }
 
-impl<F: PackedProduct<P, D, S>, const D: usize, S: Copy, P: PrimeCharacteristicRing> MulAssign
+impl<F: PackedProduct<P, D, S>, const D: usize, S: Copy, P: Copy> MulAssign
     for PackedExtField<F, D, S, P> {
     ghost mul_assign_gives = { λ x y r. F.packed_product_gives x.value.value y.value.value r.value.value };
 
