@@ -10,6 +10,11 @@ use p3_field::extension::{Binomial, ExtensionOverAlgebra, PackedProduct, binomia
 impl<P: Algebra<Mersenne31>> PackedProduct<P, 3, Binomial<Mersenne31>> for Mersenne31 {
     ghost packed_product_gives = { λ a b r. r ≡ quotient_mul P.ops 3 (binomial P.ops 3 (P.embed (of 5))) a b };
 
+    #[inline(always)]
+    fn placeholder() -> P {
+        P::zero()
+    }
+
     #[inline]
     fn packed_product(a: &[P], b: &[P], res: &mut [P]) {
         let five = Self::new(5);

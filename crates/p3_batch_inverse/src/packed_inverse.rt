@@ -8,8 +8,8 @@ use p3_base::field::Field;
 use p3_packings::extension_lanes::{ExtensionLanes, PackedExtensionRing};
 use p3_ring::ring::PrimeCharacteristicRing;
 
-/// Of blocks of `size` lanes, two by two, the value with which the other block begins than that in which a lane stands, or
-/// one where the lanes end before.
+/// Blocks of `size` lanes are paired: the value with which the other block of a lane's pair begins, or one where the lanes
+/// end before.
 #[inline(always)]
 fn of_neighbour<F, EF: PrimeCharacteristicRing, PE: ExtensionLanes<F, EF>>(
     packed: &PE,
@@ -31,8 +31,8 @@ fn of_neighbour<F, EF: PrimeCharacteristicRing, PE: ExtensionLanes<F, EF>>(
     }
 }
 
-/// Of two blocks of `size` lanes, one after the other, each lane gets the value with which the other block begins, or
-/// one where the lanes end before. Always inlined, as what it calls, and one loop: where the compiler knows the lanes,
+/// Blocks of `size` lanes are paired: each lane gets the value with which the other block of its pair begins, or one
+/// where the lanes end before. Always inlined, as what it calls, and one loop: where the compiler knows the lanes,
 /// they stay in vectors.
 #[inline(always)]
 fn of_neighbours<F, EF: PrimeCharacteristicRing, PE: ExtensionLanes<F, EF>>(

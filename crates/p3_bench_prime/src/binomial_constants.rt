@@ -157,6 +157,11 @@ where
     ghost packed_product_gives = { λ a b r. r ≡ quotient_mul P.ops D (binomial P.ops D (P.embed (of W.Form W.Modulus.W))) a b };
 
     #[inline(always)]
+    fn placeholder() -> P {
+        P::zero()
+    }
+
+    #[inline(always)]
     fn packed_product(a: &[P], b: &[P], res: &mut [P]) {
         binomial_product::<Self, P, D>(a, b, res, Self::new(<W::Modulus>::W));
     }

@@ -199,6 +199,10 @@ pub trait PackedProduct<P, const D: usize, S>: Copy {
     /// What the product may answer.
     ghost packed_product_gives: { List P → List P → List P → Type 0 };
 
+    /// What a product is written over, D times: any packing, best zero. Over a copy of a factor whose
+    /// lanes are read one by one, the compiler would write the product one by one, too.
+    fn placeholder() -> P;
+
     /// The product of two lists of D packings, written to `res`, whatever it held.
     fn packed_product(a: &[P], b: &[P], res: &mut [P])
         requires left { length a.now ≡ D }

@@ -186,7 +186,7 @@ impl<F: PackedProduct<P, D, S>, const D: usize, S: Copy, P: Copy> Mul
     fn mul(self, other: Self) -> Self {
         let x = self.value;
         let y = other.value;
-        let mut value = x.value;
+        let mut value = [F::placeholder(); D];
         F::packed_product(&x.value, &y.value, &mut value);
         Self::new(value)
     }
@@ -272,7 +272,7 @@ impl<
     #[inline]
     fn square(&self) -> Self {
         let x = self.value;
-        let mut value = x.value;
+        let mut value = [F::placeholder(); D];
         F::packed_square(&x.value, &mut value);
         Self::new(value)
     }

@@ -49,6 +49,11 @@ fn complex_square<A: PrimeCharacteristicRing>(a: &[A], res: &mut [A])
 impl<F: ComplexExtendable, P: Algebra<F>> PackedProduct<P, 2, Binomial<F>> for F {
     ghost packed_product_gives = { λ a b r. r ≡ quotient_mul P.ops 2 (binomial P.ops 2 (P.ops.neg P.ops.one)) a b };
 
+    #[inline(always)]
+    fn placeholder() -> P {
+        P::zero()
+    }
+
     #[inline]
     fn packed_product(a: &[P], b: &[P], res: &mut [P]) {
         complex_product(a, b, res);

@@ -171,6 +171,11 @@ impl<F: HasComplexBinomialExtension<D>, P: Algebra<Complex<F>>, const D: usize> 
 > for Complex<F> {
     ghost packed_product_gives = { λ a b r. r ≡ quotient_mul P.ops D (binomial P.ops D (P.embed F.HasComplexBinomialExtension.w)) a b };
 
+    #[inline(always)]
+    fn placeholder() -> P {
+        P::zero()
+    }
+
     #[inline]
     fn packed_product(a: &[P], b: &[P], res: &mut [P]) {
         let w = <F as HasComplexBinomialExtension<D>>::embedded_w::<P>();

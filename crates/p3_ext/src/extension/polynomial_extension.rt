@@ -49,6 +49,11 @@ impl<
 > PackedProduct<P, D, Modulo<S, D>> for R {
     ghost packed_product_gives = { λ a b r. r ≡ quotient_mul P.ops D (over P.ops S.coefficients) a b };
 
+    #[inline(always)]
+    fn placeholder() -> P {
+        P::zero()
+    }
+
     #[inline]
     fn packed_product(a: &[P], b: &[P], res: &mut [P]) {
         S::product::<P>(a, b, res);

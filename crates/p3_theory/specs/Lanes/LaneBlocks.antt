@@ -16,11 +16,11 @@ InBlock w m k = (m * w ≤ k) × (k < m * w + w)
 abbrev pub HoldsBlocks : {A : Type 0} → Ops A → ℕ → List A → Type 0
 HoldsBlocks O w xs = (m j k : ℕ) → j < length xs → k < length xs → InBlock w m j → InBlock w m k → get_or xs j O.zero ≡ get_or xs k O.zero
 
--- of xs in blocks of w entries, v is the value with which the other one of blocks 2 * m and 2 * m + 1 begins than that in which index k stands, or one where the list ends before
+-- blocks 2 * m and 2 * m + 1, of w entries, are a pair: where index k stands in one of them, v is the value with which the other begins, or one where the list ends before
 abbrev pub IsNeighbours : {A : Type 0} → Ops A → ℕ → List A → ℕ → ℕ → A → Type 0
 IsNeighbours O w xs m k v = (InBlock w (2 * m) k → v ≡ get_or xs ((2 * m + 1) * w) O.one) × (InBlock w (2 * m + 1) k → v ≡ get_or xs (2 * m * w) O.one)
 
--- at each index below i of two blocks, one after the other, ns holds the value with which the other one begins, or one where the list ends before
+-- at each index below i, ns holds the value with which the other block of its pair begins, or one where the list ends before
 abbrev pub HoldsNeighbours : {A : Type 0} → Ops A → ℕ → List A → List A → ℕ → Type 0
 HoldsNeighbours O w xs ns i = (m k : ℕ) → k < i → IsNeighbours O w xs m k (get_or ns k O.zero)
 
