@@ -63,11 +63,21 @@ const MOST_OF_BY_HAND: f64 = 1.25;
 /// How many times more a row is timed whose library took longer than that.
 const TIMES_AGAIN: usize = 3;
 
+/// How long a side runs, one call after another, before the time of its last call counts. A first call's time has
+/// what the processor takes to fill its caches, and to bring wide vectors into use.
+const NANOSECONDS_BEFORE: u128 = 1_000_000;
+
 /// Nanoseconds that the call takes, and its answer.
 fn time(call: &Call, rounds: u64) -> (f64, u64) {
-    let start = Instant::now();
-    let answer = call(std::hint::black_box(rounds));
-    (start.elapsed().as_nanos() as f64, answer)
+    let before = Instant::now();
+    loop {
+        let start = Instant::now();
+        let answer = call(std::hint::black_box(rounds));
+        let taken = start.elapsed();
+        if before.elapsed().as_nanos() >= NANOSECONDS_BEFORE {
+            return (taken.as_nanos() as f64, answer);
+        }
+    }
 }
 
 /// Rounds that take some milliseconds, by the best of three runs, and how many runs of them there are.
