@@ -13,8 +13,8 @@ impl<F: Inhabited, const N: usize> Packing for FieldArray<F, N> {
     type Scalar = F;
 }
 
-/// A field whose values stand in arrays of N entries as lanes. Every field has 1, 2, 4, 8 and 16 of
-/// them; an impl at a field gives it another number. This project's own.
+/// A field whose values stand in arrays of N entries as lanes. Every field that is `Packable` has 1, 2,
+/// 4, 8 and 16 of them; an impl at a field gives it another number. This project's own.
 pub trait Lanes<const N: usize>: Field + Packable {
     /// There is at least one lane.
     ghost some_lane: { 0 < N };
@@ -24,7 +24,7 @@ pub trait Lanes<const N: usize>: Field + Packable {
 }
 
 /// A field whose values stand in arrays of N entries as lanes, N a power of two: 1, 2, 4, 8 and 16 for
-/// every field. This project's own.
+/// every field that is `Packable`. This project's own.
 pub trait LanesPow2<const N: usize>: Lanes<N> {
     /// The number of lanes is a power of two.
     ghost power_of_two: { (k : ℕ) × (N ≡ 2 ^ k) };
