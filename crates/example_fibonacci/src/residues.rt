@@ -69,7 +69,7 @@ impl BinomialConstants<2> for M97 {
 
     ghost inverses = { 48 ∷ [] };
 
-    ghost ext_generator = { 1 ∷ 1 ∷ [] };
+    ghost ext_generator = { 8 ∷ 1 ∷ [] };
 
     ghost algebra_id = { codes "example:f97x2" };
 
@@ -82,7 +82,7 @@ impl BinomialConstants<2> for M97 {
     }
 
     fn ext_generator(i: usize) -> u32 {
-        [1, 1][i]
+        [8, 1][i]
     }
 
     ghost at_least_two = { lit≤ tt };
@@ -101,14 +101,14 @@ impl PolynomialConstants<2, Golden> for M97 {
 
     ghost dual = { (1 ∷ 0 ∷ []) ∷ [] };
 
-    ghost ext_generator = { 0 ∷ 1 ∷ [] };
+    ghost ext_generator = { 2 ∷ 1 ∷ [] };
 
     fn power_of_image(j: usize, k: usize) -> u32 {
         [[1, 0], [1, 96]][j][k]
     }
 
     fn ext_generator(i: usize) -> u32 {
-        [0, 1][i]
+        [2, 1][i]
     }
 
     ghost table = { record { width = refl; rows = refl; root = refl; order = refl; apart = refl } };
