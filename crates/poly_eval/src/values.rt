@@ -21,7 +21,8 @@ pub fn eval_point<F: PrimeCharacteristicRing, A: Algebra<F>>(coeffs: &[F], x: A)
 
 /// Writes the values of the polynomial with these coefficients, the constant one first, over the coset:
 /// index j gets the value at the coset's item j. The slice is as long as the coset, whose log size is below
-/// 64. For n items and as many coefficients it takes n * log n products and no memory.
+/// 64. It takes no memory. A remark on the algorithm, which goes by halves: for n items and as many coefficients
+/// it takes some n * log n products. No clause counts them.
 #[inline]
 pub fn eval_coset_into<F: TwoAdicField>(
     coeffs: &[F],
