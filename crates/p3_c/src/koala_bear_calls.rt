@@ -223,7 +223,7 @@ pub extern "C" fn p3_kb_split(alloc: Global, value: u64, radix_bits: u32, limbs:
 /// one length stay apart where the radix is not below the order.
 #[unsafe(no_mangle)]
 pub extern "C" fn p3_kb_most_digits(radix_bits: u32, count: &mut usize) -> i32
-    ensures { Answers (AnswersLimit ⟦<KoalaBear as Quotient>⟧.order ⟦<Goldilocks as Quotient>⟧.order radix_bits) count.old count.new result }
+    ensures { Answers (AnswersLimit ⟦<KoalaBear as Quotient>⟧.canon ⟦<KoalaBear as Quotient>⟧.order ⟦<Goldilocks as Quotient>⟧.order radix_bits) count.old count.new result }
 {
     answer(most_digits::<KoalaBear, Goldilocks>(radix_bits), count)
 }

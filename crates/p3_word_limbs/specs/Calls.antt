@@ -37,6 +37,14 @@ module _ {T A U B : Type 0} where
       MatchResult r (λ _. (IsDigitRadix n k × Stands Q w) × ((xs : List A) × (map canon xs ≡ digits (number (Q.value w)) (2 ^ k) (length old)) × (new ≡ map R.word xs)))
       (λ e. LimbsRefused (IsDigitRadix n k) (Stands Q w) ⊤ e × (new ≡ old))
 
--- the greatest count of limbs of a field of order n that stay below the order m in radix 2^k
-abbrev pub AnswersLimit : ℕ → ℕ → ℕ → Result ℕ Refusal → Type 0
-AnswersLimit n m k r = MatchResult r (λ count. IsRadix k × IsLimit (n - 1) (2 ^ k) m count) (LimbsRefused (IsRadix k) ⊤ ⊥)
+module _ {A : Type 0} (canon : A → ℕ) where
+  -- lists of one length, of so many limbs at most, that make one number modulo m in radix 2^k are one list
+  abbrev pub StayApart : ℕ → ℕ → ℕ → Type 0
+  StayApart m k count = (xs ys : List A) → length xs ≡ length ys → length xs ≤ count → pack canon xs k m ≡ pack canon ys k m → xs ≡ ys
+
+  -- the greatest count of limbs of a field of order n that stay below the order m in radix 2^k: lists of no more stay
+  -- apart where the radix isn't below n
+  abbrev pub AnswersLimit : ℕ → ℕ → ℕ → Result ℕ Refusal → Type 0
+  AnswersLimit n m k r =
+      MatchResult r (λ count. IsRadix k × IsLimit (n - 1) (2 ^ k) m count × (n ≤ 2 ^ k → StayApart m k count))
+      (LimbsRefused (IsRadix k) ⊤ ⊥)

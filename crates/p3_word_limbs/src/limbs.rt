@@ -66,10 +66,11 @@ pub fn split<TF: Stored<T> + PrimeField32, T: Copy, SF: Stored<U> + PrimeField, 
     Ok(())
 }
 
-/// How many limbs can be packed into one value at most, so that lists of one length stay apart.
+/// How many limbs can be packed into one value at most, so that lists of one length stay apart where the radix is
+/// not below the order.
 #[inline]
 pub fn most_digits<SF: PrimeField32, TF: PrimeField>(radix_bits: u32) -> Result<usize, Refusal>
-    ensures { AnswersLimit SF.order TF.order radix_bits result }
+    ensures { AnswersLimit SF.canon SF.order TF.order radix_bits result }
 {
     if radix_bits == 0 || radix_bits >= 64 {
         return Err(Refusal::Radix);
