@@ -53,6 +53,8 @@ impl TwoAdicConstants for M97 {
     const TOP_GENERATOR: u64 = 28;
 
     ghost generates = { refl };
+
+    ghost greatest = { refl };
 }
 
 impl TopPowerConstants for M97 {

@@ -6,6 +6,7 @@ pub mod lane_arithmetic;
 pub mod lane_dot_products;
 mod lane_loops;
 pub mod lanes;
+pub mod laws;
 pub mod left_operators;
 pub mod operators;
 pub mod packed;

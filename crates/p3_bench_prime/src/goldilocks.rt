@@ -233,6 +233,8 @@ impl TwoAdicConstants for GoldilocksForm {
     const TOP_GENERATOR: u64 = 1753635133440165772;
 
     ghost generates = { refl };
+
+    ghost greatest = { refl };
 }
 
 impl TopPowerConstants for GoldilocksForm {

@@ -14,6 +14,7 @@ pub mod koala_bear;
 pub mod lane_products;
 pub mod lane_sums;
 pub mod lane_words;
+pub mod laws;
 pub mod monomials;
 pub mod montgomery;
 pub mod polynomial_constants;

@@ -1,5 +1,5 @@
 //! Two-adic generators of the prime fields: from the top generator as a number to all laws.
-ghost use Rattle.std.specs.Prelude.{◌≡◌, ℕ, true, refl};
+ghost use Rattle.std.specs.Prelude.{◌≡◌, ◌+◌, ◌-◌, ◌%◌, ◌^◌, ℕ, true, refl};
 ghost use Rattle.p3_theory.specs.ResidueRings.ResidueGenerators.{ArePowersOf, is_two_adic_generator, top_generator};
 
 use crate::baby_bear::BabyBearModulus;
@@ -32,6 +32,9 @@ pub trait TwoAdicConstants: Order {
     /// The top generator, squared once less than the two-adicity says, is minus one, and two to
     /// the two-adicity divides the order less one.
     ghost generates: { is_two_adic_generator Self.order TWO_ADICITY TOP_GENERATOR ≡ true };
+
+    /// The next power of two doesn't divide it: half of that power is left.
+    ghost greatest: { (Self.order - 1) % 2 ^ (TWO_ADICITY + 1) ≡ 2 ^ TWO_ADICITY };
 }
 
 /// Constants whose top generator is a power of the field's `generator`.
@@ -87,6 +90,8 @@ impl TwoAdicConstants for M2 {
     const TOP_GENERATOR: u64 = 1;
 
     ghost generates = { refl };
+
+    ghost greatest = { refl };
 }
 
 impl TopPowerConstants for M2 {
@@ -103,6 +108,8 @@ impl TwoAdicConstants for M17 {
     const TOP_GENERATOR: u64 = 3;
 
     ghost generates = { refl };
+
+    ghost greatest = { refl };
 }
 
 impl TopPowerConstants for M17 {
@@ -119,6 +126,8 @@ impl TwoAdicConstants for M17b {
     const TOP_GENERATOR: u64 = 3;
 
     ghost generates = { refl };
+
+    ghost greatest = { refl };
 }
 
 impl TopPowerConstants for M17b {
@@ -135,6 +144,8 @@ impl TwoAdicConstants for M31 {
     const TOP_GENERATOR: u64 = 30;
 
     ghost generates = { refl };
+
+    ghost greatest = { refl };
 }
 
 impl TopPowerConstants for M31 {
@@ -153,6 +164,8 @@ impl TwoAdicConstants for M15 {
     const TOP_GENERATOR: u64 = 14;
 
     ghost generates = { refl };
+
+    ghost greatest = { refl };
 }
 
 impl TwoAdicConstants for BabyBearModulus {
@@ -165,6 +178,8 @@ impl TwoAdicConstants for BabyBearModulus {
     const TOP_GENERATOR: u64 = 440564289;
 
     ghost generates = { refl };
+
+    ghost greatest = { refl };
 }
 
 impl TopPowerConstants for BabyBearModulus {
@@ -181,6 +196,8 @@ impl TwoAdicConstants for KoalaBearModulus {
     const TOP_GENERATOR: u64 = 1791270792;
 
     ghost generates = { refl };
+
+    ghost greatest = { refl };
 }
 
 impl TopPowerConstants for KoalaBearModulus {

@@ -5,7 +5,7 @@ ghost use Rattle.std.proofs.Common.{lit<};
 use p3_bench_prime::form::Order;
 use p3_bench_prime::fp::Fp;
 use p3_bench_prime::montgomery::{Montgomery, MontgomeryModulus, MontgomeryOrder};
-use p3_bench_prime::two_adic::TwoAdicConstants;
+use p3_bench_prime::two_adic::{TopPowerConstants, TwoAdicConstants};
 
 /// The marker of the order 2^31 - 2^24 + 1, for words in Montgomery's form.
 pub struct KoalaBearModulus;
@@ -62,6 +62,12 @@ impl TwoAdicConstants for KoalaBearModulus {
     const TOP_GENERATOR: u64 = 1791270792;
 
     ghost generates = { refl };
+
+    ghost greatest = { refl };
+}
+
+impl TopPowerConstants for KoalaBearModulus {
+    ghost top_power = { refl };
 }
 
 /// The residues modulo 2^31 - 2^24 + 1 in Montgomery's form.
