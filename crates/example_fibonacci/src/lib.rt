@@ -3,6 +3,7 @@
 //! Fibonacci numbers as coefficients.
 #![tactic(auto)]
 
+pub mod calls;
 pub mod golden;
 pub mod residues;
 #[cfg(test)]

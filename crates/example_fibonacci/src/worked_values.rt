@@ -1,5 +1,6 @@
 //! Values worked by hand.
 
+use crate::calls::cube_named;
 use crate::residues::{F97, F97g, F97x2};
 use p3_field::{Field, PrimeCharacteristicRing, TwoAdicField};
 
@@ -26,4 +27,11 @@ fn powers_by_the_golden_ratio(rt: HostRuntime) {
     let inverse = F97g::new([F97::new(96), F97::new(1)]);
     assert_eq!(rt; x.exp_u64(10), tenth);
     assert_eq!(rt; x.try_inverse(), Some(inverse));
+}
+
+/// `(1 + X)^3` is `(6 + 2 X)(1 + X)`, since `X^2` is 5.
+#[test]
+fn third_power_at_a_name(rt: HostRuntime) {
+    let x = F97x2::new([F97::new(1), F97::new(1)]);
+    assert_eq!(rt; cube_named(x), F97x2::new([F97::new(16), F97::new(8)]));
 }
