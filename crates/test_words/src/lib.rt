@@ -1,0 +1,9 @@
+//! Tests of the calls over stored words that ask for memory: where they get it, each writes its answer.
+#![tactic(auto)]
+
+#[cfg(test)]
+mod extensions;
+#[cfg(test)]
+mod limbs;
+#[cfg(test)]
+mod runs;
