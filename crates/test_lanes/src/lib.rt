@@ -35,6 +35,8 @@ mod packing_sums;
 #[cfg(test)]
 mod packing_tables;
 #[cfg(test)]
+mod packing_texts;
+#[cfg(test)]
 mod packing_types;
 #[cfg(test)]
 mod power_lists;
