@@ -102,6 +102,7 @@ pub use Rattle.p3_theory.specs.Roots.TwoAdic
 pub use Rattle.p3_theory.specs.Roots.TwoAdicCoefficients
 pub use Rattle.p3_theory.specs.Roots.ValueLists
 pub use Rattle.p3_tools.specs.BackwardRuns
+pub use Rattle.p3_tools.specs.CopiedItems
 pub use Rattle.p3_tools.specs.PairedRuns
 pub use Rattle.p3_vectorized.specs.ArrayEquality
 pub use Rattle.p3_vectorized.specs.Inside

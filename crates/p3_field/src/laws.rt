@@ -1,9 +1,10 @@
 //! Laws of the traits, as contracts for other crates to stand on.
 pub use crate::run_laws::{
     packed_ext_of_packing, packed_extension_has_a_lane, run_lane_steps_by_coefficients,
-    run_packed_steps_by_coefficients, run_steps_by_coefficients, run_steps_by_lanes,
-    vector_default_is_zero, vector_ext_default_is_zero, vector_ext_lanes_keep_operations,
-    vector_ext_of_vector, vector_lanes_keep_operations,
+    run_packed_extension_steps_by_lanes, run_packed_steps_by_coefficients,
+    run_steps_by_coefficients, run_steps_by_lanes, vector_default_is_zero,
+    vector_ext_default_is_zero, vector_ext_lanes_keep_operations, vector_ext_of_vector,
+    vector_lanes_keep_operations,
 };
 pub use p3_base::laws::fermat;
 pub use p3_ext::laws::{

@@ -49,6 +49,20 @@ pub fn run_steps_by_coefficients<
     run_steps::<ExtField<F, D, S, A>>(regs, steps)
 }
 
+/// Carries out the steps over packings of the values of an extension, whatever its type: at each lane the registers
+/// become what the steps make of the registers of that lane. This project's own.
+#[inline]
+pub fn run_packed_extension_steps_by_lanes<
+    F: Copy,
+    EF: PrimeCharacteristicRing,
+    PE: PackedExtensionRing<F, EF>,
+>(regs: &mut [PE], steps: &[Step])
+    requires { Fit (length regs.old) steps.now }
+    ensures { (i : ℕ) → i < PE.LANES → map (lane EF.ops PE.ext_lanes i) regs.new ≡ run EF.ops steps.now (map (lane EF.ops PE.ext_lanes i) regs.old) }
+{
+    run_steps(regs, steps)
+}
+
 /// Carries out the steps over packings of extension values. Told by coefficients: at each lane the
 /// coefficient lists of the registers become what the steps make of them modulo the extension's
 /// polynomial. This project's own.

@@ -1,6 +1,5 @@
 pub mod BackwardFolds
 pub mod BitLengths
-pub mod CopiedItems
 pub mod EqualDigits
 pub mod GroupSteps
 pub mod PackedDigits

@@ -1,4 +1,5 @@
 pub mod BackwardRuns
+pub mod CopiedItems
 pub mod Digits
 pub mod Multiples
 pub mod PairedRuns

@@ -1,5 +1,5 @@
 use Rattle.std.proofs.Common.{rules}
-use Rattle.p3_tools.proofs.CopiedItems.{copied_backward}
+use Rattle.p3_field.specs.CopiedItems.{copied_backward}
 use Rattle.poly_eval.proofs.values.eval_point.Goals as goal
 
 pub returns : goal.returns
