@@ -1,16 +1,24 @@
-//! The canonical number of a residue alone.
+//! Residues from and to their canonical numbers alone.
 use p3_base::field::PrimeField64;
 use p3_bench_prime::form::{Form, Word};
 use p3_bench_prime::fp::Fp;
+use p3_ring::ring::PrimeCharacteristicRing;
 
-/// The canonical number of a residue, and no more of a prime field: a function that is bounded by all of one
+/// A residue from and to its canonical number, and no more of a prime field: a function that is bounded by all of one
 /// takes seconds more to check.
 pub(crate) trait Canonical: Copy {
+    /// The residue of a number.
+    fn of_number(number: u64) -> Self;
+
     /// The number, which is below the order.
     fn canonical(self) -> u64;
 }
 
 impl<W: Form<T>, T: Word> Canonical for Fp<W, T> {
+    fn of_number(number: u64) -> Self {
+        Self::from_u64(number)
+    }
+
     fn canonical(self) -> u64 {
         self.as_canonical_u64()
     }

@@ -17,7 +17,11 @@ mod growths;
 #[cfg(test)]
 mod inverses;
 #[cfg(test)]
+mod large_cosets;
+#[cfg(test)]
 mod limbs;
+#[cfg(test)]
+mod plain_ring;
 #[cfg(test)]
 mod points;
 #[cfg(test)]
