@@ -8,7 +8,8 @@ use p3_ring::ring::PrimeCharacteristicRing;
 use std::process::Abort;
 use std::test::Fail;
 
-/// Asserts what the items of these packings say is left before any is taken, after each, and after the last.
+/// Asserts what the items of these packings say is left before any is taken, after each, and after the last, and what
+/// they say where a filter may leave out each packing.
 fn assert_items_of<F, EF: PrimeCharacteristicRing, PE: ExtensionLanes<F, EF> + Copy>(
     rt: &impl Abort,
     packings: &[PE],
@@ -19,6 +20,8 @@ fn assert_items_of<F, EF: PrimeCharacteristicRing, PE: ExtensionLanes<F, EF> + C
         assert!(rt; says_left(items, taken, total - taken), "{taken}");
     }
     assert!(rt; says_none_left(to_ext_iter::<F, EF, PE, _>(packings.iter().copied()), total));
+    let filtered = to_ext_iter::<F, EF, PE, _>(packings.iter().copied().filter(|_| true));
+    assert!(rt; filtered.size_hint() == (0, Some(total)));
 }
 
 /// Asserts this of the items of three packings P.

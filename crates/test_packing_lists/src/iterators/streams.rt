@@ -1,4 +1,4 @@
-//! Streams of bytes and words over sources whose hint is exact.
+//! Streams of bytes and words over sources whose hint is exact, and over one whose lower bound is zero.
 use super::{repeated, says};
 use p3_bench_prime::baby_bear::BabyBear;
 use p3_packings::parallel_streams::{
@@ -98,6 +98,20 @@ fn assert_streams<T: RawDataSerializable + Copy>(
 fn streams_say_what_is_left(rt: HostRuntime) -> Result<(), Fail> {
     assert_streams(&rt, Byte(7), 1)?;
     assert_streams(&rt, BabyBear::new(5), 4)
+}
+
+/// Asserts what streams say of five values that a filter may leave out: of none to all, before any item is
+/// taken.
+#[test]
+fn streams_say_what_a_filter_says(rt: HostRuntime) -> Result<(), Fail> {
+    let values = [Byte(1), Byte(2), Byte(3), Byte(4), Byte(5)];
+    let bytes = Byte::into_byte_stream(values.iter().copied().filter(|_| true));
+    assert!(rt; bytes.size_hint() == (0, Some(5)));
+    let short = Byte::into_u32_stream(values.iter().copied().filter(|_| true));
+    assert!(rt; short.size_hint() == (0, Some(2)));
+    let long = Byte::into_u64_stream(values.iter().copied().filter(|_| true));
+    assert!(rt; long.size_hint() == (0, Some(1)));
+    Ok(())
 }
 
 #[test]
