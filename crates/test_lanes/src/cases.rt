@@ -28,8 +28,6 @@ pub(crate) enum Operation {
     Binary(Arithmetic),
     /// On a value and a scalar.
     WithScalar(Arithmetic),
-    /// On a scalar, taken as a value, and a value.
-    OfScalar(Arithmetic),
     Unary(Unary),
     Halve,
     DotProduct,
@@ -59,6 +57,8 @@ pub(crate) enum SliceCall {
 #[derive(Clone, Copy)]
 pub(crate) enum Call {
     Operation(Operation),
+    /// An operator of a scalar and a packing on its right.
+    OfScalar(Arithmetic),
     /// An operation on vectors of three packings.
     Vectors(Operation),
     Lanes(LaneCall),
@@ -82,16 +82,13 @@ pub(crate) enum Call {
 }
 
 /// The operations by their names.
-static OPERATIONS: [(&str, Operation); 18] = [
+static OPERATIONS: [(&str, Operation); 15] = [
     ("add", Operation::Binary(Arithmetic::Add)),
     ("sub", Operation::Binary(Arithmetic::Sub)),
     ("mul", Operation::Binary(Arithmetic::Mul)),
     ("add scalar", Operation::WithScalar(Arithmetic::Add)),
     ("sub scalar", Operation::WithScalar(Arithmetic::Sub)),
     ("mul scalar", Operation::WithScalar(Arithmetic::Mul)),
-    ("scalar add", Operation::OfScalar(Arithmetic::Add)),
-    ("scalar sub", Operation::OfScalar(Arithmetic::Sub)),
-    ("scalar mul", Operation::OfScalar(Arithmetic::Mul)),
     ("neg", Operation::Unary(Unary::Neg)),
     ("double", Operation::Unary(Unary::Double)),
     ("square", Operation::Unary(Unary::Square)),
@@ -104,7 +101,10 @@ static OPERATIONS: [(&str, Operation); 18] = [
 ];
 
 /// The other calls by their names.
-static CALLS: [(&str, Call); 22] = [
+static CALLS: [(&str, Call); 25] = [
+    ("scalar add", Call::OfScalar(Arithmetic::Add)),
+    ("scalar sub", Call::OfScalar(Arithmetic::Sub)),
+    ("scalar mul", Call::OfScalar(Arithmetic::Mul)),
     ("broadcast", Call::Lanes(LaneCall::Broadcast)),
     ("set_lane", Call::Lanes(LaneCall::SetLane)),
     ("load_block", Call::Lanes(LaneCall::LoadBlock)),

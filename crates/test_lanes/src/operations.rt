@@ -84,10 +84,6 @@ fn answer_of<A: Algebra<T> + Numbered, T: PrimeCharacteristicRing + Numbered>(
     let x = value::<A>(case.argument(0));
     match operation {
         Operation::WithScalar(name) => with_scalar(name, x, value::<T>(case.argument(1))),
-        Operation::OfScalar(name) => {
-            let scalar = A::from(value::<T>(case.argument(0)));
-            of_two(name, scalar, value::<A>(case.argument(1)))
-        }
         Operation::Unary(name) => of_one(name, x, case.number(1)),
         Operation::Binary(name) => of_two(name, x, value::<A>(case.argument(1))),
         _ => x,

@@ -1,6 +1,6 @@
 //! The calls on packings of a prime field's values, implemented once for all of them.
-use crate::cases::{Call, Case, Operation};
-use crate::numbered::Numbered;
+use crate::cases::{Arithmetic, Call, Case, Operation};
+use crate::numbered::{Numbered, holds, value};
 use crate::operations::operation_agrees;
 use crate::packing_blocks::interleaved_agree;
 use crate::packing_columns::{packed_agree, unpacked_agree};
@@ -23,6 +23,7 @@ use std::alloc::{AllocError, Global};
 /// What calls on packings P of values of F make values of: where a signature names them, it is known that they
 /// have room.
 pub(crate) type Rooms<F, P> = (
+    P,
     [F; 5],
     [P; 5],
     [P; 8],
@@ -78,6 +79,22 @@ fn all_agree<F: Field + Numbered, P: PackedFieldPow2<F> + Numbered>(
     }
 }
 
+/// Whether an operator of one value and a packing on its right has its answer. Nothing is read of `_packing`.
+fn left_operator_agrees<W: Form<T>, T: Word, const N: usize>(
+    _packing: Option<Packed<Fp<W, T>, N>>,
+    operator: Arithmetic,
+    case: &Case,
+) -> bool {
+    let scalar = value::<Fp<W, T>>(case.argument(0));
+    let packing = value::<Packed<Fp<W, T>, N>>(case.argument(1));
+    let found = match operator {
+        Arithmetic::Add => scalar + packing,
+        Arithmetic::Sub => scalar - packing,
+        Arithmetic::Mul => scalar * packing,
+    };
+    holds(&found, &case.answer)
+}
+
 /// The calls on packings of this type: a call at a packing's own name passes the form of its words, and not what
 /// the packing has by that.
 pub(crate) trait PackingCalls: Copy {
@@ -96,6 +113,9 @@ impl<W: Form<T> + LaneCountPow2<N>, T: Word, const N: usize> PackingCalls for Pa
         rooms: Option<Rooms<Fp<W, T>, Packed<Fp<W, T>, N>>>,
         case: &Case,
     ) -> Result<bool, AllocError> {
-        all_agree::<Fp<W, T>, Packed<Fp<W, T>, N>>(alloc, rooms, case)
+        match case.call {
+            Call::OfScalar(operator) => Ok(left_operator_agrees::<W, T, N>(None, operator, case)),
+            _ => all_agree::<Fp<W, T>, Packed<Fp<W, T>, N>>(alloc, rooms, case),
+        }
     }
 }

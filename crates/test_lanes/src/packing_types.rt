@@ -2,17 +2,18 @@
 use crate::cases::Case;
 use crate::packing_calls::PackingCalls;
 use crate::packing_list_tables::{EVERY_LENGTH, LISTS, POWER_GROWTHS, POWERS, WORKED_POWERS};
-use crate::packing_sum_tables::{COLUMNS, SUMS, WORKED_SUMS};
-use crate::packing_tables::{BLOCKS, OPERATIONS, WORKED_BLOCKS};
+use crate::packing_sum_tables::{COLUMNS, EIGHT_LANES, SUMS, WORKED_SUMS};
+use crate::packing_tables::{BLOCKS, LEFT, OPERATIONS, WORKED_BLOCKS};
 use crate::rows::Row;
 use crate::vector_tables::VECTORS;
+use p3_base::field::PrimeField64;
 use p3_bench_packed::packed::Packed;
 use p3_bench_prime::baby_bear::BabyBearModulus;
 use p3_bench_prime::form::{Form, Plain};
 use p3_bench_prime::fp::Fp;
 use p3_bench_prime::goldilocks::Goldilocks;
 use p3_bench_prime::montgomery::Montgomery;
-use p3_bench_prime::small::{M17, M31};
+use p3_bench_prime::small::{F17, M17, M31};
 use std::alloc::{AllocError, Global};
 use std::process::Abort;
 use std::test::Fail;
@@ -51,6 +52,13 @@ fn agrees(alloc: Global, line: &str) -> Result<bool, AllocError> {
     }
 }
 
+/// The canonical numbers in the lanes.
+fn numbers(packing: Packed<F17, 4>) -> [u64; 4] {
+    packing
+        .value
+        .map(|lane: F17| -> u64 { lane.as_canonical_u64() })
+}
+
 /// Asserts that the call of each line has its answer.
 fn assert_table(rt: &(impl Abort + AllocGlobal), table: &str) -> Result<(), Fail> {
     for line in table.lines() {
@@ -64,6 +72,7 @@ fn assert_table(rt: &(impl Abort + AllocGlobal), table: &str) -> Result<(), Fail
 #[test]
 fn operations_on_packings(rt: HostRuntime) -> Result<(), Fail> {
     assert_table(&rt, OPERATIONS)?;
+    assert_table(&rt, LEFT)?;
     assert_table(&rt, BLOCKS)?;
     assert_table(&rt, WORKED_BLOCKS)
 }
@@ -86,7 +95,18 @@ fn lists_of_packings(rt: HostRuntime) -> Result<(), Fail> {
 fn sums_and_columns(rt: HostRuntime) -> Result<(), Fail> {
     assert_table(&rt, SUMS)?;
     assert_table(&rt, WORKED_SUMS)?;
+    assert_table(&rt, EIGHT_LANES)?;
     assert_table(&rt, COLUMNS)
+}
+
+/// As a user writes it, worked by hand.
+#[test]
+fn scalars_on_the_left(rt: HostRuntime) {
+    let packing = Packed::new([F17::new(1), F17::new(2), F17::new(3), F17::new(16)]);
+    let scalar = F17::new(2);
+    assert_eq!(rt; numbers(scalar + packing), [3, 4, 5, 1]);
+    assert_eq!(rt; numbers(scalar - packing), [1, 0, 16, 3]);
+    assert_eq!(rt; numbers(scalar * packing), [2, 4, 6, 15]);
 }
 
 #[test]
