@@ -2,6 +2,8 @@
 #![tactic(auto)]
 
 #[cfg(test)]
+mod cosets;
+#[cfg(test)]
 mod extensions;
 #[cfg(test)]
 mod limbs;
