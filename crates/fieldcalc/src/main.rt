@@ -2,7 +2,7 @@
 //! to standard error.
 #![tactic(auto)]
 
-use p3_field_bench::{StdSink, StdSource, engine};
+use p3_calculator::{StdSink, StdSource, engine};
 use std::process::ExitCode;
 
 fn main(rt: HostRuntime) -> ExitCode {

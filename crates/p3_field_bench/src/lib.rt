@@ -1,21 +1,7 @@
-//! The calculator over the fields of the bench: it reads lines, computes with values of finite
-//! fields and their extensions, and writes the values that it is asked to show.
+//! The front of the bench: its fields, their extensions and packings, and the calculator over them.
 #![tactic(auto)]
 
-mod act;
-mod bank;
-mod bases;
-pub mod field;
-pub mod laws;
-mod lists;
-mod machine;
-mod names;
-mod primes;
-pub mod registers;
-mod run;
-mod step;
-mod zeros;
-
+pub use p3_bench_packed::packed::Packed;
 pub use p3_bench_prime::baby_bear::BabyBear;
 pub use p3_bench_prime::complex_tower::F31cx2;
 pub use p3_bench_prime::extensions::{
@@ -26,7 +12,10 @@ pub use p3_bench_prime::fp::Fp;
 pub use p3_bench_prime::goldilocks::Goldilocks;
 pub use p3_bench_prime::koala_bear::KoalaBear;
 pub use p3_bench_prime::small::{F2, F17, F17b, F31, Z15};
+pub use p3_calculator::field;
+pub use p3_calculator::laws;
+pub use p3_calculator::registers;
+pub use p3_calculator::{engine, engine_in};
 pub use p3_calculator_streams::memory::{MemSink, MemSource};
 pub use p3_calculator_streams::standard::{StdSink, StdSource};
 pub use p3_calculator_streams::streams::{ReadFailed, Sink, Source, WriteFailed, write_all};
-pub use run::{engine, engine_in};

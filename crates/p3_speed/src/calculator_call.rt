@@ -1,5 +1,5 @@
 //! The call from C of the calculator.
-use p3_field_bench::{MemSink, MemSource, engine};
+use p3_calculator::{MemSink, MemSource, engine};
 use std::alloc::{AllocError, Global};
 
 /// Runs the calculator over the input, and writes what it writes as far as there is room: how many

@@ -5,7 +5,7 @@
 use crate::example_runs::EXAMPLE_FILES;
 use crate::lines::{cut_text, show_line, values_shown};
 use crate::worked_runs::{EXAMPLES, FAULTS, INVERSES, LINES, Run, WITHOUT_A_FIELD};
-use p3_field_bench::{MemSink, MemSource, engine_in};
+use p3_calculator::{MemSink, MemSource, engine_in};
 use std::alloc::{AllocError, Global};
 use std::process::Abort;
 use std::test::Fail;

@@ -7,7 +7,7 @@ mod septic_runs;
 mod vector_runs;
 
 use crate::worked_runs::Run;
-use p3_field_bench::{MemSink, MemSource, engine};
+use p3_calculator::{MemSink, MemSource, engine};
 use root_runs::ROOTS;
 use septic_runs::SEPTICS;
 use std::process::Abort;

@@ -8,7 +8,7 @@ use crate::failing_streams::reader;
 use crate::lines::{cut_text, ended_lines, fault_line, line_end, shows};
 use crate::runs::ran;
 use crate::worked_runs::{EXAMPLES, FAULTS, INVERSES, LINES, Run, WITHOUT_A_FIELD};
-use p3_field_bench::{MemSink, StdSource, engine};
+use p3_calculator::{MemSink, StdSource, engine};
 use std::alloc::{AllocError, Global};
 use std::process::Abort;
 use std::test::Fail;

@@ -3,7 +3,7 @@ ghost use Rattle.std.specs.Prelude.{◌<◌};
 
 use crate::example_runs::EXAMPLE_FILES;
 use crate::worked_runs::{EXAMPLES, FAULTS, INVERSES, LINES, Run, WITHOUT_A_FIELD};
-use p3_field_bench::{MemSink, MemSource, engine};
+use p3_calculator::{MemSink, MemSource, engine};
 use std::alloc::{AllocError, Global};
 use std::process::Abort;
 use std::test::Fail;

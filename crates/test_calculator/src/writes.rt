@@ -5,7 +5,7 @@ use crate::example_runs::EXAMPLE_FILES;
 use crate::failing_streams::{Refusal, writer};
 use crate::runs::ran;
 use crate::worked_runs::{EXAMPLES, FAULTS, INVERSES, LINES, Run, WITHOUT_A_FIELD};
-use p3_field_bench::{StdSink, StdSource, engine};
+use p3_calculator::{StdSink, StdSource, engine};
 use std::alloc::Global;
 use std::process::Abort;
 use std::test::Fail;

@@ -1,0 +1,7 @@
+use Rattle.std.specs.Prelude.{refl}
+use Rattle.p3_theory.specs.Rings.ZeroDivisors.{residues_have_no_zero_divisors}
+use Rattle.p3_bench_prime.specs.Elements.{is}
+use Rattle.p3_calculator.proofs.laws.domain_f17.Goals as goal
+
+pub returns : goal.returns
+returns c = residues_have_no_zero_divisors (is _) refl

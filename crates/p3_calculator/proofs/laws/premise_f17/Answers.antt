@@ -1,0 +1,14 @@
+use Rattle.std.specs.Prelude.{refl}
+use Rattle.p3_theory.specs.Roots.FiniteFields.{premise_by_image}
+use Rattle.p3_theory.specs.ResidueRings.Residues.{are_residues, same_canon}
+use Rattle.p3_theory.specs.Rings.ZeroDivisors.{residues_have_no_zero_divisors}
+use Rattle.p3_bench_prime.specs.Elements.{is}
+use Rattle.p3_calculator.proofs.laws.premise_f17.Goals as goal
+
+pub returns-clause-premise : goal.returns-clause-premise
+returns-clause-premise c =
+    premise_by_image (are_residues (is _)).keeps (same_canon (is _)) (residues_have_no_zero_divisors (is _) refl) 17 4 1 refl refl _ 3 refl (λ _. refl)
+
+pub returns-clause-two_adic : goal.returns-clause-two_adic
+returns-clause-two_adic c =
+    premise_by_image (are_residues (is _)).keeps (same_canon (is _)) (residues_have_no_zero_divisors (is _) refl) 17 4 1 refl refl _ 3 refl (λ _. refl)

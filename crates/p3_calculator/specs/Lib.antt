@@ -1,0 +1,17 @@
+pub mod Bank
+pub mod Bases
+pub mod Coefficients
+pub mod Display
+pub mod Effects
+pub mod Fields
+pub mod Lists
+pub mod Names
+pub mod Outcomes
+pub mod Premise
+pub mod RegisterValues
+pub mod Registers
+pub mod Representation
+pub mod RunSoFar
+pub mod SameTexts
+pub mod States
+pub mod Text

@@ -1,5 +1,0 @@
-use Rattle.std.proofs.lemmas.List.{map-set}
-use Rattle.p3_field_bench.proofs.registers.Registers.set.Goals as goal
-
-pub returns : goal.returns
-returns g c = map-set g.F.CalculatorField.coefficients c.args.self.now.values c.args.r c.args.x
