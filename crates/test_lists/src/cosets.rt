@@ -1,5 +1,5 @@
-//! Cosets of two elements of residues modulo 15, 9 and 65, and over an extension that is no field, by hand; and
-//! the tests of cosets.
+//! Cosets of two elements of residues modulo 15, 9 and 65, and over an extension that is no field, by hand; and the tests
+//! of cosets.
 use crate::canonical::Canonical;
 use crate::coset_values::assert_values;
 use crate::rings::{M9, M65, SplitM17};
@@ -47,8 +47,8 @@ const MODULO_65: [Row; 6] = [
     (64, Some([64, 1])),
 ];
 
-/// Shifts over the extension of the residues modulo 17 by `X^2 = 1`, by their coefficients, and whether they have
-/// a coset: where they aren't zero at 1 or 16.
+/// Shifts over the extension of the residues modulo 17 by `X^2 = 1`, by their coefficients, and whether they have a coset:
+/// where they aren't zero at 1 or 16.
 const OVER_SPLIT: [(u64, u64, bool); 7] = [
     (1, 0, true),
     (0, 1, true),
@@ -101,8 +101,8 @@ fn has_coset<T: TwoAdicField>(shift: T) -> bool {
     TwoAdicMultiplicativeCoset::<T>::new(shift, 1).is_some()
 }
 
-/// Whether each shift over the extension of degree 2 by `X^2 = W` has a coset just where a row says so. Nothing is
-/// read of `_value`.
+/// Whether each shift over the extension of degree 2 by `X^2 = W` has a coset just where a row says so. Nothing is read of
+/// `_value`.
 fn shifts_agree<F: HasTwoAdicBinomialExtension<2>>(
     _value: Option<BinomialExtensionField<F, 2>>,
     rows: &[(u64, u64, bool)],

@@ -1,6 +1,5 @@
-//! The calls of the tables over the extensions of the bench, at packings of four and eight values. The functions
-//! that choose the packings are generic over the marker of a field: a test then passes the field's constants
-//! alone.
+//! The calls of the tables over the extensions of the bench, at packings of four and eight values. The functions that choose the
+//! packings are generic over the marker of a field: a test then passes the field's constants alone.
 use crate::call_tables as tables;
 use crate::cases::Case;
 use crate::extension_calls::{BaseCalls, ComplexCalls, ExtensionCalls, ExtensionRooms};

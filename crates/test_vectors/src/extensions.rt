@@ -1,5 +1,5 @@
-//! The calls at the extensions: vectors are of three packings of one value, two of four, or one of eight. Each is
-//! implemented once for all markers of fields: at a marker's own name it passes the field's constants alone.
+//! The calls at the extensions: vectors are of three packings of one value, two of four, or one of eight. Each is implemented once for all markers of fields:
+//! at a marker's own name it passes the field's constants alone.
 use crate::packings::{ExtensionCalls, ExtensionVector, Task};
 use crate::value_calls::{Call, agrees};
 use crate::values::Listed;
@@ -114,8 +114,8 @@ where
     }
 }
 
-/// Whether a call over packings of N values, and vectors of K of these, has its answer. That packings are named
-/// tells that they have room; nothing is read of them.
+/// Whether a call over packings of N values, and vectors of K of these, has its answer. That packings are named tells that
+/// they have room; nothing is read of them.
 fn lanes_agree<
     W: Form<u32> + LaneCount<N> + ExtendedLanes<S, D, K>,
     S: ExtensionShape,

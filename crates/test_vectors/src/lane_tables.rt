@@ -1,8 +1,8 @@
-//! Calls over packings of extension values, one a line: the extension, the number of lanes, the call, and behind a
-//! colon its arguments, an equals sign and its answer. After `run_lane_steps` stands the number of packings of a
-//! vector; see `run_tables`. Arguments stand between bars, the values of lanes between spaces, and the
-//! coefficients of a value between commas, those of `f31cx2` as the real and the imaginary part of each. No answer
-//! stands where a lane has no inverse.
+//! Calls over packings of extension values, one a line: the extension, the number of lanes, the call, and behind a colon
+//! its arguments, an equals sign and its answer. After `run_lane_steps` stands the number of packings of a vector; see
+//! `run_tables`. Arguments stand between bars, the values of lanes between spaces, and the coefficients of a value
+//! between commas, those of `f31cx2` as the real and the imaginary part of each. No answer stands where a lane has no
+//! inverse.
 
 /// Runs at each extension of 1, 4 and 8 lanes: outside values.
 pub(crate) const OUTSIDE_RUNS: &str = "

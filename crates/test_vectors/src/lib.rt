@@ -1,7 +1,6 @@
-//! Tests of vectors of packings and of packed extension values, of runs of steps over them, and of the inverses
-//! and quotients of packed values; and of inverses in extensions that are no fields. The polynomials of these are
-//! products of factors `X - root`, so that some values other than zero have no inverse, and products of nonzero
-//! values are zero.
+//! Tests of vectors of packings and of packed extension values, of runs of steps over them, and of the inverses and
+//! quotients of packed values; and of inverses in extensions that are no fields. The polynomials of these are products of
+//! factors `X - root`, so that some values other than zero have no inverse, and products of nonzero values are zero.
 #![tactic(auto)]
 
 #[cfg(test)]

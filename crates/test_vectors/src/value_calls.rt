@@ -64,8 +64,8 @@ fn is_inverse<T: Field + Listed>(x: &List, inverse: Option<List>) -> bool {
         && or_zero == inverse.unwrap_or(ZERO)
 }
 
-/// Whether each value has an inverse, whose product with it is one in plain numbers, just where a search among its
-/// powers finds one.
+/// Whether each value has an inverse, whose product with it is one in plain numbers, just where a search among its powers
+/// finds one.
 fn every_value_agrees<T: Field + Listed>(ring: &PlainRing) -> bool {
     for number in 0..ring.count() {
         let value = ring.value(number);
