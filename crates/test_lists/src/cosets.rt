@@ -1,62 +1,23 @@
-//! Cosets of two elements of residues modulo 15, 9 and 65, and over an extension that is no field, by hand; and the tests
-//! of cosets.
+//! Cosets of two elements of the residues modulo 15, by hand; and the tests of cosets.
 use crate::canonical::Canonical;
 use crate::coset_values::assert_values;
-use crate::rings::{M9, M65, SplitM17};
 use p3_base::field::TwoAdicField;
 use p3_bench_prime::form::{OverModulus, Plain};
 use p3_bench_prime::fp::Fp;
 use p3_bench_prime::small::{M15, M17};
 use p3_bench_prime::two_adic::TwoAdicConstants;
-use p3_bench_prime::two_adic_constants::TwoAdicBinomialConstants;
-use p3_ext::extension::{BinomialExtensionField, HasTwoAdicBinomialExtension};
 use p3_tools::coset::TwoAdicMultiplicativeCoset;
 use std::process::Abort;
 use std::test::Fail;
 
-/// A shift, and the elements of its coset; none where the shift has no inverse.
-type Row = (u64, Option<[u64; 2]>);
-
-/// The cosets modulo 15.
-const MODULO_15: [Row; 6] = [
+/// The shifts, and the elements of their cosets; none where the shift has no inverse.
+const COSETS: [(u64, Option<[u64; 2]>); 6] = [
     (1, Some([1, 14])),
     (2, Some([2, 13])),
     (3, None),
     (5, None),
     (0, None),
     (14, Some([14, 1])),
-];
-
-/// The cosets modulo 9.
-const MODULO_9: [Row; 6] = [
-    (1, Some([1, 8])),
-    (2, Some([2, 7])),
-    (3, None),
-    (6, None),
-    (0, None),
-    (8, Some([8, 1])),
-];
-
-/// The cosets modulo 65.
-const MODULO_65: [Row; 6] = [
-    (2, Some([2, 63])),
-    (5, None),
-    (13, None),
-    (26, None),
-    (0, None),
-    (64, Some([64, 1])),
-];
-
-/// Shifts over the extension of the residues modulo 17 by `X^2 = 1`, by their coefficients, and whether they have a coset:
-/// where they aren't zero at 1 or 16.
-const OVER_SPLIT: [(u64, u64, bool); 7] = [
-    (1, 0, true),
-    (0, 1, true),
-    (2, 1, true),
-    (0, 0, false),
-    (1, 1, false),
-    (1, 16, false),
-    (5, 12, false),
 ];
 
 /// Whether the coset has just these elements, by their indices and as an iterator.
@@ -81,9 +42,8 @@ fn has_elements<F: TwoAdicField + Canonical>(
 }
 
 /// Asserts that each shift has its coset, or none.
-fn assert_cosets<F: TwoAdicField + Canonical>(rt: &impl Abort, rows: &[Row]) {
-    for row in rows {
-        let (shift, elements) = *row;
+fn assert_cosets<F: TwoAdicField + Canonical>(rt: &impl Abort) {
+    for (shift, elements) in COSETS {
         let holds = match (
             TwoAdicMultiplicativeCoset::<F>::new(F::from_u64(shift), 1),
             elements,
@@ -96,40 +56,11 @@ fn assert_cosets<F: TwoAdicField + Canonical>(rt: &impl Abort, rows: &[Row]) {
     }
 }
 
-/// Whether there is a coset of two elements with a shift.
-fn has_coset<T: TwoAdicField>(shift: T) -> bool {
-    TwoAdicMultiplicativeCoset::<T>::new(shift, 1).is_some()
-}
-
-/// Whether each shift over the extension of degree 2 by `X^2 = W` has a coset just where a row says so. Nothing is read of
-/// `_value`.
-fn shifts_agree<F: HasTwoAdicBinomialExtension<2>>(
-    _value: Option<BinomialExtensionField<F, 2>>,
-    rows: &[(u64, u64, bool)],
-) -> bool {
-    for row in rows {
-        let (low, high, expected) = *row;
-        let shift = BinomialExtensionField::<F, 2>::new([F::from_u64(low), F::from_u64(high)]);
-        if has_coset::<BinomialExtensionField<F, 2>>(shift) != expected {
-            return false;
-        }
-    }
-    true
-}
-
-/// The same at the marker of a type.
-fn shifts_agree_over<W: OverModulus<u32>>(rows: &[(u64, u64, bool)]) -> bool
-where
-    W::Modulus: TwoAdicBinomialConstants<2>,
-{
-    shifts_agree::<Fp<W>>(None, rows)
-}
-
 /// What is asserted of a two-adic type.
 #[derive(Clone, Copy)]
-enum Topic<'a> {
-    /// The elements of cosets.
-    Elements(&'a [Row]),
+enum Topic {
+    /// The elements of cosets modulo 15.
+    Elements,
     /// The values of polynomials over cosets modulo 17.
     Values,
 }
@@ -137,14 +68,14 @@ enum Topic<'a> {
 /// Asserts a topic at the marker of a type.
 fn assert_over<W: OverModulus<u32>>(
     rt: &(impl Abort + AllocGlobal),
-    topic: Topic<'_>,
+    topic: Topic,
 ) -> Result<(), Fail>
 where
     W::Modulus: TwoAdicConstants,
 {
     match topic {
-        Topic::Elements(rows) => {
-            assert_cosets::<Fp<W>>(rt, rows);
+        Topic::Elements => {
+            assert_cosets::<Fp<W>>(rt);
             Ok(())
         }
         Topic::Values => assert_values::<Fp<W>>(rt),
@@ -152,15 +83,8 @@ where
 }
 
 #[test]
-fn cosets_of_residues(rt: HostRuntime) -> Result<(), Fail> {
-    assert_over::<Plain<M15>>(&rt, Topic::Elements(&MODULO_15))?;
-    assert_over::<Plain<M9>>(&rt, Topic::Elements(&MODULO_9))?;
-    assert_over::<Plain<M65>>(&rt, Topic::Elements(&MODULO_65))
-}
-
-#[test]
-fn shifts_of_an_extension(rt: HostRuntime) {
-    assert!(rt; shifts_agree_over::<Plain<SplitM17>>(&OVER_SPLIT));
+fn cosets_modulo_15(rt: HostRuntime) -> Result<(), Fail> {
+    assert_over::<Plain<M15>>(&rt, Topic::Elements)
 }
 
 #[test]

@@ -25,6 +25,4 @@ mod plain_ring;
 #[cfg(test)]
 mod points;
 #[cfg(test)]
-mod rings;
-#[cfg(test)]
 mod texts;
