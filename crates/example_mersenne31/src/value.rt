@@ -1,3 +1,4 @@
+//! The values and their ring operations, by shifts and sums.
 ghost use Rattle.std.specs.Prelude.{◌≡◌, ◌<◌, ◌+◌, ◌-◌, ◌*◌, ◌%◌, ◌==◌, ⊤};
 ghost use Rattle.example_mersenne31.specs.declared.words.TheConstants.{P};
 

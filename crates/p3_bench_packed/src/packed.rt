@@ -1,3 +1,4 @@
+//! Packings of a prime field's values: N words side by side.
 ghost use Rattle.std.specs.Prelude.{◌≡◌, ℕ, length, replicate};
 
 use p3_bench_prime::form::{Form, Word};

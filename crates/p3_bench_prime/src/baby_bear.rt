@@ -1,3 +1,4 @@
+//! BabyBear: the residues modulo 2^31 - 2^27 + 1.
 ghost use Rattle.std.specs.Prelude.{refl};
 ghost use Rattle.std.proofs.Common.{lit<};
 

@@ -1,3 +1,4 @@
+//! Representations of residues by words, and the markers that give their orders.
 ghost use Rattle.std.specs.Prelude.{◌≡◌, ◌≤◌, ◌<◌, ◌+◌, ◌-◌, ◌*◌, ◌%◌, ◌^◌, ℕ, length, get_or, Bool, true, refl, ⊤};
 ghost use Rattle.p3_residues.specs.Forms.{IsForm};
 ghost use Rattle.p3_bench_prime.specs.MontgomeryForms.{IsMontgomery};

@@ -1,3 +1,4 @@
+//! KoalaBear: the residues modulo 2^31 - 2^24 + 1.
 ghost use Rattle.std.specs.Prelude.{refl};
 ghost use Rattle.std.proofs.Common.{lit<};
 

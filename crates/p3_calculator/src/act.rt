@@ -1,3 +1,4 @@
+//! The operations of a line, over the registers of any field.
 ghost use Rattle.std.specs.Prelude.{◌≡◌, ◌≢◌, ◌++◌, ◌∷◌, [], ℕ, List, Some, None, length, IfOk, OnErr, IfSome, IfNone};
 ghost use Rattle.p3_theory.specs.Rings.Powers.{power};
 ghost use Rattle.p3_calculator_text.specs.Lines.{words};

@@ -1,3 +1,4 @@
+//! What the calculator asks of a field, and its implementations: residues, and extensions of them.
 ghost use Rattle.std.specs.Prelude.{◌≡◌, ◌<◌, ◌^◌, ℕ, List, Option, map, refl, slice_set, string_bytes, IfOk};
 ghost use Rattle.p3_theory.specs.Rings.Ring.{Ops, subtract};
 ghost use Rattle.p3_theory.specs.Rings.Powers.{power};

@@ -1,3 +1,4 @@
+//! What a run of the calculator keeps from byte to byte.
 ghost use Rattle.std.specs.Prelude.{◌≡◌, ◌≤◌, length};
 
 use crate::bank::Bank;

@@ -1,3 +1,4 @@
+//! The sixteen registers of the chosen field.
 ghost use Rattle.std.specs.Prelude.{◌≡◌, ◌<◌, map, length, slice_set};
 
 use crate::field::CalculatorField;

@@ -1,3 +1,4 @@
+//! A run of the calculator: bytes in, lines carried out, texts and a last fault out.
 ghost use Rattle.std.specs.Prelude.{◌≡◌, ◌+◌, ◌-◌, ◌<◌, ◌≤◌, ◌^◌, ◌++◌, ◌∷◌, [], true, false, Err, List, ℕ, length, take};
 ghost use Rattle.std.specs.Io.KnownBytes.{Appends, Consumes, IsAtEnd};
 ghost use Rattle.p3_calculator_text.specs.Faults.{fault_line};

@@ -1,3 +1,4 @@
+//! What a line of the calculator does: it chooses a field, or computes at the chosen one.
 ghost use Rattle.std.specs.Prelude.{◌≡◌, OnErr};
 ghost use Rattle.p3_calculator_text.specs.Lines.{words};
 ghost use Rattle.p3_calculator.specs.Names.{field_named};

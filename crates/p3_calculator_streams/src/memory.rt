@@ -1,3 +1,4 @@
+//! Sources and sinks in memory, which fail where a test wants it.
 ghost use Rattle.std.specs.Prelude.{◌≡◌, ◌≢◌, ◌+◌, ◌-◌, ◌≤◌, ◌<◌, ◌^◌, false, true, Some, [], IfOk, OnErr, length, take, drop, min, vec_len, MatchResult};
 ghost use Rattle.std.specs.Io.KnownBytes.{ReadConsumes, WriteAppends};
 ghost use Rattle.p3_calculator_streams.specs.Streams.{TellsFailure, TellsWriteFailure, one_less};

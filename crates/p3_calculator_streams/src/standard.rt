@@ -1,3 +1,4 @@
+//! Sources and sinks over the readers and writers of std.
 ghost use Rattle.std.specs.Prelude.{◌≡◌, ◌+◌, ◌≤◌, ◌<◌, ◌^◌, ◌-◌, false, IfOk, OnErr, IsErr, length, take};
 ghost use Rattle.std.specs.Io.KnownBytes.{Consumes, IsAtEnd, Keeps, WriteAppends};
 ghost use Rattle.p3_calculator_streams.specs.Streams.{TellsFailure, TellsWriteFailure};

@@ -1,3 +1,4 @@
+//! What the calculator reads from and writes to, as traits.
 ghost use Rattle.std.specs.Prelude.{◌≡◌, ◌+◌, ◌≤◌, ◌<◌, ◌^◌, ℕ, Bool, true, false, List, Option, length, IfOk, OnOk, OnErr};
 ghost use Rattle.std.specs.Io.KnownBytes.{ReadConsumes, WriteAppends, Appends};
 ghost use Rattle.p3_calculator_streams.specs.Streams.{TellsFailure, TellsWriteFailure, AppendsFront};

@@ -1,3 +1,4 @@
+//! The commands of the calculator's lines, and their words.
 ghost use Rattle.std.specs.Prelude.{◌≡◌, Some};
 ghost use Rattle.p3_calculator_text.specs.Words.{command_of};
 

@@ -1,3 +1,4 @@
+//! Faults, which end a run, and their numbers.
 ghost use Rattle.std.specs.Prelude.{◌≡◌};
 ghost use Rattle.p3_calculator_text.specs.Faults.{fault_code};
 

@@ -1,3 +1,4 @@
+//! The text of a fault.
 ghost use Rattle.std.specs.Prelude.{◌≡◌, ◌+◌, ◌≤◌, ◌++◌, length, take, drop, decimal};
 ghost use Rattle.p3_calculator_text.specs.Faults.{fault_line};
 

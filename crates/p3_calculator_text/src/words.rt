@@ -1,3 +1,4 @@
+//! Words and decimal numbers in a line.
 ghost use Rattle.std.specs.Prelude.{◌≡◌, ◌<◌, ◌≤◌, ◌∷◌, [], List, ℕ, length, IfNone, IfSome, IfOk, nat_eq};
 ghost use Rattle.p3_calculator_text.specs.Lines.{words};
 ghost use Rattle.p3_calculator_text.specs.Words.{number, register, decimal_up_to, one_register, two_registers, three_registers, registers_and_number};

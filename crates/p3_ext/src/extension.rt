@@ -1,3 +1,4 @@
+//! Extensions: shapes of polynomials, and what a base field gives for each of them.
 ghost use Rattle.std.specs.Prelude.{◌≡◌, ◌≤◌, ◌<◌, ◌+◌, ℕ, List, length, map, replicate};
 ghost use Rattle.p3_theory.specs.Rings.Ring.{Ops, Invertible, IsInverse, subtract};
 ghost use Rattle.p3_theory.specs.Polynomials.Polynomial.{IsMonic, at, quotient_mul, quotient_add, quotient_ops, embed, binomial};
@@ -79,9 +80,9 @@ impl<F> Clone for Binomial<F> {
 
 impl<F> Copy for Binomial<F> {}
 
-impl<F: Copy> sealed::Sealed for Binomial<F> {}
+impl<F> sealed::Sealed for Binomial<F> {}
 
-impl<F: Copy> ExtensionShape for Binomial<F> {
+impl<F> ExtensionShape for Binomial<F> {
     ghost is_modulus = { λ A o D f. IsBinomial o D f };
 }
 
@@ -122,7 +123,7 @@ pub trait ExtensionProduct<F, const D: usize, S>: Copy {
 
 /// A coefficient ring whose lists of D coefficients are multiplied modulo the shape's polynomial.
 /// Upstream's `ExtensionAlgebra`.
-pub trait ExtensionAlgebra<F: Copy, const D: usize, S: ExtensionShape>: PrimeCharacteristicRing
+pub trait ExtensionAlgebra<F, const D: usize, S: ExtensionShape>: PrimeCharacteristicRing
     + ExtensionProduct<F, D, S> {
     /// The polynomial that is zero in the extension, from its constant coefficient upward.
     ghost modulus: { List Self };

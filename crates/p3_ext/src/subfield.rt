@@ -1,3 +1,4 @@
+//! Fields that tell which of their values lie in a field below.
 ghost use Rattle.std.specs.Prelude.{◌≡◌, ◌≢◌, ◌↔◌, IsTrue, MatchOption};
 ghost use Rattle.std.specs.List.{All};
 ghost use Rattle.p3_theory.specs.Bases.Subfields.{IsEmbedded};

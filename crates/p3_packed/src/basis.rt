@@ -1,3 +1,4 @@
+//! Packed extension values as vectors over packings, with the basis of powers of X.
 use crate::packed_ext_field::PackedExtField;
 use p3_ext::extension::{ExtensionAlgebra, ExtensionShape};
 use p3_ring::ring::PrimeCharacteristicRing;

@@ -1,3 +1,4 @@
+//! Packings that take at least the memory of a scalar.
 ghost use Rattle.std.specs.Prelude.{◌≤◌};
 ghost use Rattle.std.specs.Mem.{type_size};
 

@@ -1,3 +1,4 @@
+//! Packed extension values, their operators, and the ring that they are.
 ghost use Rattle.std.specs.Prelude.{◌≡◌, ◌<◌, ℕ, get_or, map, replicate};
 ghost use Rattle.p3_theory.specs.Polynomials.Polynomial.{embed};
 

@@ -1,3 +1,4 @@
+//! Packed extension values by their lanes, as a ring over these, and with their coefficients.
 ghost use Rattle.std.specs.Prelude.{◌≡◌, ◌<◌, ℕ, length, get_or, map, slice_set};
 
 use crate::packed_ext_field::{PackedExtField, Packing};

@@ -1,3 +1,4 @@
+//! Sums of scaled rows of packings, column by column.
 ghost use Rattle.std.specs.Prelude.{◌≡◌, ◌<◌, ◌≤◌, List, length, map, get_or};
 ghost use Rattle.std.specs.Iterator.{IsFinite, Drains};
 ghost use Rattle.p3_theory.specs.Rings.ColumnwiseProducts.{add_scaled_row, add_scaled_rows};

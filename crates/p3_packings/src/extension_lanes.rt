@@ -1,3 +1,4 @@
+//! Extension values side by side, by their lanes alone, and as a ring.
 ghost use Rattle.std.specs.Prelude.{◌≡◌, ◌<◌, ◌*◌, ◌/◌, ◌%◌, ℕ, List, length, get_or, replicate, slice_get, slice_set, Some};
 ghost use Rattle.std.specs.Array.{IsFromFnResult};
 ghost use Rattle.p3_theory.specs.Bases.Coordinates.{CallableBelow};
@@ -11,8 +12,9 @@ use p3_ring::ring::PrimeCharacteristicRing;
 /// Values of EF side by side, each in a lane of its own, which is read and written: the part of
 /// upstream's `PackedFieldExtension` that says nothing of coefficients, which are values of F, nor of
 /// operations. What reads and writes lanes alone asks for no more, so that a call at a concrete packed
-/// type passes little. This project's own.
-pub trait ExtensionLanes<F, EF: PrimeCharacteristicRing>: Inhabited {
+/// type passes little; calls that need values of EF to begin with ask for its ring themselves. This
+/// project's own.
+pub trait ExtensionLanes<F, EF: Copy>: Inhabited {
     /// The number of lanes.
     const LANES: usize;
 
@@ -52,6 +54,8 @@ pub trait ExtensionLanes<F, EF: PrimeCharacteristicRing>: Inhabited {
     /// Writes the lanes to the slice, which has `LANES` values. Upstream's `to_ext_slice`.
     #[inline]
     final fn to_ext_slice(&self, out: &mut [EF])
+    where
+        EF: PrimeCharacteristicRing,
         requires { length out.old ≡ LANES }
         ensures { out.new ≡ ext_lanes self.now }
     {
@@ -64,6 +68,8 @@ pub trait ExtensionLanes<F, EF: PrimeCharacteristicRing>: Inhabited {
     /// `from_ext_fn`.
     #[inline]
     final fn from_ext_fn<G: FnMut(usize) -> EF>(mut f: G) -> Self
+    where
+        EF: PrimeCharacteristicRing,
         requires { CallableBelow G.FnMut LANES f }
         ensures { IsFromFnResult G.FnMut f (ext_lanes result) LANES }
     {
@@ -78,6 +84,8 @@ pub trait ExtensionLanes<F, EF: PrimeCharacteristicRing>: Inhabited {
     /// Adds the value to a lane below `LANES`; the others stay. Upstream's `add_assign_lane`.
     #[inline]
     final fn add_assign_lane(&mut self, lane: usize, value: EF)
+    where
+        EF: PrimeCharacteristicRing,
         requires { lane < LANES }
         ensures { (d : EF) → ext_lanes self.new ≡ slice_set (ext_lanes self.old) lane (EF.ops.add (get_or (ext_lanes self.old) lane d) value) }
     {
@@ -92,6 +100,8 @@ pub trait ExtensionLanes<F, EF: PrimeCharacteristicRing>: Inhabited {
     /// width divides that. Upstream's `unpack_transpose_into`.
     #[inline]
     final fn unpack_transpose_into(src: &[Self], dst: &mut [EF], src_width: usize)
+    where
+        EF: PrimeCharacteristicRing,
         requires width { 0 < src_width }
         requires whole { length dst.old ≡ length src.now * LANES }
         requires divides { length dst.old % src_width ≡ 0 }

@@ -1,3 +1,4 @@
+//! Streams of bytes and words of rows of values, which go side by side.
 ghost use Rattle.std.specs.Prelude.{◌≡◌, ◌<◌, ◌≤◌, ◌*◌, ℕ, List, [], ◌∷◌, length, map, replicate, slice_index, MatchOption, OnSome, IfNone};
 ghost use Rattle.std.specs.Bool.{MatchBool};
 ghost use Rattle.std.specs.Iterator.{IsFinite, size, count_map, count_unless};

@@ -1,3 +1,4 @@
+//! How many limbs of a field a value of another one takes at most, so that packing stays injective.
 ghost use Rattle.std.specs.Prelude.{◌≡◌, ◌<◌, ◌≤◌, ◌+◌, ◌*◌, ◌^◌, ◌-◌, ◌↔◌, IsTrue, ℕ, List, length};
 ghost use Rattle.p3_theory.specs.ResidueRings.BitLength.{IsBitLength};
 ghost use Rattle.p3_tools.specs.Digits.{IsLimit, pack, shifted_pack};

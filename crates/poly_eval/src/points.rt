@@ -63,8 +63,9 @@ impl<F: TwoAdicField> Points<F> {
         }
     }
 
-    /// Writes to the table the first halves of the points, of their squares, and so on, from those on which are at most
-    /// 64: of two to the `k` points from index 2^(k - 1) on.
+    /// Writes the table of a coset of 2^k points: the first half of the points goes to the indices from 2^(k - 1) on.
+    /// The points' squares are a coset of half as many points, and so on; the table has those cosets that have at most
+    /// 64 points.
     fn write_table(self, table: &mut [F])
         requires within { self.log_size ≤ F.TWO_ADICITY }
         requires generator { self.generator ≡ F.two_adic self.log_size }

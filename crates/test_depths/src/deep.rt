@@ -1,3 +1,4 @@
+//! A ring whose operations note how many products a value depends on, one after the other.
 ghost use Rattle.std.specs.Prelude.{◌≡◌, ℕ, ⊤};
 ghost use Rattle.test_depths.specs.Held.{held};
 

@@ -1,3 +1,4 @@
+//! Where the depths of values are noted, past the contracts.
 use crate::residue::Residue;
 use std::array;
 use std::cell::Cell;

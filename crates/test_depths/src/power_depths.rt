@@ -1,3 +1,4 @@
+//! Depths of lists of powers and of values of polynomials.
 ghost use Rattle.std.specs.Prelude.{◌≡◌};
 
 use crate::deep::{Deep, Place};

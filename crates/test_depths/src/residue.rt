@@ -1,3 +1,4 @@
+//! Residues modulo a prime, the sides of the ring that notes depths.
 ghost use Rattle.std.specs.Prelude.{◌≡◌, ◌<◌, ⊤};
 ghost use Rattle.p3_theory.specs.Rings.Multiples.{remainder_of};
 

@@ -1,3 +1,4 @@
+//! Extension values as an algebra over their coefficients: operators with one coefficient.
 ghost use Rattle.std.specs.Prelude.{◌≡◌, ◌<◌, ℕ, get_or};
 ghost use Rattle.p3_ext.specs.Scalars.{OnFirstCoefficient};
 
@@ -30,7 +31,7 @@ impl<F: Copy, const D: usize, S: Copy, A: Copy> From<[A; D]> for ExtField<F, D, 
     }
 }
 
-impl<F: Copy, const D: usize, S: Copy, A: Copy + Add<Output = A>> Add<A> for ExtField<F, D, S, A> {
+impl<F, const D: usize, S, A: Copy + Add<Output = A>> Add<A> for ExtField<F, D, S, A> {
     type Output = Self;
 
     ghost can_add = { λ x c. (0 < D) × ((d : A) → A.can_add (get_or x.value 0 d) c) };
@@ -45,7 +46,7 @@ impl<F: Copy, const D: usize, S: Copy, A: Copy + Add<Output = A>> Add<A> for Ext
     }
 }
 
-impl<F: Copy, const D: usize, S: Copy, A: Copy + Sub<Output = A>> Sub<A> for ExtField<F, D, S, A> {
+impl<F, const D: usize, S, A: Copy + Sub<Output = A>> Sub<A> for ExtField<F, D, S, A> {
     type Output = Self;
 
     ghost can_sub = { λ x c. (0 < D) × ((d : A) → A.can_sub (get_or x.value 0 d) c) };
@@ -60,7 +61,7 @@ impl<F: Copy, const D: usize, S: Copy, A: Copy + Sub<Output = A>> Sub<A> for Ext
     }
 }
 
-impl<F: Copy, const D: usize, S: Copy, A: Copy + Mul<Output = A>> Mul<A> for ExtField<F, D, S, A> {
+impl<F, const D: usize, S, A: Copy + Mul<Output = A>> Mul<A> for ExtField<F, D, S, A> {
     type Output = Self;
 
     ghost can_mul = { λ x c. (d : A) (k : ℕ) → k < D → A.can_mul (get_or x.value k d) c };

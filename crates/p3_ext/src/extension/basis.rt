@@ -1,3 +1,4 @@
+//! Extension values as vectors over the base, with the basis of powers of X.
 ghost use Rattle.std.specs.Prelude.{◌≡◌, ℕ};
 
 use super::ext_field::ExtField;

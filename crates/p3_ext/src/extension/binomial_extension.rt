@@ -1,3 +1,4 @@
+//! The Frobenius map of an extension by `X^D = W`: coefficients times powers of a root of unity.
 use super::{Binomial, BinomiallyExtendable, FrobeniusExtendable, InverseByFormula};
 use p3_products::binomial_extension::{
     binomial_inv, compute_coefficient, scale_by_powers, scale_by_repeated_powers,

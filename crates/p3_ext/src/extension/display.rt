@@ -1,3 +1,4 @@
+//! The text of an extension value, as a polynomial in X.
 ghost use Rattle.std.specs.Prelude.{◌≡◌, ℕ, Some, List, Bool};
 ghost use Rattle.std.specs.Fmt.{WritesOnOk};
 ghost use Rattle.p3_theory.specs.Polynomials.Text.{power_text, term_text, next_text, polynomial_text};

@@ -1,3 +1,4 @@
+//! Extension values, their operators, and the ring that they are.
 ghost use Rattle.std.specs.Prelude.{◌≡◌, ◌<◌, ℕ, length, get_or, map};
 ghost use Rattle.p3_theory.specs.Rings.Ring.{Ops};
 ghost use Rattle.p3_theory.specs.Polynomials.Polynomial.{embed};
@@ -34,7 +35,7 @@ impl<F: Copy, const D: usize, S: Copy, A: Copy> Clone for ExtField<F, D, S, A> {
 
 impl<F: Copy, const D: usize, S: Copy, A: Copy> Copy for ExtField<F, D, S, A> {}
 
-impl<F: Copy, const D: usize, S: Copy, A: Copy> ExtField<F, D, S, A> {
+impl<F, const D: usize, S, A> ExtField<F, D, S, A> {
     /// The value with these coefficients.
     #[inline]
     pub fn new(value: [A; D]) -> Self
@@ -45,7 +46,9 @@ impl<F: Copy, const D: usize, S: Copy, A: Copy> ExtField<F, D, S, A> {
             of: PhantomData,
         }
     }
+}
 
+impl<F: Copy, const D: usize, S: Copy, A: Copy> ExtField<F, D, S, A> {
     /// The values with these coefficient lists, one or more. Upstream's `new_array`.
     #[inline]
     pub fn new_array<const N: usize>(input: [[A; D]; N]) -> [Self; N]
@@ -93,7 +96,7 @@ impl<F, const D: usize, S, A: Eq> Eq for ExtField<F, D, S, A> {
     ghost laws = { values_equiv A.Eq.laws };
 }
 
-impl<F: Copy, const D: usize, S: Copy, A: Copy + Add<Output = A>> Add for ExtField<F, D, S, A> {
+impl<F, const D: usize, S, A: Copy + Add<Output = A>> Add for ExtField<F, D, S, A> {
     type Output = Self;
 
     ghost can_add = { λ x y. (d : A) (k : ℕ) → k < D → A.can_add (get_or x.value k d) (get_or y.value k d) };
@@ -110,7 +113,7 @@ impl<F: Copy, const D: usize, S: Copy, A: Copy + Add<Output = A>> Add for ExtFie
     }
 }
 
-impl<F: Copy, const D: usize, S: Copy, A: Copy + Sub<Output = A>> Sub for ExtField<F, D, S, A> {
+impl<F, const D: usize, S, A: Copy + Sub<Output = A>> Sub for ExtField<F, D, S, A> {
     type Output = Self;
 
     ghost can_sub = { λ x y. (d : A) (k : ℕ) → k < D → A.can_sub (get_or x.value k d) (get_or y.value k d) };
@@ -127,7 +130,7 @@ impl<F: Copy, const D: usize, S: Copy, A: Copy + Sub<Output = A>> Sub for ExtFie
     }
 }
 
-impl<F: Copy, const D: usize, S: Copy, A: Copy + Neg<Output = A>> Neg for ExtField<F, D, S, A> {
+impl<F, const D: usize, S, A: Copy + Neg<Output = A>> Neg for ExtField<F, D, S, A> {
     type Output = Self;
 
     ghost can_neg = { λ x. (d : A) (k : ℕ) → k < D → A.can_neg (get_or x.value k d) };
@@ -144,7 +147,7 @@ impl<F: Copy, const D: usize, S: Copy, A: Copy + Neg<Output = A>> Neg for ExtFie
     }
 }
 
-impl<F: Copy, const D: usize, S: Copy, A: ExtensionProduct<F, D, S>> Mul for ExtField<F, D, S, A> {
+impl<F, const D: usize, S, A: ExtensionProduct<F, D, S>> Mul for ExtField<F, D, S, A> {
     type Output = Self;
 
     ghost mul_gives = { λ x y r. A.ext_product_gives x.value y.value r.value };

@@ -1,3 +1,4 @@
+//! Extensions have the bounds of fields where their base has them.
 use super::ext_field::ExtField;
 use super::streams::ByteCountFits;
 use super::{ExtensionShape, FrobeniusExtendable};

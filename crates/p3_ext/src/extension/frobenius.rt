@@ -1,3 +1,4 @@
+//! Inverses and quotients of extension values, by the product of the images under the Frobenius map.
 ghost use Rattle.std.specs.Prelude.{◌≡◌, ◌≢◌, ◌-◌, ℕ, MatchOption};
 ghost use Rattle.p3_theory.specs.Rings.Ring.{Ops, Invertible, IsInverse};
 ghost use Rattle.p3_theory.specs.FrobeniusMaps.Frobenius.{iterate};

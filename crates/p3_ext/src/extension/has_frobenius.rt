@@ -1,3 +1,4 @@
+//! The Frobenius map of extension values, their orbits and pseudo-inverses.
 ghost use Rattle.std.specs.Prelude.{◌≡◌, IfOk};
 ghost use Rattle.p3_theory.specs.Rings.Ring.{Ops, Invertible, IsInverse};
 ghost use Rattle.p3_theory.specs.FrobeniusMaps.Frobenius.{iterate, IsFrobenius};

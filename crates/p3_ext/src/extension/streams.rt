@@ -1,3 +1,4 @@
+//! Extension values as bytes and words.
 ghost use Rattle.std.specs.Prelude.{◌*◌, ◌<◌, ◌^◌};
 
 use super::ext_field::ExtField;

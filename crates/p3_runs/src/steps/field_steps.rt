@@ -1,3 +1,4 @@
+//! Steps over the registers of a field: those of a ring, inverses and square roots.
 ghost use Rattle.std.specs.Prelude.{◌≡◌, ◌↔◌, ℕ, IsTrue, Result, length};
 ghost use Rattle.p3_runs.specs.FieldRuns.{FieldStepFits, FieldFit, OrderGiven, OrdersGiven, StepMay, RunMay};
 

@@ -1,3 +1,4 @@
+//! Vectors of packings as an algebra over their scalars.
 ghost use Rattle.std.specs.Prelude.{◌≡◌, ◌<◌, ℕ, get_or, replicate};
 
 use super::PackingVector;

@@ -1,3 +1,4 @@
+//! Operators of vectors of packed extension values with vectors of packings of the base field.
 ghost use Rattle.std.specs.Prelude.{◌≡◌, ◌<◌, ℕ, get_or, length};
 
 use super::VectorizedExt;
