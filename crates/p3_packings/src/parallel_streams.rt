@@ -3,7 +3,7 @@ ghost use Rattle.std.specs.Prelude.{◌≡◌, ◌<◌, ◌≤◌, ◌*◌, ℕ,
 ghost use Rattle.std.specs.Bool.{MatchBool};
 ghost use Rattle.std.specs.Iterator.{IsFinite, size, count_map, count_unless};
 ghost use Rattle.p3_theory.specs.Polynomials.Polynomial.{tabulate};
-ghost use Rattle.p3_spaces.specs.Streams.{YieldsExactly, DrawnFrom, AllOfLength, AreParallel, column, byte_stream, row_bytes, left_of, little_endian, word_stream, group_count, GathersGroup, ReadsGroup, row_words};
+ghost use Rattle.p3_spaces.specs.Streams.{Exactly, YieldsExactly, DrawnFrom, AllOfLength, AreParallel, column, byte_stream, row_bytes, left_of, little_endian, word_stream, group_count, GathersGroup, ReadsGroup, row_words};
 
 use p3_spaces::array_chunks::next_chunk_padded;
 use p3_spaces::hints::{bytes_hint, words_hint};
@@ -21,7 +21,7 @@ pub fn into_parallel_byte_streams<
     requires can { I.can_next input }
     requires ends { IsFinite (I.remaining input) }
     ensures can { ⟦<ParallelByteStreams<I, F, N> as Iterator>⟧.can_next result }
-    ensures ends { IsFinite (⟦<ParallelByteStreams<I, F, N> as Iterator>⟧.remaining result) }
+    ensures count { Exactly (⟦<ParallelByteStreams<I, F, N> as Iterator>⟧.remaining result) (F.NUM_BYTES * size (I.remaining input)) }
     ensures all { (rows : List (List F)) → YieldsExactly I.next_gives input rows → AllOfLength N rows
         → (items : List (List ℕ)) × YieldsExactly ⟦<ParallelByteStreams<I, F, N> as Iterator>⟧.next_gives result items
         × AreParallel N (F.NUM_BYTES * length rows) (λ j. byte_stream F.bytes (column j rows)) items }
@@ -46,7 +46,7 @@ pub fn into_parallel_u32_streams<
     requires can { I.can_next input }
     requires ends { IsFinite (I.remaining input) }
     ensures can { ⟦<ParallelU32Streams<ParallelByteStreams<I, F, N>, N> as Iterator>⟧.can_next result }
-    ensures ends { IsFinite (⟦<ParallelU32Streams<ParallelByteStreams<I, F, N>, N> as Iterator>⟧.remaining result) }
+    ensures count { Exactly (⟦<ParallelU32Streams<ParallelByteStreams<I, F, N>, N> as Iterator>⟧.remaining result) (group_count 4 (F.NUM_BYTES * size (I.remaining input))) }
     ensures all { (rows : List (List F)) → YieldsExactly I.next_gives input rows → AllOfLength N rows
         → (items : List (List ℕ)) × YieldsExactly ⟦<ParallelU32Streams<ParallelByteStreams<I, F, N>, N> as Iterator>⟧.next_gives result items
         × AreParallel N (group_count 4 (F.NUM_BYTES * length rows)) (λ j. word_stream 4 (byte_stream F.bytes (column j rows))) items }
@@ -71,7 +71,7 @@ pub fn into_parallel_u64_streams<
     requires can { I.can_next input }
     requires ends { IsFinite (I.remaining input) }
     ensures can { ⟦<ParallelU64Streams<ParallelByteStreams<I, F, N>, N> as Iterator>⟧.can_next result }
-    ensures ends { IsFinite (⟦<ParallelU64Streams<ParallelByteStreams<I, F, N>, N> as Iterator>⟧.remaining result) }
+    ensures count { Exactly (⟦<ParallelU64Streams<ParallelByteStreams<I, F, N>, N> as Iterator>⟧.remaining result) (group_count 8 (F.NUM_BYTES * size (I.remaining input))) }
     ensures all { (rows : List (List F)) → YieldsExactly I.next_gives input rows → AllOfLength N rows
         → (items : List (List ℕ)) × YieldsExactly ⟦<ParallelU64Streams<ParallelByteStreams<I, F, N>, N> as Iterator>⟧.next_gives result items
         × AreParallel N (group_count 8 (F.NUM_BYTES * length rows)) (λ j. word_stream 8 (byte_stream F.bytes (column j rows))) items }

@@ -2,13 +2,17 @@
 use Rattle.std.specs.Prelude.{◌≡◌, ◌<◌, ◌+◌, ◌-◌, ◌*◌, ◌/◌, ◌⊎◌, ℕ, Bool, true, List, [], ◌∷◌, ◌++◌, length, take, drop, map, replicate, nat_lt, Option, None, Some, MatchOption, OnSome, All, slice_get, slice_index}
 use Rattle.std.specs.Bool.{MatchBool}
 use Rattle.std.specs.List.{flat_map, filter_map}
-use Rattle.std.specs.Iterator.{Yields, YieldsThen, Drains}
+use Rattle.std.specs.Iterator.{Count, IsFinite, size, Yields, YieldsThen, Drains}
 use Rattle.std.proofs.lemmas.Iterator.{YieldsList}
 use Rattle.p3_theory.specs.Polynomials.Polynomial.{tabulate}
 
 -- every run of calls from s gives exactly the items xs, in order, and then `None`
 abbrev pub YieldsExactly : {S A : Type 0} → (S → Option A → S → Type 0) → S → List A → Type 0
 YieldsExactly steps s xs = YieldsList steps (λ x. x) s xs
+
+-- there is a bound on what is left, and it is n
+abbrev pub Exactly : Count → ℕ → Type 0
+Exactly c n = IsFinite c × (size c ≡ n)
 
 -- the bytes of the elements, one element after the other
 abbrev pub byte_stream : {A : Type 0} → (A → List ℕ) → List A → List ℕ

@@ -2,9 +2,9 @@ ghost use Rattle.std.specs.Prelude.{◌≡◌, ◌<◌, ◌*◌, ℕ, List, leng
 ghost use Rattle.std.specs.Option.{ForSome};
 ghost use Rattle.std.specs.Iterator.Adapters.{inner_items_left};
 ghost use Rattle.std.specs.Bool.{MatchBool};
-ghost use Rattle.std.specs.Iterator.{IsFinite, UpTo, size, count_map, count_unless};
+ghost use Rattle.std.specs.Iterator.{IsFinite, size, count_map, count_unless};
 ghost use Rattle.std.proofs.Common.{arith};
-ghost use Rattle.p3_spaces.specs.Streams.{YieldsExactly, DrawnFrom, byte_stream, word_stream, little_endian, InHand, GathersGroup, ReadsGroup, group_count};
+ghost use Rattle.p3_spaces.specs.Streams.{Exactly, YieldsExactly, DrawnFrom, byte_stream, word_stream, little_endian, InHand, GathersGroup, ReadsGroup, group_count};
 
 use crate::array_chunks::next_chunk_padded;
 use crate::hints::{bytes_hint, held_hint, words_hint};
@@ -27,7 +27,7 @@ pub trait RawDataSerializable: Sized {
     /// The bytes of the value.
     fn into_bytes(self) -> Self::Bytes
         ensures can { Self.Bytes.can_next result }
-        ensures count { UpTo (Self.Bytes.remaining result) NUM_BYTES }
+        ensures count { Exactly (Self.Bytes.remaining result) NUM_BYTES }
         ensures all { YieldsExactly Self.Bytes.next_gives result (bytes self) };
 
     /// Byte i of the value. This project's own: the parallel streams read rows of values by it.
@@ -46,7 +46,7 @@ pub trait RawDataSerializable: Sized {
         requires can { I.can_next input }
         requires ends { IsFinite (I.remaining input) }
         ensures can { ⟦<ByteStream<I, Self::Bytes> as Iterator>⟧.can_next result }
-        ensures count { UpTo (⟦<ByteStream<I, Self::Bytes> as Iterator>⟧.remaining result) (NUM_BYTES * size (I.remaining input)) }
+        ensures count { Exactly (⟦<ByteStream<I, Self::Bytes> as Iterator>⟧.remaining result) (NUM_BYTES * size (I.remaining input)) }
         ensures all { (xs : List Self) → YieldsExactly I.next_gives input xs
             → YieldsExactly ⟦<ByteStream<I, Self::Bytes> as Iterator>⟧.next_gives result (byte_stream bytes xs) }
         ensures drawn { DrawnFrom ⟦<ByteStream<I, Self::Bytes> as Iterator>⟧.next_gives I.next_gives result input (λ bs xs. bs ≡ byte_stream bytes xs) }
@@ -66,7 +66,7 @@ pub trait RawDataSerializable: Sized {
         requires can { I.can_next input }
         requires ends { IsFinite (I.remaining input) }
         ensures can { ⟦<U32Stream<ByteStream<I, Self::Bytes>> as Iterator>⟧.can_next result }
-        ensures ends { IsFinite (⟦<U32Stream<ByteStream<I, Self::Bytes>> as Iterator>⟧.remaining result) }
+        ensures count { Exactly (⟦<U32Stream<ByteStream<I, Self::Bytes>> as Iterator>⟧.remaining result) (group_count 4 (NUM_BYTES * size (I.remaining input))) }
         ensures all { (xs : List Self) → YieldsExactly I.next_gives input xs
             → YieldsExactly ⟦<U32Stream<ByteStream<I, Self::Bytes>> as Iterator>⟧.next_gives result (word_stream 4 (byte_stream bytes xs)) }
         ensures drawn { DrawnFrom ⟦<U32Stream<ByteStream<I, Self::Bytes>> as Iterator>⟧.next_gives I.next_gives result input
@@ -88,7 +88,7 @@ pub trait RawDataSerializable: Sized {
         requires can { I.can_next input }
         requires ends { IsFinite (I.remaining input) }
         ensures can { ⟦<U64Stream<ByteStream<I, Self::Bytes>> as Iterator>⟧.can_next result }
-        ensures ends { IsFinite (⟦<U64Stream<ByteStream<I, Self::Bytes>> as Iterator>⟧.remaining result) }
+        ensures count { Exactly (⟦<U64Stream<ByteStream<I, Self::Bytes>> as Iterator>⟧.remaining result) (group_count 8 (NUM_BYTES * size (I.remaining input))) }
         ensures all { (xs : List Self) → YieldsExactly I.next_gives input xs
             → YieldsExactly ⟦<U64Stream<ByteStream<I, Self::Bytes>> as Iterator>⟧.next_gives result (word_stream 8 (byte_stream bytes xs)) }
         ensures drawn { DrawnFrom ⟦<U64Stream<ByteStream<I, Self::Bytes>> as Iterator>⟧.next_gives I.next_gives result input
