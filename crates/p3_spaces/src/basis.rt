@@ -1,3 +1,4 @@
+//! Vectors over a ring with a basis, by their coefficients; algebras with a name.
 ghost use Rattle.std.specs.Prelude.{◌≡◌, ◌<◌, ◌%◌, ◌↔◌, ℕ, List, length, IsSome, IfSome, MatchOption, IfOk, IsOk, vec_len};
 ghost use Rattle.std.specs.Iterator.{IsFinite};
 ghost use Rattle.std.specs.Array.{IsFromFnResult};

@@ -1,3 +1,4 @@
+//! Powers by an exponent that is a constant.
 ghost use Rattle.std.specs.Prelude.{◌≡◌};
 ghost use Rattle.p3_theory.specs.Rings.Powers.{power};
 

@@ -1,3 +1,4 @@
+//! Extension fields: fields above a base, with a basis that begins with one.
 ghost use Rattle.std.specs.Prelude.{◌≡◌, ◌↔◌, IsTrue, IsSome, IfSome, MatchOption, length};
 ghost use Rattle.p3_theory.specs.Polynomials.Polynomial as Polynomial;
 ghost use Rattle.p3_theory.specs.Bases.BasisSums.{IsScalar, IsBasisSum};

@@ -1,3 +1,4 @@
+//! Rings in which a power is injective, or takes every value.
 ghost use Rattle.std.specs.Prelude.{◌≡◌};
 ghost use Rattle.p3_theory.specs.Rings.Powers.{power};
 ghost use Rattle.p3_theory.specs.Roots.Monomials.{IsInjectivePower};

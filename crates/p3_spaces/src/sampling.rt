@@ -1,3 +1,4 @@
+//! Fields from which uniform bits are drawn.
 /// A field from which uniform bits can be drawn, as two constants of its own, of which nothing is
 /// claimed. Upstream's `UniformSamplingField`.
 pub trait UniformSamplingField {

@@ -1,3 +1,4 @@
+//! Values as bytes, and the streams of bytes and words of many values.
 ghost use Rattle.std.specs.Prelude.{◌≡◌, ◌<◌, ◌*◌, ℕ, List, length, slice_index, OnSome, IfNone};
 ghost use Rattle.std.specs.Option.{ForSome};
 ghost use Rattle.std.specs.Iterator.Adapters.{inner_items_left};
