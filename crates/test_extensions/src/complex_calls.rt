@@ -2,11 +2,12 @@
 
 use crate::cases::Case;
 use crate::fields::binomial_agrees;
+use crate::two_adic_calls::generator;
 use crate::values::Residue;
 use p3_base::field::Field;
 use p3_ext::extension::{
     BinomialExtensionField, BinomiallyExtendable, Complex, ComplexExtendable,
-    HasComplexBinomialExtension, HasTwoAdicComplexBinomialExtension,
+    HasComplexBinomialExtension, HasTwoAdicBinomialExtension, HasTwoAdicComplexBinomialExtension,
 };
 use p3_ring::ring::PrimeCharacteristicRing;
 use std::alloc::{AllocError, Global};
@@ -166,6 +167,25 @@ fn tower_answers<F: HasComplexBinomialExtension<2> + Residue>(
     (inverse, tower_pairs(product))
 }
 
+/// The two-adic generator for so many bits, if there is one, which an extension of degree 2 gives as a two-adic field.
+fn generator_over<F: HasTwoAdicBinomialExtension<2>>(
+    bits: usize,
+) -> Option<BinomialExtensionField<F, 2>> {
+    generator::<BinomialExtensionField<F, 2>>(bits)
+}
+
+/// The coefficients of the extension over complex values' two-adic generator for so many bits, if there is one. Nothing
+/// is read of `_room`.
+fn tower_generator<F: HasTwoAdicComplexBinomialExtension<2> + Residue>(
+    _room: Option<Tower<F>>,
+    bits: usize,
+) -> Option<[Pair; 2]> {
+    match generator_over::<Complex<F>>(bits) {
+        Some(y) => Some(tower_pairs(y)),
+        None => None,
+    }
+}
+
 /// The name of the extension over complex values as an algebra.
 fn tower_name<F: HasComplexBinomialExtension<2>>() -> &'static str {
     F::complex_binomial_algebra_id()
@@ -219,6 +239,8 @@ pub enum Task<'a> {
     Case(Case<'a>),
     /// The inverse of a value of the extension over complex values.
     Inverse([Pair; 2], [Pair; 2]),
+    /// The two-adic generator of that extension for so many bits, if there is one.
+    Generator(usize, Option<[Pair; 2]>),
     /// The name of that extension as an algebra.
     Name(&'a str),
 }
@@ -244,6 +266,7 @@ pub fn task_agrees<F: HasTwoAdicComplexBinomialExtension<2> + Residue>(
         Task::Pair(call, pair) => Ok(answer::<F>(None, call) == Some(pair)),
         Task::Case(case) => binomial_agrees::<F, 2>(alloc, None, case),
         Task::Inverse(y, inverse) => Ok(inverse_agrees::<F>(None, y, inverse)),
+        Task::Generator(bits, expected) => Ok(tower_generator::<F>(None, bits) == expected),
         Task::Name(name) => Ok(tower_name::<F>() == name),
     }
 }

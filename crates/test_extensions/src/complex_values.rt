@@ -85,12 +85,14 @@ fn tower_bytes(rt: HostRuntime) {
     assert_eq!(rt; F31cx2::NUM_BYTES, 16);
 }
 
-/// Asserts both coefficients of a two-adic generator of the extension over complex values.
+/// Asserts both coefficients of a two-adic generator of the extension over complex values, and that it is the one that
+/// the extension gives as a two-adic field.
 fn assert_two_adic(rt: &(impl Abort + AllocGlobal), bits: usize, generator: [Pair; 2]) {
     for index in 0..2 {
         let call = PairCall::TwoAdicCoefficient { bits, index };
         assert_pair(rt, call, generator[index]);
     }
+    assert!(rt; agrees(rt.alloc(), Task::Generator(bits, Some(generator))));
 }
 
 #[test]
@@ -101,6 +103,7 @@ fn generators_over_complex_values(rt: HostRuntime) {
     assert_two_adic(&rt, 5, [[29, 11], [0, 0]]);
     assert_two_adic(&rt, 1, [[30, 0], [0, 0]]);
     assert_two_adic(&rt, 0, [[1, 0], [0, 0]]);
+    assert!(rt; agrees(rt.alloc(), Task::Generator(8, None)));
 }
 
 #[test]

@@ -7,7 +7,7 @@ use p3_base::field::TwoAdicField;
 use p3_base::sqrt::tonelli_shanks_two_adic_counted;
 
 /// The two-adic generator for so many bits, where there is one.
-fn generator<T: TwoAdicField>(bits: usize) -> Option<T> {
+pub fn generator<T: TwoAdicField>(bits: usize) -> Option<T> {
     if bits <= T::TWO_ADICITY {
         Some(T::two_adic_generator(bits))
     } else {
