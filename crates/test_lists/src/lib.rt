@@ -25,4 +25,6 @@ mod plain_ring;
 #[cfg(test)]
 mod points;
 #[cfg(test)]
+mod rings;
+#[cfg(test)]
 mod texts;
