@@ -1,5 +1,6 @@
-//! The calls of the tables over the extensions of the bench, at packings of four values. The functions that choose the
-//! packings are generic over the marker of a field: a test then passes the field's constants alone.
+//! The calls of the tables over the extensions of the bench, at packings of four and eight values. The functions
+//! that choose the packings are generic over the marker of a field: a test then passes the field's constants
+//! alone.
 use crate::call_tables as tables;
 use crate::cases::Case;
 use crate::extension_calls::{BaseCalls, ComplexCalls, ExtensionCalls, ExtensionRooms};
@@ -53,23 +54,36 @@ where
     }
 }
 
-/// Whether a call over packings of four values has its answer. That packings are named tells that they have room;
+/// Whether a call over packings of N values has its answer. That packings are named tells that they have room;
 /// nothing is read of them.
-fn lanes_agree<W: Form<u32> + LaneCount<4> + Extended<S, D>, S: ExtensionShape, const D: usize>(
+fn lanes_agree<
+    W: Form<u32> + LaneCount<N> + Extended<S, D>,
+    S: ExtensionShape,
+    const D: usize,
+    const N: usize,
+>(
     alloc: Global,
-    _packing: Option<Packed<Fp<W>, 4>>,
-    rooms: Option<ExtensionRooms<Fp<W>, S, Packed<Fp<W>, 4>, D>>,
+    _packing: Option<Packed<Fp<W>, N>>,
+    rooms: Option<ExtensionRooms<Fp<W>, S, Packed<Fp<W>, N>, D>>,
     case: &Case,
 ) -> Result<bool, AllocError> {
-    <W as Extended<S, D>>::agrees::<Packed<Fp<W>, 4>>(alloc, rooms, case)
+    <W as Extended<S, D>>::agrees::<Packed<Fp<W>, N>>(alloc, rooms, case)
 }
 
-/// The same of the extension by `X^2 = W`.
-fn over_quadratic<W: OverModulus<u32>>(alloc: Global, case: &Case) -> Result<bool, AllocError>
+/// The same of the extension by `X^2 = W`, over packings of four values or else of eight.
+fn over_quadratic<W: OverModulus<u32>>(
+    alloc: Global,
+    of_four: bool,
+    case: &Case,
+) -> Result<bool, AllocError>
 where
     W::Modulus: BinomialConstants<2>,
 {
-    lanes_agree::<W, Binomial<Fp<W>>, 2>(alloc, None, None, case)
+    if of_four {
+        lanes_agree::<W, Binomial<Fp<W>>, 2, 4>(alloc, None, None, case)
+    } else {
+        lanes_agree::<W, Binomial<Fp<W>>, 2, 8>(alloc, None, None, case)
+    }
 }
 
 /// The same by `X^7 = X + 1`.
@@ -77,7 +91,7 @@ fn over_septic<W: OverModulus<u32>>(alloc: Global, case: &Case) -> Result<bool, 
 where
     W::Modulus: PolynomialConstants<7, Septic>,
 {
-    lanes_agree::<W, Modulo<Septic, 7>, 7>(alloc, None, None, case)
+    lanes_agree::<W, Modulo<Septic, 7>, 7, 4>(alloc, None, None, case)
 }
 
 /// Whether a call over packings of four values of a field itself, which is an extension of its own, has its answer.
@@ -104,6 +118,8 @@ enum Packings {
     FourF17,
     /// Four values of their extension by `X^2 = 3`.
     FourF17x2,
+    /// Eight of these.
+    EightF17x2,
     /// Four values of the extension of the bits by `X^7 = X + 1`.
     FourF2t7,
     /// Four complex values of the residues modulo 31.
@@ -111,10 +127,11 @@ enum Packings {
 }
 
 /// Their fields and numbers of lanes.
-static NAMES: [(&str, &str, Packings); 5] = [
+static NAMES: [(&str, &str, Packings); 6] = [
     ("f17", "1", Packings::F17),
     ("f17", "4", Packings::FourF17),
     ("f17x2", "4", Packings::FourF17x2),
+    ("f17x2", "8", Packings::EightF17x2),
     ("f2t7", "4", Packings::FourF2t7),
     ("f31c", "4", Packings::FourF31c),
 ];
@@ -135,7 +152,8 @@ fn packings_agree(alloc: Global, packings: Packings, case: &Case) -> Result<bool
     match packings {
         Packings::F17 => over_values::<Plain<M17>>(alloc, case),
         Packings::FourF17 => over_base::<Plain<M17>>(alloc, None, case),
-        Packings::FourF17x2 => over_quadratic::<Plain<M17>>(alloc, case),
+        Packings::FourF17x2 => over_quadratic::<Plain<M17>>(alloc, true, case),
+        Packings::EightF17x2 => over_quadratic::<Plain<M17>>(alloc, false, case),
         Packings::FourF2t7 => over_septic::<Plain<M2>>(alloc, case),
         Packings::FourF31c => {
             Ok(<Packed<F31, 4> as ComplexCalls<F31>>::complex_agrees(None, case))
@@ -177,6 +195,7 @@ fn outside_calls(rt: HostRuntime) -> Result<(), Fail> {
     assert_table(&rt, tables::OUTSIDE)?;
     assert_table(&rt, tables::OPERATIONS)?;
     assert_table(&rt, tables::COLUMNWISE)?;
+    assert_table(&rt, tables::COLUMNWISE_OF_EIGHT)?;
     assert_table(&rt, tables::OVER_F2T7)
 }
 
