@@ -10,6 +10,8 @@ mod cosets;
 #[cfg(test)]
 mod field_calls;
 #[cfg(test)]
+mod lane_runs;
+#[cfg(test)]
 mod list_calls;
 #[cfg(test)]
 mod numbered;
