@@ -9,11 +9,17 @@ mod kernel_tables;
 #[cfg(test)]
 mod kernels;
 #[cfg(test)]
+mod long_products;
+#[cfg(test)]
+mod number_rules;
+#[cfg(test)]
 mod numbered;
 #[cfg(test)]
 mod numbers;
 #[cfg(test)]
 mod operations;
+#[cfg(test)]
+mod orders;
 #[cfg(test)]
 mod packing_blocks;
 #[cfg(test)]
