@@ -49,6 +49,8 @@ mod power_lists;
 #[cfg(test)]
 mod rows;
 #[cfg(test)]
+mod stored_products;
+#[cfg(test)]
 mod vector_blocks;
 #[cfg(test)]
 mod vector_tables;
