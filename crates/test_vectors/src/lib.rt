@@ -1,7 +1,6 @@
-//! Tests of vectors of packings and of packed extension values, of runs of steps over them, and of the inverses
-//! and quotients of packed values; and of inverses in extensions that are no fields. The polynomials of these are
-//! products of factors `X - root`, so that some values other than zero have no inverse, and products of nonzero
-//! values are zero.
+//! Tests of vectors of packings and of packed extension values, and of runs of steps over them; and of inverses in
+//! extensions that are no fields. The polynomials of these are products of factors `X - root`, so that some values
+//! other than zero have no inverse, and products of nonzero values are zero.
 #![tactic(auto)]
 
 #[cfg(test)]
@@ -9,19 +8,9 @@ mod extension_vectors;
 #[cfg(test)]
 mod extensions;
 #[cfg(test)]
-mod families;
-#[cfg(test)]
 mod field_vectors;
 #[cfg(test)]
-mod lane_inverses;
-#[cfg(test)]
-mod lane_tables;
-#[cfg(test)]
 mod packings;
-#[cfg(test)]
-mod plain;
-#[cfg(test)]
-mod residue_calls;
 #[cfg(test)]
 mod residues;
 #[cfg(test)]
@@ -34,8 +23,6 @@ mod split_tables;
 mod splits;
 #[cfg(test)]
 mod texts;
-#[cfg(test)]
-mod towers;
 #[cfg(test)]
 mod value_calls;
 #[cfg(test)]

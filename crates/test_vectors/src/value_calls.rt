@@ -1,8 +1,7 @@
 //! The calls that take inverses of values.
 ghost use Rattle.p3_runs.specs.FieldRuns.{OrdersGiven};
 
-use crate::plain::PlainRing;
-use crate::values::{List, Listed, ZERO, list_of_value, of_list};
+use crate::values::{List, Listed, ZERO};
 use p3_base::field::Field;
 use p3_runs::steps::{FieldStep, StepFault, StepRefused, run_field_steps, steps_fit};
 use std::alloc::{AllocError, Global};
@@ -15,10 +14,6 @@ pub(crate) enum Call<'a> {
         value: List,
         inverse: Option<List>,
     },
-    /// Each value has an inverse, whose product with it is one in plain numbers, just where a search finds one.
-    Every(PlainRing),
-    /// So many values have an inverse just where their norm in plain numbers isn't zero.
-    Sampled(PlainRing, u64),
     /// A run over registers that hold the first values is refused and leaves the others.
     Refused {
         before: &'a [List],
@@ -33,8 +28,6 @@ pub(crate) fn agrees<T: Field + Listed>(
 ) -> Result<bool, AllocError> {
     match *call {
         Call::Inverse { value, inverse } => Ok(is_inverse::<T>(&value, inverse)),
-        Call::Every(ring) => Ok(every_value_agrees::<T>(&ring)),
-        Call::Sampled(ring, count) => Ok(samples_agree::<T>(&ring, count)),
         Call::Refused { before, after } => is_refused::<T>(alloc, before, after),
     }
 }
@@ -50,50 +43,18 @@ fn given_inverse<T: Field>(x: T) -> Option<T> {
 /// The coefficients of an answer.
 fn list_of<T: Listed>(answer: Option<T>) -> Option<List> {
     match answer {
-        Some(y) => Some(list_of_value(&y)),
+        Some(y) => Some(y.list()),
         None => None,
     }
 }
 
 /// Whether the calls give this inverse, or zero and none where it is none.
 fn is_inverse<T: Field + Listed>(x: &List, inverse: Option<List>) -> bool {
-    let value = of_list::<T>(x);
-    let or_zero = list_of_value(&value.inverse_or_zero());
+    let value = T::of_list(x);
+    let or_zero = value.inverse_or_zero().list();
     list_of(value.try_inverse()) == inverse
         && list_of(given_inverse(value)) == inverse
         && or_zero == inverse.unwrap_or(ZERO)
-}
-
-/// Whether each value has an inverse, whose product with it is one in plain numbers, just where a search among its
-/// powers finds one.
-fn every_value_agrees<T: Field + Listed>(ring: &PlainRing) -> bool {
-    for number in 0..ring.count() {
-        let value = ring.value(number);
-        let is_right = match list_of(of_list::<T>(&value).try_inverse()) {
-            Some(inverse) => ring.is_inverse(&value, &inverse),
-            None => ring.inverse(&value).is_none(),
-        };
-        if !is_right {
-            return false;
-        }
-    }
-    true
-}
-
-/// Whether so many values have an inverse, which gives one in plain numbers, just where their norm isn't zero.
-fn samples_agree<T: Field + Listed>(ring: &PlainRing, count: u64) -> bool {
-    let mut seed: u64 = 1;
-    for _ in 0..count {
-        let value = ring.sample(&mut seed);
-        let is_right = match list_of(of_list::<T>(&value).try_inverse()) {
-            Some(inverse) => ring.is_inverse(&value, &inverse),
-            None => ring.norm(&value) == 0,
-        };
-        if !is_right {
-            return false;
-        }
-    }
-    true
 }
 
 /// Inverts the first of three registers, multiplies it with the last one into the second one, and inverts and
@@ -125,7 +86,7 @@ fn is_refused<T: Field + Listed>(
 ) -> Result<bool, AllocError> {
     let mut registers: Vec<T> = Vec::new(alloc);
     for list in before {
-        registers.push(of_list::<T>(list))?;
+        registers.push(T::of_list(list))?;
     }
     let refused = StepRefused {
         index: 2,
@@ -135,7 +96,7 @@ fn is_refused<T: Field + Listed>(
         return Ok(false);
     }
     for (register, list) in registers.iter().zip(after) {
-        if list_of_value(register) != *list {
+        if register.list() != *list {
             return Ok(false);
         }
     }
