@@ -16,7 +16,7 @@ run: ## the calculator on an example; the first time it is proved before, in som
 test: ## the tests of one crate, without a proof: make test CRATE=test_fields
 	cd crates/$(CRATE) && rt try --test
 
-check: ## proves one crate, and first what it stands on: make check CRATE=p3_ext
+check: ## proves one crate, and first what it stands on: make check CRATE=p3_extension
 	cd crates/$(CRATE) && rt check
 
 prove: ## proves every library, side by side, and keeps the proofs for `make check`

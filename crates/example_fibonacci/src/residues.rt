@@ -3,12 +3,12 @@ ghost use Rattle.std.specs.Prelude.{◌∷◌, [], codes, refl};
 ghost use Rattle.std.proofs.Common.{lit<, lit≤};
 
 use crate::golden::Golden;
-use p3_bench_prime::binomial_constants::BinomialConstants;
-use p3_bench_prime::form::{Modulus, ModulusOrder, Order, Plain};
-use p3_bench_prime::fp::Fp;
-use p3_bench_prime::polynomial_constants::PolynomialConstants;
-use p3_bench_prime::two_adic::{TopPowerConstants, TwoAdicConstants};
 use p3_field::extension::{BinomialExtensionField, ExtField, Modulo};
+use p3_fields::binomial_constants::BinomialConstants;
+use p3_fields::form::{Modulus, ModulusOrder, Order, Plain};
+use p3_fields::fp::Fp;
+use p3_fields::polynomial_constants::PolynomialConstants;
+use p3_fields::two_adic::{TopPowerConstants, TwoAdicConstants};
 
 /// The marker of the order 97.
 pub struct M97;

@@ -4,7 +4,7 @@ ghost use Rattle.p3_theory.specs.Rings.Multiples.{of_nat};
 
 use crate::recovery::{RecoverError, recover};
 use crate::shares::{Share, split};
-use p3_base::field::PrimeField64;
+use p3_field_traits::field::PrimeField64;
 use std::alloc::{AllocError, Global};
 use std::error::Error;
 use std::fmt;

@@ -7,8 +7,8 @@ ghost use Rattle.example_shares.specs.declared.recovery.RecoverError.TheVariants
 
 use crate::lagrange::{combine, denominators, product};
 use crate::shares::Share;
-use p3_base::field::Field;
-use p3_batch_inverse::batch_inverse::batch_multiplicative_inverse;
+use p3_field_traits::field::Field;
+use p3_helpers::batch_inverse::batch_multiplicative_inverse;
 use std::alloc::{AllocError, Global};
 use std::error::Error;
 use std::fmt;

@@ -4,8 +4,8 @@ ghost use Rattle.std.specs.Prelude.{◌≡◌, map, IfOk};
 ghost use Rattle.example_shares.specs.Secrets.{value_at, first_points};
 ghost use Rattle.example_shares.specs.ShareLists.{points, values};
 
+use p3_helpers::horner::horner_slice;
 use p3_ring::ring::PrimeCharacteristicRing;
-use p3_tools::horner::horner_slice;
 use std::alloc::{AllocError, Global};
 
 /// A point, and the value of a polynomial there.

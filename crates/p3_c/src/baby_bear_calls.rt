@@ -2,26 +2,24 @@
 ghost use Rattle.p3_theory.specs.Rings.DotProduct as products;
 ghost use Rattle.p3_theory.specs.Rings.Operators.{sum_list, product_list};
 ghost use Rattle.p3_theory.specs.Rings.Powers.{eval};
-ghost use Rattle.p3_words.specs.Statuses.{Answers, Tells};
-ghost use Rattle.p3_words.specs.Calls.{Checks, AnswersInverse, AnswersRoot, WritesWords, WritesNumbers, WritesInverses};
-ghost use Rattle.p3_word_lists.specs.Calls.{AnswersOne, AnswersPair, AnswersAt, WritesPairs, WritesScaledPairs, WritesScaled, WritesPowers};
-ghost use Rattle.p3_word_cosets.specs.Calls.{WritesCoset, WritesValues};
-ghost use Rattle.p3_word_limbs.specs.Calls.{AnswersPacked, WritesDigits, AnswersLimit};
-ghost use Rattle.p3_word_runs.specs.Calls.{WritesRun};
+ghost use Rattle.p3_c_words.specs.Statuses.{Answers, Tells};
+ghost use Rattle.p3_c_words.specs.Calls.{Checks, AnswersInverse, AnswersRoot, WritesWords, WritesNumbers, WritesInverses};
+ghost use Rattle.p3_c_words.specs.ListCalls.{AnswersOne, AnswersPair, AnswersAt, WritesPairs, WritesScaledPairs, WritesScaled, WritesPowers};
+ghost use Rattle.p3_c_calls.specs.CosetCalls.{WritesCoset, WritesValues};
+ghost use Rattle.p3_c_calls.specs.LimbCalls.{AnswersPacked, WritesDigits, AnswersLimit};
+ghost use Rattle.p3_c_calls.specs.RunCalls.{WritesRun};
 
-use p3_base::field::{Field, TwoAdicField};
-use p3_bench_prime::baby_bear::BabyBear;
-use p3_bench_prime::goldilocks::Goldilocks;
+use p3_c_calls::coded::RunStep;
+use p3_c_calls::limbs::{most_digits, pack, split};
+use p3_c_calls::{cosets, runs};
+use p3_c_words::status::{answer, status};
+use p3_c_words::stored::Stored;
+use p3_c_words::{inverses, numbers, pairs, points, totals};
+use p3_field_traits::field::{Field, TwoAdicField};
 use p3_integers::integers::Quotient;
+use p3_prime_fields::baby_bear::BabyBear;
+use p3_prime_fields::goldilocks::Goldilocks;
 use p3_ring::ring::PrimeCharacteristicRing;
-use p3_word_cosets::cosets;
-use p3_word_limbs::limbs::{most_digits, pack, split};
-use p3_word_lists::{pairs, points, totals};
-use p3_word_runs::coded::RunStep;
-use p3_word_runs::runs;
-use p3_words::status::{answer, status};
-use p3_words::stored::Stored;
-use p3_words::{inverses, numbers};
 use std::alloc::Global;
 
 /// How many values are worked on at once.

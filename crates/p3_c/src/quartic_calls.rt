@@ -3,16 +3,16 @@
 ghost use Rattle.p3_theory.specs.FrobeniusMaps.Frobenius.{iterate};
 ghost use Rattle.p3_theory.specs.FrobeniusMaps.FrobeniusTable.{frobenius_list};
 ghost use Rattle.p3_theory.specs.Polynomials.Polynomial.{quotient_mul, quotient_ops};
-ghost use Rattle.p3_words.specs.Statuses.{Tells};
-ghost use Rattle.p3_word_extensions.specs.Calls.{WritesEach, WritesPairs, WritesDot, WritesInverse, WritesEachInverse};
+ghost use Rattle.p3_c_words.specs.Statuses.{Tells};
+ghost use Rattle.p3_c_calls.specs.ExtensionCalls.{WritesEach, WritesPairs, WritesDot, WritesInverse, WritesEachInverse};
 
-use p3_bench_prime::baby_bear::BabyBear;
-use p3_bench_prime::extensions::BabyBearx4;
-use p3_ext::extension::{Binomial, ExtensionAlgebra, FrobeniusExtendable};
+use p3_c_calls::extensions;
+use p3_c_words::status::status;
+use p3_c_words::stored::Stored;
+use p3_extension::extension::{Binomial, ExtensionAlgebra, FrobeniusExtendable};
+use p3_prime_fields::baby_bear::BabyBear;
+use p3_prime_fields::extensions::BabyBearx4;
 use p3_ring::ring::PrimeCharacteristicRing;
-use p3_word_extensions::extensions;
-use p3_words::status::status;
-use p3_words::stored::Stored;
 use std::alloc::Global;
 
 /// Multiplies each value of the left list by that of the right one at its index.

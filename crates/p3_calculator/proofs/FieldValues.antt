@@ -11,7 +11,7 @@ use Rattle.p3_theory.specs.Rings.Powers.{power}
 use Rattle.p3_theory.specs.Rings.Homomorphism.{length-map, at-map}
 use Rattle.p3_theory.specs.ResidueRings.Residues.{residues, residue_ops, residue_laws, are_residues, IsResidues}
 use Rattle.p3_theory.specs.Polynomials.Polynomial.{at, IsMonic}
-use Rattle.p3_ext.specs.Values.{ext_ops, ext_laws}
+use Rattle.p3_extension.specs.Values.{ext_ops, ext_laws}
 use Rattle.p3_calculator.specs.Fields.{FieldSpec, ResiduesModulo, PolynomialsModulo, IsValue, AllBelow, ops}
 use Rattle.p3_calculator.specs.Representation.{Represents}
 use Rattle.p3_calculator.specs.Coefficients.{residues_represented, extension_represented, one_coefficient, all_coefficients}

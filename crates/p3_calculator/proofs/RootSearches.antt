@@ -6,7 +6,7 @@ use Rattle.std.proofs.lemmas.Bool.{lt-ltb}
 use Rattle.p3_theory.specs.Rings.Ring.{Ops}
 use Rattle.p3_theory.specs.Roots.PowersOfTwo.{trailing_split}
 use Rattle.p3_theory.specs.Roots.SquareRoots.{IsSquareRoot, CountedByGenerator}
-use Rattle.p3_ext.specs.Orders.{extension_size}
+use Rattle.p3_extension.specs.Orders.{extension_size}
 use Rattle.p3_calculator.specs.Representation.{RootOrNone}
 
 -- what the counted search answers

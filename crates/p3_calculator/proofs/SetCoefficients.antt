@@ -3,10 +3,10 @@ use Rattle.std.proofs.Common.{◌≡◌, ◌∙◌, ℕ, zero, suc, List, ◌∷
 use Rattle.std.proofs.lemmas.List.{map-set}
 use Rattle.p3_theory.specs.Polynomials.Polynomial.{tabulate, embed}
 use Rattle.p3_theory.specs.ResidueRings.Residues.{are_residues, residues}
-use Rattle.p3_bench_prime.specs.declared.form.Form as forms
-use Rattle.p3_bench_prime.specs.declared.form.Word as words
-use Rattle.p3_bench_prime.specs.declared.fp.Fp.{Fp}
-use Rattle.p3_bench_prime.specs.Elements.{canon, of, is}
+use Rattle.p3_prime_fields.specs.declared.form.Form as forms
+use Rattle.p3_prime_fields.specs.declared.form.Word as words
+use Rattle.p3_prime_fields.specs.declared.fp.Fp.{Fp}
+use Rattle.p3_prime_fields.specs.Elements.{canon, of, is}
 
 -- a value that stands for c is set at index i
 pub map-set_value : {A : Type 0} (canon : A → ℕ) (old new : List A) (i : ℕ) (x : A) (c : ℕ) → new ≡ set old i x → canon x ≡ c → map canon new ≡ set (map canon old) i c

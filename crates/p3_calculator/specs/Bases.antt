@@ -3,10 +3,10 @@ use Rattle.std.specs.Prelude.{ℕ, ℤ, List, Some, refl, decimal, map, get_or}
 use Rattle.p3_theory.specs.Polynomials.IntegerPolynomials.{over}
 use Rattle.p3_theory.specs.Polynomials.Polynomial.{tabulate, binomial}
 use Rattle.p3_theory.specs.ResidueRings.Residues.{are_residues}
-use Rattle.p3_bench_prime.specs.declared.form.Form as forms
-use Rattle.p3_bench_prime.specs.declared.form.Word as words
-use Rattle.p3_bench_prime.specs.declared.fp.Fp.{Fp}
-use Rattle.p3_bench_prime.specs.Elements.{canon, of, ops, is}
+use Rattle.p3_prime_fields.specs.declared.form.Form as forms
+use Rattle.p3_prime_fields.specs.declared.form.Word as words
+use Rattle.p3_prime_fields.specs.declared.fp.Fp.{Fp}
+use Rattle.p3_prime_fields.specs.Elements.{canon, of, ops, is}
 use Rattle.p3_calculator.specs.Fields.{FieldSpec, PolynomialsModulo}
 use Rattle.p3_calculator.specs.Representation.{IsBase}
 

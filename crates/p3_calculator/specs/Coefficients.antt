@@ -6,8 +6,8 @@ use Rattle.std.proofs.lemmas.Fmt.{decimal_digit}
 use Rattle.p3_theory.specs.Rings.Ring.{Ops}
 use Rattle.p3_theory.specs.ResidueRings.Residues.{AreResidues, residues}
 use Rattle.p3_theory.specs.Rings.Homomorphism.{length-map, quotient-map}
-use Rattle.p3_ext.specs.declared.extension.ext_field.ExtField.{ExtField}
-use Rattle.p3_ext.specs.Values.{value_of, same_value, ext_ops}
+use Rattle.p3_extension.specs.declared.extension.ext_field.ExtField.{ExtField}
+use Rattle.p3_extension.specs.Values.{value_of, same_value, ext_ops}
 use Rattle.p3_calculator.specs.Display.{display}
 use Rattle.p3_calculator.specs.Fields.{ResiduesModulo, PolynomialsModulo, IsValue, AllBelow}
 use Rattle.p3_calculator.specs.Representation.{Represents}

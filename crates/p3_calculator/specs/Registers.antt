@@ -3,10 +3,10 @@ use Rattle.std.specs.Prelude.{List, ℕ, map}
 use Rattle.p3_calculator.specs.declared.registers.Registers.{Registers}
 use Rattle.p3_calculator.specs.States.{State, at_field}
 use Rattle.p3_calculator.specs.Fields.{FieldSpec}
-use Rattle.p3_bench_prime.specs.declared.fp.Fp.{Fp}
-use Rattle.p3_bench_prime.specs.declared.form.Form as forms
-use Rattle.p3_bench_prime.specs.declared.form.Word as words
-use Rattle.p3_bench_prime.specs.Elements as Elements
+use Rattle.p3_prime_fields.specs.declared.fp.Fp.{Fp}
+use Rattle.p3_prime_fields.specs.declared.form.Form as forms
+use Rattle.p3_prime_fields.specs.declared.form.Word as words
+use Rattle.p3_prime_fields.specs.Elements as Elements
 
 -- registers of a type's values, by their coefficients
 abbrev pub state_at : {F : Type 0} → FieldSpec → (F → List ℕ) → Registers F → State

@@ -8,7 +8,7 @@ use Rattle.p3_calculator.specs.declared.machine.Stop.TheVariants.{AtFault, AtWri
 use Rattle.p3_calculator.specs.Bank.{state_of}
 use Rattle.p3_calculator_text.specs.Lines.{lines_of}
 use Rattle.p3_calculator.specs.RegisterValues.{Filled}
-use Rattle.p3_calculator_streams.specs.Streams.{AppendsFront}
+use Rattle.p3_calculator_text.specs.Streams.{AppendsFront}
 use Rattle.p3_calculator_text.specs.Faults.{fault_line}
 use Rattle.p3_calculator.specs.Text.{IsTextFrom, IsText, BeginsText}
 

@@ -17,14 +17,14 @@ use crate::names::{
 };
 use crate::registers::Registers;
 use crate::zeros::{zero_polynomials, zero_residues};
-use p3_bench_prime::binomial_constants::BinomialConstants;
-use p3_bench_prime::form::{Form, Word};
-use p3_bench_prime::fp::Fp;
-use p3_bench_prime::polynomial_constants::PolynomialConstants;
 use p3_calculator_text::commands::Operation;
 use p3_calculator_text::faults::Fault;
 use p3_calculator_text::words::next_word;
-use p3_ext::extension::{Binomial, ExtField, IntegerPolynomial, Modulo};
+use p3_extension::extension::{Binomial, ExtField, IntegerPolynomial, Modulo};
+use p3_prime_fields::binomial_constants::BinomialConstants;
+use p3_prime_fields::form::{Form, Word};
+use p3_prime_fields::fp::Fp;
+use p3_prime_fields::polynomial_constants::PolynomialConstants;
 use std::alloc::Allocator;
 use std::marker::Model;
 

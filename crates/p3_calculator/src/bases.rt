@@ -2,12 +2,12 @@
 ghost use Rattle.std.specs.Prelude.{◌≡◌, ◌<◌};
 
 use crate::field::Base;
-use p3_bench_prime::form::Form;
-use p3_bench_prime::fp::Fp;
 use p3_integers::integers::QuotientMap;
+use p3_prime_fields::form::Form;
+use p3_prime_fields::fp::Fp;
 
 impl<W: Form<u32>> Base for Fp<W> {
-    ghost use Rattle.p3_bench_prime.specs.Elements.{canon};
+    ghost use Rattle.p3_prime_fields.specs.Elements.{canon};
 
     ghost base_order = { W.ORDER };
 

@@ -7,9 +7,9 @@ ghost use Rattle.p3_calculator.specs.Display.{display};
 ghost use Rattle.p3_calculator.specs.Fields.{FieldSpec, PolynomialsModulo, order, dimension, value_count, generator_of};
 ghost use Rattle.p3_calculator.specs.Representation.{IsBase, Represents, InverseOrNone, RootOrNone};
 
-use p3_base::field::Field;
-use p3_base::sqrt::tonelli_shanks;
-use p3_ext::extension::{ExtField, ExtensionShape, FrobeniusExtendable};
+use p3_extension::extension::{ExtField, ExtensionShape, FrobeniusExtendable};
+use p3_field_traits::field::Field;
+use p3_field_traits::sqrt::tonelli_shanks;
 use p3_ring::ring::PrimeCharacteristicRing;
 use std::alloc::{AllocError, Allocator};
 
@@ -128,7 +128,7 @@ pub trait Named<const D: usize, S: ExtensionShape>: Base + FrobeniusExtendable<D
 
 impl<F: Named<D, S>, const D: usize, S: ExtensionShape> CalculatorField for ExtField<F, D, S, F> {
     ghost use Rattle.p3_theory.specs.Polynomials.Coefficients.{length-tabulate};
-    ghost use Rattle.p3_ext.specs.Values.{ext_ops, value_of};
+    ghost use Rattle.p3_extension.specs.Values.{ext_ops, value_of};
     ghost use Rattle.p3_calculator.specs.Coefficients.{all_coefficients, extension_represented};
 
     ghost spec = { PolynomialsModulo F.base_order D (map F.canon F.modulus) (map F.canon (tabulate D F.generator_coefficients)) };

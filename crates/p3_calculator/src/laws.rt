@@ -11,11 +11,11 @@ ghost use Rattle.p3_calculator.specs.States.{no_field};
 ghost use Rattle.p3_calculator.specs.Text.{RunEnds, IsText};
 ghost use Rattle.p3_calculator.specs.SameTexts.{TakeNoRoots, AreOneFrom};
 
-use p3_base::field::{Field, PrimeField32, TwoAdicField};
-use p3_bench_prime::baby_bear::BabyBear;
-use p3_bench_prime::extensions::{F17x2, F31c};
-use p3_bench_prime::small::{F2, F17, F31};
+use p3_field_traits::field::{Field, PrimeField32, TwoAdicField};
 use p3_integers::integers::Quotient;
+use p3_prime_fields::baby_bear::BabyBear;
+use p3_prime_fields::extensions::{F17x2, F31c};
+use p3_prime_fields::small::{F2, F17, F31};
 use p3_ring::ring::PrimeCharacteristicRing;
 
 /// A product in the prime field of order 17 is zero only where a factor is.

@@ -16,7 +16,7 @@ mod run;
 mod step;
 mod zeros;
 
-pub use p3_calculator_streams::memory::{MemSink, MemSource};
-pub use p3_calculator_streams::standard::{StdSink, StdSource};
-pub use p3_calculator_streams::streams::{ReadFailed, Sink, Source, WriteFailed, write_all};
+pub use p3_calculator_text::memory::{MemSink, MemSource};
+pub use p3_calculator_text::standard::{StdSink, StdSource};
+pub use p3_calculator_text::streams::{ReadFailed, Sink, Source, WriteFailed, write_all};
 pub use run::{engine, engine_in};

@@ -1,6 +1,6 @@
 //! The registers of the chosen field, as one of a list of types.
 use crate::registers::Registers;
-use p3_ext::extension::Complex;
+use p3_extension::extension::Complex;
 
 /// These registers, or what the rest of the list has.
 #[derive(Drop)]

@@ -8,21 +8,21 @@ ghost use Rattle.p3_calculator.specs.Representation.{IsBase};
 use crate::field::{Base, Named};
 use crate::lists::{ComplexRegisters, NoField, OneOf};
 use crate::registers::Registers;
-use p3_bench_prime::baby_bear::{BabyBear, BabyBearModulus};
-use p3_bench_prime::binomial_constants::BinomialConstants;
-use p3_bench_prime::extensions::{
-    BabyBearx4, F2t5, F2t7, F17bx2, F17t5, F17x2, F17x4, F17x8, F31t3, F31x3, F31x5, F31x6, Z15x2,
-};
-use p3_bench_prime::form::{OverModulus, Plain};
-use p3_bench_prime::fp::Fp;
-use p3_bench_prime::goldilocks::Goldilocks;
-use p3_bench_prime::koala_bear::KoalaBear;
-use p3_bench_prime::montgomery::Montgomery;
-use p3_bench_prime::polynomial_constants::PolynomialConstants;
-use p3_bench_prime::small::{F2, F17, F17b, F31, M2, M15, M17, M17b, M31, Z15};
-use p3_ext::extension::{
+use p3_extension::extension::{
     Binomial, ComplexExtendable, Cubic, IntegerPolynomial, Modulo, Quintic, Septic,
 };
+use p3_prime_fields::baby_bear::{BabyBear, BabyBearModulus};
+use p3_prime_fields::binomial_constants::BinomialConstants;
+use p3_prime_fields::extensions::{
+    BabyBearx4, F2t5, F2t7, F17bx2, F17t5, F17x2, F17x4, F17x8, F31t3, F31x3, F31x5, F31x6, Z15x2,
+};
+use p3_prime_fields::form::{OverModulus, Plain};
+use p3_prime_fields::fp::Fp;
+use p3_prime_fields::goldilocks::Goldilocks;
+use p3_prime_fields::koala_bear::KoalaBear;
+use p3_prime_fields::montgomery::Montgomery;
+use p3_prime_fields::polynomial_constants::PolynomialConstants;
+use p3_prime_fields::small::{F2, F17, F17b, F31, M2, M15, M17, M17b, M31, Z15};
 
 /// The names of residues.
 pub const RESIDUE_NAMES: &str = "f2 f17 f17b f31 z15 bb kb gl";

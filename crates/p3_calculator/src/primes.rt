@@ -2,11 +2,11 @@
 ghost use Rattle.std.specs.Prelude.{◌≡◌, string_bytes, slice_set, IfOk};
 
 use crate::field::CalculatorField;
-use p3_base::field::Field;
-use p3_base::sqrt::tonelli_shanks;
-use p3_bench_prime::form::{Form, Word};
-use p3_bench_prime::fp::Fp;
+use p3_field_traits::field::Field;
+use p3_field_traits::sqrt::tonelli_shanks;
 use p3_integers::integers::QuotientMap;
+use p3_prime_fields::form::{Form, Word};
+use p3_prime_fields::fp::Fp;
 use p3_ring::ring::PrimeCharacteristicRing;
 use std::alloc::{AllocError, Allocator};
 
@@ -14,7 +14,7 @@ impl<W: Form<T>, T: Word> CalculatorField for Fp<W, T> {
     ghost use Rattle.std.specs.Prelude.{[], ◌∷◌};
     ghost use Rattle.std.proofs.Common.{ap};
     ghost use Rattle.p3_theory.specs.ResidueRings.Residues.{are_residues};
-    ghost use Rattle.p3_bench_prime.specs.Elements.{canon, of, ops, is};
+    ghost use Rattle.p3_prime_fields.specs.Elements.{canon, of, ops, is};
     ghost use Rattle.p3_calculator.specs.Coefficients.{one_coefficient, residues_represented};
     ghost use Rattle.p3_calculator.specs.Fields.{ResiduesModulo};
 

@@ -7,9 +7,9 @@ ghost use Rattle.p3_calculator.specs.Text.{RunEnds};
 
 use crate::machine::{Line, Machine, Stop};
 use crate::step::step;
-use p3_calculator_streams::streams::{Sink, Source, write_all};
 use p3_calculator_text::faults::Fault;
 use p3_calculator_text::report::FaultLine;
+use p3_calculator_text::streams::{Sink, Source, write_all};
 use std::alloc::{Allocator, Global};
 
 /// Carries out the line in the buffer, which its byte 10 ends, and writes its text.

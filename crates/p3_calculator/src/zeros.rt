@@ -8,9 +8,9 @@ ghost use Rattle.p3_calculator.specs.Coefficients.{one_coefficient, all_coeffici
 
 use crate::field::Base;
 use crate::registers::Registers;
-use p3_bench_prime::form::{Form, Word};
-use p3_bench_prime::fp::Fp;
-use p3_ext::extension::ExtField;
+use p3_extension::extension::ExtField;
+use p3_prime_fields::form::{Form, Word};
+use p3_prime_fields::fp::Fp;
 
 /// Registers of residues that are all zero.
 pub fn zero_residues<W: Form<T>, T: Word>() -> Registers<Fp<W, T>>

@@ -1,8 +1,11 @@
-//! The text of the calculator's lines: what the words of a line say, and how a fault is written. It
-//! names no field.
+//! What the calculator reads and writes: the words of a line, the text of a fault, and sources and sinks of bytes, in
+//! memory and over std's readers and writers. It names no field.
 #![tactic(auto)]
 
 pub mod commands;
 pub mod faults;
+pub mod memory;
 pub mod report;
+pub mod standard;
+pub mod streams;
 pub mod words;

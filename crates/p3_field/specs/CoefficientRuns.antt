@@ -3,9 +3,9 @@ use Rattle.std.specs.Prelude.{◌≡◌, List, map}
 use Rattle.std.proofs.Common.{ap, ◌∙◌, sym}
 use mathlib.Core.List.{map-map}
 use Rattle.p3_theory.specs.Rings.Ring.{Ops, Hom}
-use Rattle.p3_runs.specs.declared.steps.Step.{Step}
-use Rattle.p3_runs.specs.Runs.{run}
-use Rattle.p3_runs.specs.RunsAlong.{run-along}
+use Rattle.p3_helpers.specs.declared.steps.Step.{Step}
+use Rattle.p3_helpers.specs.Runs.{run}
+use Rattle.p3_helpers.specs.RunsAlong.{run-along}
 
 -- what is known of a reading is known of a reading of it
 pub read_through : {V A B : Type 0} {O : Ops A} {P : Ops B} {f : A → B} → Hom O P f → (r : V → A) (steps : List Step) (new old : List V)

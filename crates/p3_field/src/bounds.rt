@@ -13,12 +13,12 @@
 //! | `Packing` | what stands in a lane | `impl Packing for P { type Scalar = F; }` |
 //! | `HoldsScalar<F>` | a packing is no smaller than a value in its lanes | `impl HoldsScalar<F> for P { ghost holds = { .. }; }` |
 //!
-//! `example_mersenne31` has these lines with their proofs; `p3_bench_packed` those of a packing.
-pub use p3_base::packed_traits::Inhabited;
-pub use p3_ext::extension::{ByteCountFits, NestedByteCountFits};
-pub use p3_packed::holds_scalar::HoldsScalar;
-pub use p3_packed::packed_ext_field::Packing;
-pub use p3_packings::scalar_sums::ScalarSums;
+//! `example_mersenne31` has these lines with their proofs; `p3_packed_prime_fields` those of a packing.
+pub use p3_extension::extension::{ByteCountFits, NestedByteCountFits};
+pub use p3_extension_traits::field_bounds::{FieldBounds, PrimeFieldBounds};
+pub use p3_extension_traits::in_memory::InMemory;
+pub use p3_field_traits::packed_traits::Inhabited;
+pub use p3_packed_extension::holds_scalar::HoldsScalar;
+pub use p3_packed_extension::packed_ext_field::Packing;
+pub use p3_packing_traits::scalar_sums::ScalarSums;
 pub use p3_ring::ring::RingSums;
-pub use p3_spaces::field_bounds::{FieldBounds, PrimeFieldBounds};
-pub use p3_spaces::in_memory::InMemory;

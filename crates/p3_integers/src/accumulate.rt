@@ -1,3 +1,4 @@
+//! The sum and the product of what an iterator gives, from a start value on.
 ghost use Rattle.std.specs.Prelude.{List};
 ghost use Rattle.std.specs.Iterator.{IsFinite, Drains};
 ghost use Rattle.p3_theory.specs.Rings.Accumulation.{Accumulates};

@@ -1,3 +1,4 @@
+//! Values that are cheap to duplicate.
 ghost use Rattle.std.specs.Prelude.{◌≡◌};
 
 /// A value that is cheap to duplicate. Upstream's `Dup`; here every `Copy` type has it.

@@ -1,3 +1,4 @@
+//! Integers as residues: the remainder of each of the twelve integer types modulo the order of a ring.
 ghost use Rattle.std.specs.Prelude.{◌≡◌, ◌<◌, ℕ, pos, MatchOption};
 ghost use Rattle.p3_theory.specs.Rings.Multiples.{remainder_of, IsCanonical};
 

@@ -1,3 +1,4 @@
+//! Values side by side, in lanes: the traits of packings, for single values and for arrays.
 ghost use Rattle.std.specs.Prelude.{◌≡◌, ◌<◌, ◌≤◌, ◌+◌, ◌*◌, ℕ, List, length, replicate, take, drop, slice_get, slice_set, slice_range, Some};
 ghost use Rattle.std.specs.Array.{IsFromFnResult};
 ghost use Rattle.p3_theory.specs.Bases.Coordinates.{CallableBelow};

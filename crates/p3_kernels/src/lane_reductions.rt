@@ -5,7 +5,7 @@ ghost use Rattle.p3_kernels.specs.Pairs.{multiple};
 ghost use Rattle.p3_kernels.specs.Words.{AreBelow};
 
 use crate::word_pairs::{pair_high_words, words_of_4, words_of_8};
-use p3_lanes::mod_arithmetic::{mm256_mod_sub, uint32x4_mod_sub};
+use p3_residues::mod_arithmetic::{mm256_mod_sub, uint32x4_mod_sub};
 use std::simd::prelude::*;
 
 /// The multiples of the order that end in the same 32 bits as the numbers, if `inverse` is that of the order

@@ -2,7 +2,7 @@
 ghost use Rattle.std.specs.Prelude.{◌≡◌, ◌+◌, ◌-◌, ◌%◌, ◌^◌, ◌<◌, ℕ, length, slice_index};
 ghost use Rattle.p3_kernels.specs.Words.{AreBelow};
 
-use p3_lanes::mod_arithmetic::{packed_mod_add, packed_mod_sub};
+use p3_residues::mod_arithmetic::{packed_mod_add, packed_mod_sub};
 use p3_residues::short_words::{add_words, subtract_words};
 
 /// The sums modulo an order, index by index.

@@ -1,3 +1,4 @@
+//! The inverse of a word modulo an order.
 ghost use Rattle.std.specs.Prelude.{◌≡◌, ◌<◌, ℕ, MatchOption};
 ghost use Rattle.p3_residues.specs.Inverses.{IsInverseModulo};
 

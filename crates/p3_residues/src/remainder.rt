@@ -1,3 +1,4 @@
+//! The remainder of a word, of two words, or of a number of 128 bits modulo an order, by a product with its reciprocal.
 ghost use Rattle.std.specs.Prelude.{◌≡◌, ◌<◌, ◌+◌, ◌*◌, ◌%◌, ◌^◌};
 
 /// The remainder modulo an order, by one product with the reciprocal of the order, which is rounded

@@ -1,3 +1,4 @@
+//! Sums of products of values with elements of another ring, several products at a time.
 ghost use Rattle.std.specs.Prelude.{◌≡◌, ◌≤◌, ◌<◌, length, map};
 ghost use Rattle.p3_theory.specs.Rings.DotProduct.{dot};
 ghost use Rattle.p3_theory.specs.Rings.MixedDotProduct.{MakesWithRest};

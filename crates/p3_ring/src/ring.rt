@@ -1,3 +1,4 @@
+//! The traits of commutative rings and of algebras over them, with their default methods.
 ghost use Rattle.std.specs.Prelude.{◌≡◌, ◌^◌, ℕ, if◌then◌else◌, IfOk, IsOk, length, map, replicate};
 ghost use Rattle.p3_theory.specs.Rings.Ring.{Ops, RingLaws, Hom, Invertible, subtract};
 ghost use Rattle.p3_theory.specs.Rings.BooleanForms.{xor, and_not, bool_check};
@@ -30,7 +31,7 @@ pub trait PrimeCharacteristicRing: Copy
     + Mul<Output = Self>
     + MulAssign {
     /// The values that stand for the multiples of one.
-    type PrimeSubfield: Copy + IntegerQuotient;
+    type PrimeSubfield: IntegerQuotient;
 
     /// Zero, one, sum, negation and product.
     ghost ops: { Ops Self };

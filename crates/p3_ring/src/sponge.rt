@@ -1,3 +1,4 @@
+//! The values that fill up a block of a hash.
 ghost use Rattle.std.specs.Prelude.{◌≡◌, ℕ, replicate};
 
 use crate::ring::PrimeCharacteristicRing;

@@ -1,3 +1,4 @@
+//! Sums of slices and sums of products, taken in pairs.
 ghost use Rattle.std.specs.Prelude.{◌≡◌, ◌≤◌, length, map};
 ghost use Rattle.p3_theory.specs.Rings.DotProduct.{dot};
 ghost use Rattle.p3_theory.specs.Rings.Operators.{Gives, sum_list};

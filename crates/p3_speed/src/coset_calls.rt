@@ -1,9 +1,9 @@
 //! The calls from C of the loop over cosets. The argument `field` is 0, 1 or 2 for F17, BabyBear and
 //! Goldilocks. At every other number the answer is 0, and so it is where there is no such coset, where it has
 //! not as many items as there are numbers, and where the memory is refused.
-ghost use Rattle.p3_speed_cosets.specs.declared.coset_rounds.CosetRounds.{CosetRounds};
+ghost use Rattle.p3_speed_loops.specs.declared.coset_rounds.CosetRounds.{CosetRounds};
 
-use p3_speed_cosets::coset_rounds::{CosetRounds, NumberedCosets, TwoAdicFields};
+use p3_speed_loops::coset_rounds::{CosetRounds, NumberedCosets, TwoAdicFields};
 use std::alloc::Global;
 
 /// Takes the values over the coset of the shift and of `2^log_size` items as the next coefficients, `rounds`

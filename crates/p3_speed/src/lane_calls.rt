@@ -2,10 +2,10 @@
 //! compared at each run. The argument `field` is 0, 1 or 2 for F17, BabyBear and Goldilocks,
 //! `extension` is 0 or 1 for f17x4 and bbx4, and `lanes` is 4 or 8, or 16 for packings of F17 and BabyBear.
 //! At every other number the answer is 0, and so it is where the memory is refused.
-use p3_speed_lanes::batch_loops::run_inversions;
-use p3_speed_lanes::extension_loops::{PackedChain, PackedNumbers};
-use p3_speed_lanes::lane_loops::{LaneLoop, LaneNumbers, PackingLoop};
-use p3_speed_lanes::slice_loops::SliceLoop;
+use p3_speed_loops::batch_loops::run_inversions;
+use p3_speed_loops::lane_loops::{LaneLoop, LaneNumbers, PackingLoop};
+use p3_speed_loops::packed_loops::{PackedChain, PackedNumbers};
+use p3_speed_loops::slice_loops::SliceLoop;
 use std::alloc::Global;
 
 /// Adds the right slice of packings to the left one: a number that depends on all lanes.

@@ -1,3 +1,6 @@
 mod EntryLaws
 mod RoundLaws
 mod WrittenEntries
+mod InversionLaws
+mod LaneRounds
+mod CosetValueLaws

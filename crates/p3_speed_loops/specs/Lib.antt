@@ -3,3 +3,7 @@ pub mod Loops
 pub mod Overwriting
 pub mod ByIndex
 pub mod Steps
+pub mod Inversions
+pub mod Rounds
+pub mod CosetAnswers
+pub mod CosetLoops

@@ -9,7 +9,7 @@ use mir.Table.{array_at}
 use prog.Memory.{size, align, up}
 use prog.Align.{up-ge}
 use Prim.Native.Nat.{max}
-use Rattle.p3_packed.specs.ArraySizes.{array_holds}
+use Rattle.p3_packed_extension.specs.ArraySizes.{array_holds}
 
 -- the size of a struct with a field and a marker, which takes no memory
 abbrev pub marked : Ty → ℕ

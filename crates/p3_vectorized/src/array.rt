@@ -10,8 +10,8 @@ ghost use Rattle.std.specs.Iterator.{CallableAtEachTurn};
 ghost use Rattle.p3_theory.specs.Rings.Ring.{Invertible};
 
 use crate::packing_vector::PackingVector;
-use p3_base::field::Field;
-use p3_base::packed_traits::{Inhabited, Packable, PackedValue};
+use p3_field_traits::field::Field;
+use p3_field_traits::packed_traits::{Inhabited, Packable, PackedValue};
 use std::ops::{Div, Index, IndexMut};
 
 /// The marker of an array of field values. This project's own.

@@ -4,7 +4,7 @@ mod algebra;
 ghost use Rattle.std.specs.Prelude.{◌≡◌, ◌<◌, ℕ, length, get_or, replicate};
 ghost use Rattle.p3_theory.specs.Rings.Ring.{subtract};
 
-use p3_base::packed_traits::Inhabited;
+use p3_field_traits::packed_traits::Inhabited;
 use p3_ring::accumulate::{product_from, sum_from};
 use p3_ring::ring::{PrimeCharacteristicRing, RingSums};
 use std::alloc::AllocError;

@@ -1,12 +1,12 @@
 //! Runs of steps over vectors of packings.
 ghost use Rattle.std.specs.Prelude.{◌≡◌, ◌<◌, ◌*◌, ℕ, length, map};
-ghost use Rattle.p3_runs.specs.Runs.{Fit, run};
+ghost use Rattle.p3_helpers.specs.Runs.{Fit, run};
 ghost use Rattle.p3_theory.specs.Lanes.VectorLanes.{vector_lane};
 
 use crate::vectorized_ext::VectorizedExt;
-use p3_packings::extension_lanes::PackedExtensionRing;
+use p3_helpers::steps::{Step, run_steps};
+use p3_packing_traits::extension_lanes::PackedExtensionRing;
 use p3_ring::ring::PrimeCharacteristicRing;
-use p3_runs::steps::{Step, run_steps};
 
 /// Carries out the steps, one after the other, over registers that are vectors of packings: at each
 /// lane the registers become what the steps make of the registers of that lane. This project's own.

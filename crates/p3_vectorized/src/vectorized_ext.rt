@@ -6,10 +6,10 @@ ghost use Rattle.p3_theory.specs.Lanes.VectorLanes.{vector_lane};
 
 use crate::packing_vector::PackingVector;
 use crate::vectorized::Vectorized;
-use p3_base::packed_traits::Inhabited;
-use p3_packings::extension_lanes::{PackedExtensionRing, lane_of_packings};
+use p3_extension_traits::basis::BasedVectorSpace;
+use p3_field_traits::packed_traits::Inhabited;
+use p3_packing_traits::extension_lanes::{PackedExtensionRing, lane_of_packings};
 use p3_ring::ring::PrimeCharacteristicRing;
-use p3_spaces::basis::BasedVectorSpace;
 use std::marker::PhantomData;
 
 /// The marker of a vector of packings of values of an extension of F, which also takes vectors of

@@ -6,7 +6,7 @@
 mod tests;
 
 use example_shares::lines::answer;
-use p3_bench_prime::baby_bear::BabyBear;
+use p3_prime_fields::baby_bear::BabyBear;
 use std::process::ExitCode;
 
 fn main(rt: HostRuntime) -> ExitCode {

@@ -3,8 +3,8 @@
 use example_shares::lines::{LineError, answer};
 use example_shares::recovery::{RecoverError, recover};
 use example_shares::shares::Share;
-use p3_base::field::PrimeField64;
-use p3_bench_prime::small::{F17, Z15};
+use p3_field_traits::field::PrimeField64;
+use p3_prime_fields::small::{F17, Z15};
 use std::alloc::Global;
 
 /// Whether each line is answered by the text beside it, and refused where there is none.

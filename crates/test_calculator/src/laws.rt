@@ -1,8 +1,8 @@
 //! The laws at small fields, and a packing, by the names that the front of the bench gives out.
 
-use p3_base::laws::fermat;
 use p3_field_bench::laws::{domain_f17, domain_f31};
 use p3_field_bench::{F17, F31, Packed};
+use p3_field_traits::laws::fermat;
 use p3_ring::ring::PrimeCharacteristicRing;
 
 #[test]

@@ -3,12 +3,12 @@
 use crate::cases::{Call, Case, MemoryCall, MixedCall, ValueCall, part};
 use crate::lists::{List, at, list_of_text};
 use crate::values::{Listed, Residue};
-use p3_base::field::Field;
-use p3_base::sqrt::tonelli_shanks_counted;
-use p3_ext::extension::HasFrobenius;
+use p3_extension::extension::HasFrobenius;
+use p3_extension_traits::basis::{AlgebraIdentity, BasedVectorSpace};
+use p3_extension_traits::extension_field::ExtensionField;
+use p3_field_traits::field::Field;
+use p3_field_traits::sqrt::tonelli_shanks_counted;
 use p3_ring::ring::{Algebra, PrimeCharacteristicRing};
-use p3_spaces::basis::{AlgebraIdentity, BasedVectorSpace};
-use p3_spaces::extension_field::ExtensionField;
 use std::alloc::{AllocError, Global};
 use std::fmt::Display;
 

@@ -4,11 +4,11 @@ use crate::cases::Case;
 use crate::fields::binomial_agrees;
 use crate::two_adic_calls::generator;
 use crate::values::Residue;
-use p3_base::field::Field;
-use p3_ext::extension::{
+use p3_extension::extension::{
     BinomialExtensionField, BinomiallyExtendable, Complex, ComplexExtendable,
     HasComplexBinomialExtension, HasTwoAdicBinomialExtension, HasTwoAdicComplexBinomialExtension,
 };
+use p3_field_traits::field::Field;
 use p3_ring::ring::PrimeCharacteristicRing;
 use std::alloc::{AllocError, Global};
 

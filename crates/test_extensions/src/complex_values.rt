@@ -3,9 +3,9 @@
 use crate::cases::Case;
 use crate::complex_calls::{Pair, PairCall, Task, task_agrees};
 use crate::{extension_root_tables as roots, extension_tables as tables, worked_tables as worked};
-use p3_bench_prime::complex_tower::F31cx2;
-use p3_bench_prime::small::F31;
-use p3_spaces::streams::RawDataSerializable;
+use p3_extension_traits::streams::RawDataSerializable;
+use p3_prime_fields::complex_tower::F31cx2;
+use p3_prime_fields::small::F31;
 use std::alloc::Global;
 use std::process::Abort;
 

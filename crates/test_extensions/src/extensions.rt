@@ -7,11 +7,11 @@ use crate::{
     extension_root_tables as roots, extension_tables as tables, trinomial_tables as trinomials,
     worked_tables as worked,
 };
-use p3_bench_prime::baby_bear::{BabyBear, BabyBearModulus};
-use p3_bench_prime::form::Plain;
-use p3_bench_prime::montgomery::Montgomery;
-use p3_bench_prime::small::{F17b, F31, M2, M15, M17, M17b, M31, Z15};
-use p3_ext::extension::{Binomial, CubicTrinomial, QuinticTrinomial, SepticTrinomial};
+use p3_extension::extension::{Binomial, CubicTrinomial, QuinticTrinomial, SepticTrinomial};
+use p3_prime_fields::baby_bear::{BabyBear, BabyBearModulus};
+use p3_prime_fields::form::Plain;
+use p3_prime_fields::montgomery::Montgomery;
+use p3_prime_fields::small::{F17b, F31, M2, M15, M17, M17b, M31, Z15};
 use std::alloc::{AllocError, Global};
 use std::process::Abort;
 use std::test::Fail;

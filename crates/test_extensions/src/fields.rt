@@ -7,7 +7,7 @@ use crate::cases::{Call, Case, TwoAdicCall};
 use crate::lists::{List, at, list_of_text};
 use crate::two_adic_calls::two_adic_agrees;
 use crate::values::Residue;
-use p3_ext::extension::{
+use p3_extension::extension::{
     Binomial, BinomialExtensionField, BinomiallyExtendable, ExtField, ExtensionShape,
     FrobeniusExtendable, HasTwoAdicBinomialExtension, TwoAdicExtendable,
 };

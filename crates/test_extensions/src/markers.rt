@@ -3,11 +3,13 @@
 
 use crate::cases::Case;
 use crate::fields::{binomial_agrees, two_adic_binomial_agrees, two_adic_shape_agrees};
-use p3_bench_prime::binomial_constants::BinomialConstants;
-use p3_bench_prime::form::{Form, OverModulus};
-use p3_bench_prime::fp::Fp;
-use p3_bench_prime::two_adic_constants::{TwoAdicBinomialConstants, TwoAdicPolynomialConstants};
-use p3_ext::extension::{Binomial, BinomialExtensionField, ExtField, IntegerPolynomial, Modulo};
+use p3_extension::extension::{
+    Binomial, BinomialExtensionField, ExtField, IntegerPolynomial, Modulo,
+};
+use p3_prime_fields::binomial_constants::BinomialConstants;
+use p3_prime_fields::form::{Form, OverModulus};
+use p3_prime_fields::fp::Fp;
+use p3_prime_fields::two_adic_constants::{TwoAdicBinomialConstants, TwoAdicPolynomialConstants};
 use std::alloc::{AllocError, Global};
 
 /// The extension by `X^D = W` that has two-adic generators.

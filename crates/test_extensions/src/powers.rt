@@ -1,15 +1,15 @@
 //! Powers that permute a field.
 
 use crate::values::Residue;
-use p3_bench_prime::baby_bear::BabyBearModulus;
-use p3_bench_prime::form::{OverModulus, Plain, Word};
-use p3_bench_prime::fp::Fp;
-use p3_bench_prime::goldilocks::GoldilocksForm;
-use p3_bench_prime::koala_bear::KoalaBearModulus;
-use p3_bench_prime::monomials::MonomialConstants;
-use p3_bench_prime::montgomery::Montgomery;
-use p3_bench_prime::small::{M17, M31};
-use p3_spaces::monomials::PermutationMonomial;
+use p3_extension_traits::monomials::PermutationMonomial;
+use p3_prime_fields::baby_bear::BabyBearModulus;
+use p3_prime_fields::form::{OverModulus, Plain, Word};
+use p3_prime_fields::fp::Fp;
+use p3_prime_fields::goldilocks::GoldilocksForm;
+use p3_prime_fields::koala_bear::KoalaBearModulus;
+use p3_prime_fields::monomials::MonomialConstants;
+use p3_prime_fields::montgomery::Montgomery;
+use p3_prime_fields::small::{M17, M31};
 
 /// The power N of a number's residue, and the number whose power N is the residue of a second one.
 fn powers_of<F: PermutationMonomial<N> + Residue, const N: u64>(x: u64, y: u64) -> [u64; 2] {

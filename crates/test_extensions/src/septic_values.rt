@@ -2,8 +2,8 @@
 ghost use Rattle.std.specs.Prelude.{◌<◌};
 
 use crate::values::Residue;
-use p3_bench_prime::small::F2;
-use p3_ext::extension::{ExtendableModulo, Septic, SepticTrinomialExtendable};
+use p3_extension::extension::{ExtendableModulo, Septic, SepticTrinomialExtendable};
+use p3_prime_fields::small::F2;
 
 /// The coefficients of the power i + 1 of the image of X.
 fn septic_row<F: SepticTrinomialExtendable + Residue>(i: usize) -> [u64; 7]

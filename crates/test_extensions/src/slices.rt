@@ -4,17 +4,17 @@ use crate::cases::part;
 use crate::lists::{List, MOST, ZERO, list_of_text};
 use crate::values::{Residue, coefficients};
 use crate::{septic_tables as septic, slice_tables as worked};
-use p3_bench_prime::baby_bear::BabyBearModulus;
-use p3_bench_prime::form::{Form, Plain, Word};
-use p3_bench_prime::fp::Fp;
-use p3_bench_prime::goldilocks::GoldilocksForm;
-use p3_bench_prime::montgomery::Montgomery;
-use p3_bench_prime::small::{M2, M15, M17, M31};
-use p3_ext::extension::{
+use p3_extension::extension::{
     binomial_mul, binomial_square, cubic_square, octic_mul, quartic_mul, quintic_mul,
     quintic_square, septic_square, trinomial_cubic_mul, trinomial_quintic_mul,
     trinomial_septic_mul, vector_add, vector_sub,
 };
+use p3_prime_fields::baby_bear::BabyBearModulus;
+use p3_prime_fields::form::{Form, Plain, Word};
+use p3_prime_fields::fp::Fp;
+use p3_prime_fields::goldilocks::GoldilocksForm;
+use p3_prime_fields::montgomery::Montgomery;
+use p3_prime_fields::small::{M2, M15, M17, M31};
 use p3_ring::ring::PrimeCharacteristicRing;
 use std::process::Abort;
 

@@ -4,12 +4,12 @@ ghost use Rattle.std.proofs.Common.{lit<};
 use crate::cases::part;
 use crate::square_root_tables as tables;
 use crate::values::Residue;
-use p3_base::field::{Field, TwoAdicField};
-use p3_base::sqrt::{tonelli_shanks_counted, tonelli_shanks_two_adic_counted};
-use p3_bench_prime::form::{Form, Modulus, OverModulus, Plain};
-use p3_bench_prime::fp::Fp;
-use p3_bench_prime::small::{M2, M15, M17, M17b, M31};
-use p3_bench_prime::two_adic::TwoAdicConstants;
+use p3_field_traits::field::{Field, TwoAdicField};
+use p3_field_traits::sqrt::{tonelli_shanks_counted, tonelli_shanks_two_adic_counted};
+use p3_prime_fields::form::{Form, Modulus, OverModulus, Plain};
+use p3_prime_fields::fp::Fp;
+use p3_prime_fields::small::{M2, M15, M17, M17b, M31};
+use p3_prime_fields::two_adic::TwoAdicConstants;
 use std::process::Abort;
 
 /// The marker of the order 4, at which two times two is zero.

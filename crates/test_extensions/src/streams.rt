@@ -4,15 +4,15 @@
 use crate::lists::{List, list_of_text};
 use crate::stream_tables as tables;
 use crate::values::{Listed, Residue};
-use p3_bench_prime::baby_bear::BabyBearModulus;
-use p3_bench_prime::form::{Plain, ShortForm};
-use p3_bench_prime::fp::Fp;
-use p3_bench_prime::montgomery::Montgomery;
-use p3_bench_prime::small::{M2, M15, M17, M17b, M31};
-use p3_ext::extension::{
+use p3_extension::extension::{
     Binomial, ByteCountFits, CubicTrinomial, ExtField, QuinticTrinomial, SepticTrinomial,
 };
-use p3_spaces::streams::{ByteStream, RawDataSerializable};
+use p3_extension_traits::streams::{ByteStream, RawDataSerializable};
+use p3_prime_fields::baby_bear::BabyBearModulus;
+use p3_prime_fields::form::{Plain, ShortForm};
+use p3_prime_fields::fp::Fp;
+use p3_prime_fields::montgomery::Montgomery;
+use p3_prime_fields::small::{M2, M15, M17, M17b, M31};
 use std::alloc::{AllocError, Global};
 use std::array::IntoIter;
 use std::process::Abort;

@@ -3,8 +3,8 @@
 use crate::calls::list_of;
 use crate::cases::{Case, TwoAdicCall};
 use crate::values::Listed;
-use p3_base::field::TwoAdicField;
-use p3_base::sqrt::tonelli_shanks_two_adic_counted;
+use p3_field_traits::field::TwoAdicField;
+use p3_field_traits::sqrt::tonelli_shanks_two_adic_counted;
 
 /// The two-adic generator for so many bits, where there is one.
 pub fn generator<T: TwoAdicField>(bits: usize) -> Option<T> {

@@ -1,10 +1,10 @@
 //! Residues by their canonical numbers, and extension values by lists of these.
 
 use crate::lists::{List, MOST, ZERO, at};
-use p3_base::field::PrimeField64;
-use p3_bench_prime::form::{Form, Word};
-use p3_bench_prime::fp::Fp;
-use p3_ext::extension::ExtField;
+use p3_extension::extension::ExtField;
+use p3_field_traits::field::PrimeField64;
+use p3_prime_fields::form::{Form, Word};
+use p3_prime_fields::fp::Fp;
 use p3_ring::ring::PrimeCharacteristicRing;
 
 /// A residue and its canonical number alone: `PrimeField64` has all integer maps among its bounds, which

@@ -2,9 +2,9 @@
 //! size.
 use crate::cases::{Case, CosetCall};
 use crate::numbered::{Numbered, holds, holds_at, value};
-use p3_base::field::TwoAdicField;
+use p3_field_traits::field::TwoAdicField;
+use p3_helpers::coset::TwoAdicMultiplicativeCoset;
 use p3_ring::ring::{PrimeCharacteristicRing, RingSums};
-use p3_tools::coset::TwoAdicMultiplicativeCoset;
 
 /// Whether a call has its answer.
 pub(crate) fn coset_agrees<F: TwoAdicField + RingSums + Numbered>(

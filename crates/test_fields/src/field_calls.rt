@@ -4,7 +4,7 @@ ghost use Rattle.p3_theory.specs.Rings.Ring.{Invertible};
 
 use crate::cases::{Case, Constant, QuotientCall};
 use crate::numbered::{Numbered, holds, value};
-use p3_base::field::{Field, PrimeField64, TwoAdicField};
+use p3_field_traits::field::{Field, PrimeField64, TwoAdicField};
 use p3_ring::ring::PrimeCharacteristicRing;
 
 /// Whether a constant is the answer.

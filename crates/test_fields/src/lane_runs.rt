@@ -1,12 +1,12 @@
 //! Runs of steps over packings whose lanes are the values of an extension, whatever its type, and what the registers
 //! then hold at each lane. A field is an extension of itself, and its arrays are packings of its values.
 use crate::numbered::Numbered;
-use p3_bench_prime::form::{Form, Plain};
-use p3_bench_prime::fp::Fp;
-use p3_bench_prime::small::M17;
 use p3_field::laws::run_packed_extension_steps_by_lanes;
 use p3_field::steps::{Step, steps_fit};
 use p3_field::{ExtensionLanes, FieldArray, Lanes, PackedExtensionRing, PrimeCharacteristicRing};
+use p3_prime_fields::form::{Form, Plain};
+use p3_prime_fields::fp::Fp;
+use p3_prime_fields::small::M17;
 use std::alloc::{AllocError, Global};
 use std::test::Fail;
 

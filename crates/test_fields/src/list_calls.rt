@@ -3,13 +3,13 @@ ghost use Rattle.std.specs.Prelude.{◌≡◌, length};
 
 use crate::cases::{Case, ListCall};
 use crate::numbered::{Numbered, all_hold, holds, value, values};
-use p3_base::field::Field;
+use p3_field_traits::field::Field;
+use p3_helpers::helpers::{HornerIter, dot_product};
 use p3_ring::linear_combination::{
     chunked_linear_combination, chunked_mixed_dot_product, dispatch_chunked_mixed_dot_product,
 };
 use p3_ring::ring::{Algebra, PrimeCharacteristicRing, RingSums};
 use p3_ring::sums::sum_array;
-use p3_tools::helpers::{HornerIter, dot_product};
 use std::alloc::{AllocError, Global};
 
 /// Whether a call on lists has its answer.

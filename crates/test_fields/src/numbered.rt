@@ -1,8 +1,8 @@
 //! Values by numbers: residues by their canonical ones, and extension values by those of their coefficients.
-use p3_base::field::PrimeField64;
-use p3_bench_prime::form::{Form, Word};
-use p3_bench_prime::fp::Fp;
-use p3_ext::extension::ExtField;
+use p3_extension::extension::ExtField;
+use p3_field_traits::field::PrimeField64;
+use p3_prime_fields::form::{Form, Word};
+use p3_prime_fields::fp::Fp;
 use p3_ring::ring::PrimeCharacteristicRing;
 use std::alloc::{AllocError, Global};
 

@@ -1,11 +1,11 @@
 //! Residues of integers, their order, hash and text.
 
-use p3_bench_prime::form::{Plain, ShortForm};
-use p3_bench_prime::fp::Fp;
-use p3_bench_prime::goldilocks::Goldilocks;
-use p3_bench_prime::small::{F17, M17, M31};
 use p3_field::integers::QuotientMap;
 use p3_field::{Algebra, PrimeCharacteristicRing, PrimeField32, PrimeField64, PrimeFieldBounds};
+use p3_prime_fields::form::{Plain, ShortForm};
+use p3_prime_fields::fp::Fp;
+use p3_prime_fields::goldilocks::Goldilocks;
+use p3_prime_fields::small::{F17, M17, M31};
 use std::alloc::{AllocError, Global};
 use std::collections::hash_map::DefaultHasher;
 use std::hash::{Hash, Hasher};

@@ -1,16 +1,16 @@
 //! Runs of steps over registers: worked values, and where a run is refused.
 ghost use Rattle.std.specs.Prelude.{IsSome};
-ghost use Rattle.p3_runs.specs.FieldRuns.{OrdersGiven};
+ghost use Rattle.p3_helpers.specs.FieldRuns.{OrdersGiven};
 
 use crate::numbered::{Numbered, all_hold, values};
-use p3_bench_prime::extensions::F17x2;
-use p3_bench_prime::form::{Form, Plain};
-use p3_bench_prime::fp::Fp;
-use p3_bench_prime::small::{F17, M17};
 use p3_field::steps::{
     FieldStep, Step, StepFault, StepRefused, run_field_steps, run_steps, steps_fit,
 };
 use p3_field::{Field, PrimeCharacteristicRing};
+use p3_prime_fields::extensions::F17x2;
+use p3_prime_fields::form::{Form, Plain};
+use p3_prime_fields::fp::Fp;
+use p3_prime_fields::small::{F17, M17};
 use std::process::Abort;
 use std::test::Fail;
 

@@ -1,10 +1,10 @@
 //! Worked values of the words that stand for residues, plain or in Montgomery's form.
 
 use crate::residues::{Topic, assert_over};
-use p3_bench_prime::baby_bear::{BabyBear, BabyBearModulus};
-use p3_bench_prime::form::Plain;
-use p3_bench_prime::montgomery::Montgomery;
-use p3_bench_prime::small::{F17, M17};
+use p3_prime_fields::baby_bear::{BabyBear, BabyBearModulus};
+use p3_prime_fields::form::Plain;
+use p3_prime_fields::montgomery::Montgomery;
+use p3_prime_fields::small::{F17, M17};
 use std::test::Fail;
 
 /// Canonical values, and the words that are stored for them.

@@ -1,19 +1,19 @@
 //! Exponentiation chains, and helpers of slices and of subgroups.
 use crate::cases::{Case, ToolCall};
 use crate::numbered::{Numbered, all_hold, holds, value, values};
-use p3_base::field::Field;
-use p3_base::packed_traits::Packable;
-use p3_bench_prime::baby_bear::BabyBear;
 use p3_field::{halve_u32, halve_u64};
-use p3_ring::exponentiation::{
-    exp_1420470955, exp_1717986917, exp_1725656503, exp_10540996611094048183,
-};
-use p3_ring::ring::{PrimeCharacteristicRing, RingSums};
-use p3_tools::helpers::{
+use p3_field_traits::field::Field;
+use p3_field_traits::packed_traits::Packable;
+use p3_helpers::helpers::{
     add_scaled_slice_in_place, cyclic_subgroup_coset_known_order, cyclic_subgroup_known_order,
     field_to_array, par_add_scaled_slice_in_place, par_scale_slice_in_place,
     scale_slice_in_place_single_core,
 };
+use p3_prime_fields::baby_bear::BabyBear;
+use p3_ring::exponentiation::{
+    exp_1420470955, exp_1717986917, exp_1725656503, exp_10540996611094048183,
+};
+use p3_ring::ring::{PrimeCharacteristicRing, RingSums};
 use std::alloc::{AllocError, Global};
 
 /// Whether a chain or a helper has its answer.

@@ -5,7 +5,7 @@ use crate::kernel_tables::{BLOCKS, SUMS, VECTOR_SUMS, WORKED_BLOCKS, WORKED_SUMS
 use crate::numbers::{all_below, numbers};
 use crate::rows::Row;
 use crate::vector_blocks::blocks_agree;
-use p3_lanes::mod_arithmetic::{
+use p3_residues::mod_arithmetic::{
     mm256_mod_add, mm256_mod_sub, mm512_mod_add, mm512_mod_sub, packed_mod_add, packed_mod_sub,
     uint32x4_mod_add, uint32x4_mod_sub,
 };

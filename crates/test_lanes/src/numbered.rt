@@ -1,9 +1,9 @@
 //! Values by numbers.
-use p3_base::field::PrimeField64;
-use p3_base::packed_traits::Inhabited;
-use p3_bench_packed::packed::Packed;
-use p3_bench_prime::form::{Form, Word};
-use p3_bench_prime::fp::Fp;
+use p3_field_traits::field::PrimeField64;
+use p3_field_traits::packed_traits::Inhabited;
+use p3_packed_prime_fields::packed::Packed;
+use p3_prime_fields::form::{Form, Word};
+use p3_prime_fields::fp::Fp;
 use p3_ring::ring::PrimeCharacteristicRing;
 use p3_vectorized::vectorized::Vectorized;
 use std::alloc::{AllocError, Global};

@@ -4,7 +4,7 @@ ghost use Rattle.p3_theory.specs.Rings.Ring.{Invertible};
 
 use crate::cases::{Arithmetic, Case, Operation, Unary};
 use crate::numbered::{Numbered, holds, value, values};
-use p3_base::field::Field;
+use p3_field_traits::field::Field;
 use p3_ring::ring::{Algebra, PrimeCharacteristicRing};
 use std::alloc::{AllocError, Global};
 

@@ -2,7 +2,7 @@
 ghost use Rattle.std.specs.Prelude.{refl};
 ghost use Rattle.std.proofs.Common.{lit<};
 
-use p3_bench_prime::montgomery::MontgomeryModulus;
+use p3_prime_fields::montgomery::MontgomeryModulus;
 
 /// The marker of the order 17, for words in Montgomery's form. Modulo 17 the power 2^32 is one.
 pub(crate) struct Short17;

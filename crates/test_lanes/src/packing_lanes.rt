@@ -3,7 +3,7 @@ ghost use Rattle.std.specs.Prelude.{◌≤◌, ◌+◌, ◌*◌, IfSome};
 
 use crate::cases::{Case, LaneCall};
 use crate::numbered::{Numbered, all_hold, holds, value, values};
-use p3_base::packed_traits::PackedValue;
+use p3_field_traits::packed_traits::PackedValue;
 use std::alloc::{AllocError, Global};
 
 /// The number of a group that lies whole in so many values.

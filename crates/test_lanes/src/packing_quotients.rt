@@ -5,8 +5,8 @@ ghost use Rattle.p3_theory.specs.Rings.Ring.{Invertible};
 use crate::cases::Case;
 use crate::numbered::{Numbered, holds, value};
 use crate::operations::has_inverse;
-use p3_base::field::Field;
-use p3_base::packed_traits::{PackedField, PackedValue};
+use p3_field_traits::field::Field;
+use p3_field_traits::packed_traits::{PackedField, PackedValue};
 use p3_ring::packed_ring::PackedRing;
 use p3_ring::ring::{Algebra, PrimeCharacteristicRing};
 

@@ -5,10 +5,12 @@ ghost use Rattle.std.specs.Prelude.{◌≡◌, length};
 use crate::cases::{Case, SliceCall};
 use crate::numbered::{Numbered, all_hold, multiples, value, values};
 use crate::packing_lanes::group_within;
-use p3_base::field::Field;
-use p3_base::packed_traits::{PackedField, PackedValue};
+use p3_field_traits::field::Field;
+use p3_field_traits::packed_traits::{PackedField, PackedValue};
+use p3_helpers::helpers::{
+    add_scaled_slice_in_place, add_slices, scale_slice_in_place_single_core,
+};
 use p3_ring::ring::PrimeCharacteristicRing;
-use p3_tools::helpers::{add_scaled_slice_in_place, add_slices, scale_slice_in_place_single_core};
 use std::alloc::{AllocError, Global};
 
 /// The calls that change a slice.

@@ -3,9 +3,9 @@ ghost use Rattle.std.specs.Prelude.{◌≡◌, ◌<◌, length};
 
 use crate::cases::Case;
 use crate::numbered::{Numbered, all_hold, holds, value, values};
-use p3_base::field::Field;
-use p3_base::packed_traits::PackedField;
-use p3_packings::columnwise::{
+use p3_field_traits::field::Field;
+use p3_field_traits::packed_traits::PackedField;
+use p3_packing_traits::columnwise::{
     AsRow, coeffwise_dot_product, generic_batched_columnwise_dot_product,
 };
 use p3_ring::ring::{Algebra, PrimeCharacteristicRing};

@@ -1,11 +1,11 @@
 //! The text of a packing, and its copy by `clone`.
 use crate::numbered::Numbered;
-use p3_bench_packed::packed::Packed;
-use p3_bench_prime::baby_bear::BabyBearModulus;
-use p3_bench_prime::form::{Form, Plain};
-use p3_bench_prime::fp::Fp;
-use p3_bench_prime::montgomery::Montgomery;
-use p3_bench_prime::small::M17;
+use p3_packed_prime_fields::packed::Packed;
+use p3_prime_fields::baby_bear::BabyBearModulus;
+use p3_prime_fields::form::{Form, Plain};
+use p3_prime_fields::fp::Fp;
+use p3_prime_fields::montgomery::Montgomery;
+use p3_prime_fields::small::M17;
 use std::alloc::AllocError;
 use std::process::Abort;
 use std::test::Fail;

@@ -2,8 +2,8 @@
 //! lists ask for, refused in turn.
 use crate::cases::{Call, Case};
 use crate::numbered::{Numbered, holds_at, number_at, value, value_count};
-use p3_base::field::Field;
-use p3_base::packed_traits::PackedField;
+use p3_field_traits::field::Field;
+use p3_field_traits::packed_traits::PackedField;
 use p3_ring::packed_ring::PackedRing;
 use p3_ring::powers::Powers;
 use p3_ring::ring::PrimeCharacteristicRing;

@@ -4,11 +4,11 @@ use crate::cases::Arithmetic;
 use crate::long_products::{OF_KOALA_BEAR, VALUES, all_agree, short_values_agree};
 use crate::number_rules::{Rule, plain, plain_at, plain_dot};
 use crate::numbered::number_at;
-use p3_bench_prime::fp::Fp;
-use p3_bench_prime::montgomery::{Montgomery, MontgomeryModulus};
-use p3_words::koala_bear::KoalaBearModulus;
-use p3_words::numbers::{from_canonical, to_canonical};
-use p3_words::stored::Stored;
+use p3_c_words::koala_bear::KoalaBearModulus;
+use p3_c_words::numbers::{from_canonical, to_canonical};
+use p3_c_words::stored::Stored;
+use p3_prime_fields::fp::Fp;
+use p3_prime_fields::montgomery::{Montgomery, MontgomeryModulus};
 use std::alloc::{AllocError, Global};
 use std::test::Fail;
 

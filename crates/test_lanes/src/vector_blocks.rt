@@ -3,7 +3,7 @@ ghost use Rattle.std.specs.Prelude.{◌≡◌, ◌%◌, ◌<◌};
 
 use crate::numbers::numbers;
 use crate::rows::Row;
-use p3_lanes::interleaves::{interleave_u32, interleave_u64, interleave_u128, interleave_u256};
+use p3_residues::interleaves::{interleave_u32, interleave_u64, interleave_u128, interleave_u256};
 use std::simd::prelude::*;
 
 /// The first of two values.

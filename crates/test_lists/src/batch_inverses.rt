@@ -4,8 +4,8 @@ mod tables;
 use crate::canonical::Canonical;
 use crate::inverses::{have_inverses, inverse_or_zero};
 use crate::texts::{hold, values};
-use p3_base::field::Field;
-use p3_batch_inverse::batch_inverse::{
+use p3_field_traits::field::Field;
+use p3_helpers::batch_inverse::{
     batch_multiplicative_inverse, batch_multiplicative_inverse_general,
     batch_multiplicative_inverse_in,
 };

@@ -3,8 +3,8 @@ ghost use Rattle.std.specs.Prelude.{◌<◌};
 
 use crate::canonical::Canonical;
 use crate::texts::{hold, values};
-use p3_base::field::TwoAdicField;
-use p3_tools::coset::TwoAdicMultiplicativeCoset;
+use p3_field_traits::field::TwoAdicField;
+use p3_helpers::coset::TwoAdicMultiplicativeCoset;
 use poly_eval::{eval_coset, eval_coset_in, eval_coset_into};
 use std::alloc::{AllocError, Global};
 use std::process::Abort;

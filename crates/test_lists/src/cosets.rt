@@ -3,14 +3,14 @@
 use crate::canonical::Canonical;
 use crate::coset_values::assert_values;
 use crate::rings::{M27, M85, SplitM17};
-use p3_base::field::TwoAdicField;
-use p3_bench_prime::form::{OverModulus, Plain};
-use p3_bench_prime::fp::Fp;
-use p3_bench_prime::small::{M15, M17};
-use p3_bench_prime::two_adic::TwoAdicConstants;
-use p3_bench_prime::two_adic_constants::TwoAdicBinomialConstants;
-use p3_ext::extension::{BinomialExtensionField, HasTwoAdicBinomialExtension};
-use p3_tools::coset::TwoAdicMultiplicativeCoset;
+use p3_extension::extension::{BinomialExtensionField, HasTwoAdicBinomialExtension};
+use p3_field_traits::field::TwoAdicField;
+use p3_helpers::coset::TwoAdicMultiplicativeCoset;
+use p3_prime_fields::form::{OverModulus, Plain};
+use p3_prime_fields::fp::Fp;
+use p3_prime_fields::small::{M15, M17};
+use p3_prime_fields::two_adic::TwoAdicConstants;
+use p3_prime_fields::two_adic_constants::TwoAdicBinomialConstants;
 use std::process::Abort;
 use std::test::Fail;
 

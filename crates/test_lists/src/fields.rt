@@ -4,12 +4,12 @@ use crate::batch_inverses::assert_inverses;
 use crate::canonical::Canonical;
 use crate::growths::assert_growths;
 use crate::points::assert_points;
-use p3_base::field::PrimeField32;
-use p3_base::packed_traits::Packable;
-use p3_bench_prime::extensions::F17x2;
-use p3_bench_prime::small::F17;
-use p3_ext::extension::{BinomialExtensionField, BinomiallyExtendable};
-use p3_spaces::in_memory::InMemory;
+use p3_extension::extension::{BinomialExtensionField, BinomiallyExtendable};
+use p3_extension_traits::in_memory::InMemory;
+use p3_field_traits::field::PrimeField32;
+use p3_field_traits::packed_traits::Packable;
+use p3_prime_fields::extensions::F17x2;
+use p3_prime_fields::small::F17;
 use std::process::Abort;
 use std::test::Fail;
 

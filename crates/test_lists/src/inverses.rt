@@ -2,7 +2,7 @@
 ghost use Rattle.std.specs.Prelude.{◌<◌, ℕ, length, get_or, IsTrue};
 ghost use Rattle.p3_theory.specs.Rings.Ring.{Invertible};
 
-use p3_base::field::Field;
+use p3_field_traits::field::Field;
 
 /// Whether a value has an inverse.
 pub(crate) fn has_inverse<F: Field>(y: F) -> bool

@@ -3,17 +3,19 @@ ghost use Rattle.std.specs.Prelude.{◌<◌};
 
 use crate::canonical::Canonical;
 use crate::plain_ring::{List, MOST, PlainRing, at, list_of};
-use p3_base::field::TwoAdicField;
-use p3_bench_prime::baby_bear::BabyBearModulus;
-use p3_bench_prime::form::{Form, OverModulus, Plain, Word};
-use p3_bench_prime::fp::Fp;
-use p3_bench_prime::goldilocks::GoldilocksForm;
-use p3_bench_prime::montgomery::Montgomery;
-use p3_bench_prime::small::{M15, M17};
-use p3_bench_prime::two_adic::TwoAdicConstants;
-use p3_bench_prime::two_adic_constants::TwoAdicBinomialConstants;
-use p3_ext::extension::{Binomial, BinomialExtensionField, ExtField, HasTwoAdicBinomialExtension};
-use p3_tools::coset::TwoAdicMultiplicativeCoset;
+use p3_extension::extension::{
+    Binomial, BinomialExtensionField, ExtField, HasTwoAdicBinomialExtension,
+};
+use p3_field_traits::field::TwoAdicField;
+use p3_helpers::coset::TwoAdicMultiplicativeCoset;
+use p3_prime_fields::baby_bear::BabyBearModulus;
+use p3_prime_fields::form::{Form, OverModulus, Plain, Word};
+use p3_prime_fields::fp::Fp;
+use p3_prime_fields::goldilocks::GoldilocksForm;
+use p3_prime_fields::montgomery::Montgomery;
+use p3_prime_fields::small::{M15, M17};
+use p3_prime_fields::two_adic::TwoAdicConstants;
+use p3_prime_fields::two_adic_constants::TwoAdicBinomialConstants;
 use poly_eval::eval_coset_into;
 use std::alloc::{AllocError, Global};
 use std::process::Abort;

@@ -6,21 +6,21 @@ mod tables;
 ghost use Rattle.std.specs.Prelude.{◌≤◌, ◌^◌};
 
 use calls::{Call, Count, Reduction, Row, Split};
-use p3_base::field::{PrimeField, PrimeField32};
-use p3_bench_prime::baby_bear::BabyBearModulus;
-use p3_bench_prime::form::{Form, Plain, ShortForm, Word};
-use p3_bench_prime::fp::Fp;
-use p3_bench_prime::goldilocks::GoldilocksForm;
-use p3_bench_prime::koala_bear::KoalaBearModulus;
-use p3_bench_prime::montgomery::Montgomery;
-use p3_bench_prime::small::{M2, M15, M17, M31};
-use p3_tools::limits::{
+use p3_field_traits::field::{PrimeField, PrimeField32};
+use p3_helpers::limits::{
     absorb_radix_bits, injective_pack_bits, max_absorb_injective_limbs, max_packed_injective_limbs,
     max_shifted_absorb_injective_limbs, max_shifted_packed_injective_limbs,
     pf_packed_limbs_cover_order, squeeze_field_order_num_limbs,
 };
-use p3_tools::packing::{reduce_32, reduce_packed, reduce_packed_shifted};
-use p3_tools::splits::{split_32, split_pf_to_field_order_limbs, split_pf_to_packed_limbs};
+use p3_helpers::packing::{reduce_32, reduce_packed, reduce_packed_shifted};
+use p3_helpers::splits::{split_32, split_pf_to_field_order_limbs, split_pf_to_packed_limbs};
+use p3_prime_fields::baby_bear::BabyBearModulus;
+use p3_prime_fields::form::{Form, Plain, ShortForm, Word};
+use p3_prime_fields::fp::Fp;
+use p3_prime_fields::goldilocks::GoldilocksForm;
+use p3_prime_fields::koala_bear::KoalaBearModulus;
+use p3_prime_fields::montgomery::Montgomery;
+use p3_prime_fields::small::{M2, M15, M17, M31};
 use std::alloc::{AllocError, Global};
 use std::process::Abort;
 use std::test::Fail;

@@ -1,9 +1,9 @@
 //! Values of polynomials over the residues modulo 17 at points of their extension by `X^2 = 3`, and of long ones at two.
 use crate::canonical::Canonical;
 use crate::texts::values;
-use p3_ext::extension::{BinomialExtensionField, BinomiallyExtendable};
+use p3_extension::extension::{BinomialExtensionField, BinomiallyExtendable};
+use p3_helpers::horner::horner_slice;
 use p3_ring::ring::PrimeCharacteristicRing;
-use p3_tools::horner::horner_slice;
 use poly_eval::eval_point;
 use std::alloc::{AllocError, Global};
 use std::process::Abort;

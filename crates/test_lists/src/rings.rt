@@ -3,10 +3,10 @@
 ghost use Rattle.std.specs.Prelude.{◌∷◌, [], codes, refl};
 ghost use Rattle.std.proofs.Common.{lit<, lit≤};
 
-use p3_bench_prime::binomial_constants::BinomialConstants;
-use p3_bench_prime::form::{Modulus, ModulusOrder, Order};
-use p3_bench_prime::two_adic::TwoAdicConstants;
-use p3_bench_prime::two_adic_constants::TwoAdicBinomialConstants;
+use p3_prime_fields::binomial_constants::BinomialConstants;
+use p3_prime_fields::form::{Modulus, ModulusOrder, Order};
+use p3_prime_fields::two_adic::TwoAdicConstants;
+use p3_prime_fields::two_adic_constants::TwoAdicBinomialConstants;
 
 /// The marker of the order 27.
 pub(crate) struct M27;

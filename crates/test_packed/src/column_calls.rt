@@ -1,9 +1,9 @@
 //! Two columns of rows of extension values as packings, and back.
 use crate::cases::Case;
 use crate::numbered::{Numbered, all_hold, counted, holds, value, value_at, values};
-use p3_packings::ext_columns::{pack_ext_columns, pack_ext_columns_fn, unpack_ext_into};
-use p3_packings::extension_lanes::ExtensionLanes;
-use p3_packings::unpacked_ext_rows::{UnpackedExtRows, unpack_ext_iter};
+use p3_packing_traits::ext_columns::{pack_ext_columns, pack_ext_columns_fn, unpack_ext_into};
+use p3_packing_traits::extension_lanes::ExtensionLanes;
+use p3_packing_traits::unpacked_ext_rows::{UnpackedExtRows, unpack_ext_iter};
 use p3_ring::ring::PrimeCharacteristicRing;
 use std::alloc::{AllocError, Global};
 

@@ -1,7 +1,7 @@
 //! Products of rows of packings and two scales, added column by column to packings of extension values.
 use crate::cases::{Call, Case};
 use crate::numbered::{Numbered, all_hold, value, values};
-use p3_packings::columnwise::{
+use p3_packing_traits::columnwise::{
     batched_columnwise_dot_product, generic_batched_columnwise_dot_product,
 };
 use p3_ring::ring::{Algebra, PrimeCharacteristicRing};

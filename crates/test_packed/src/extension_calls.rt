@@ -7,14 +7,14 @@ use crate::numbered::Numbered;
 use crate::operation_calls::operation_agrees;
 use crate::row_calls::row_agrees;
 use crate::sequence_calls::sequences_agree;
-use p3_base::field::Field;
-use p3_base::packed_traits::{Inhabited, Packable, PackedField};
-use p3_ext::extension::{
+use p3_extension::extension::{
     Binomial, ComplexExtendable, ExtField, ExtensionOverAlgebra, ExtensionShape,
     FrobeniusExtendable,
 };
-use p3_packed::holds_scalar::HoldsScalar;
-use p3_packed::packed_ext_field::PackedExtField;
+use p3_field_traits::field::Field;
+use p3_field_traits::packed_traits::{Inhabited, Packable, PackedField};
+use p3_packed_extension::holds_scalar::HoldsScalar;
+use p3_packed_extension::packed_ext_field::PackedExtField;
 use p3_ring::ring::{Algebra, PrimeCharacteristicRing};
 use std::alloc::{AllocError, Global};
 

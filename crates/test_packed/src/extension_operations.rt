@@ -6,12 +6,14 @@ ghost use Rattle.p3_theory.specs.Lanes.Lanes.{lane};
 use crate::cases::{Call, Case};
 use crate::inverse_calls::{has_inverse, have_inverses};
 use crate::numbered::{Numbered, holds, value, values};
-use p3_base::field::Field;
-use p3_base::packed_traits::{Packable, PackedField};
-use p3_ext::extension::{ExtField, ExtensionOverAlgebra, ExtensionShape, FrobeniusExtendable};
-use p3_packed::holds_scalar::HoldsScalar;
-use p3_packed::packed_ext_field::PackedExtField;
-use p3_packings::extension_lanes::ExtensionLanes;
+use p3_extension::extension::{
+    ExtField, ExtensionOverAlgebra, ExtensionShape, FrobeniusExtendable,
+};
+use p3_field_traits::field::Field;
+use p3_field_traits::packed_traits::{Packable, PackedField};
+use p3_packed_extension::holds_scalar::HoldsScalar;
+use p3_packed_extension::packed_ext_field::PackedExtField;
+use p3_packing_traits::extension_lanes::ExtensionLanes;
 use p3_ring::ring::PrimeCharacteristicRing;
 use std::alloc::{AllocError, Global};
 

@@ -5,9 +5,9 @@ ghost use Rattle.p3_theory.specs.Lanes.Lanes.{lane};
 
 use crate::cases::Case;
 use crate::numbered::{Numbered, holds, value};
-use p3_base::field::Field;
-use p3_batch_inverse::packed_inverse::invert_packed_extension;
-use p3_packings::extension_lanes::{ExtensionLanes, PackedExtensionRing};
+use p3_field_traits::field::Field;
+use p3_helpers::packed_inverse::invert_packed_extension;
+use p3_packing_traits::extension_lanes::{ExtensionLanes, PackedExtensionRing};
 use p3_ring::ring::Algebra;
 
 /// Whether a value has an inverse.

@@ -1,7 +1,7 @@
 //! Calls on the lanes of packed values.
 use crate::cases::{Case, LaneCall};
 use crate::numbered::{Numbered, all_hold, counted, holds, value, value_at, values};
-use p3_packings::extension_lanes::ExtensionLanes;
+use p3_packing_traits::extension_lanes::ExtensionLanes;
 use p3_ring::ring::PrimeCharacteristicRing;
 use std::alloc::{AllocError, Global};
 

@@ -1,10 +1,10 @@
 //! Values by the numbers of their coefficients.
-use p3_base::field::PrimeField64;
-use p3_bench_packed::packed::Packed;
-use p3_bench_prime::form::Form;
-use p3_bench_prime::fp::Fp;
-use p3_ext::extension::ExtField;
-use p3_packed::packed_ext_field::PackedExtField;
+use p3_extension::extension::ExtField;
+use p3_field_traits::field::PrimeField64;
+use p3_packed_extension::packed_ext_field::PackedExtField;
+use p3_packed_prime_fields::packed::Packed;
+use p3_prime_fields::form::Form;
+use p3_prime_fields::fp::Fp;
 use std::alloc::{AllocError, Global};
 
 /// Values that numbers tell: of a packing those of each lane, and of these those of each coefficient.

@@ -2,10 +2,10 @@
 ghost use Rattle.std.specs.Prelude.{◌<◌};
 
 use example_fibonacci::residues::{F97, F97x2};
-use p3_base::field::PrimeField64;
-use p3_bench_packed::packed::Packed;
-use p3_packed::packed_ext_field::PackedBinomialExtensionField;
-use p3_packings::extension_lanes::ExtensionLanes;
+use p3_field_traits::field::PrimeField64;
+use p3_packed_extension::packed_ext_field::PackedBinomialExtensionField;
+use p3_packed_prime_fields::packed::Packed;
+use p3_packing_traits::extension_lanes::ExtensionLanes;
 
 type FourLanes = PackedBinomialExtensionField<F97, Packed<F97, 4>, 2>;
 

@@ -1,12 +1,12 @@
 //! Over the extension of the residues modulo 17 by `X^2 = 3`. Expected values by hand.
-use p3_base::field::PrimeField64;
-use p3_bench_packed::packed::Packed;
-use p3_bench_prime::extensions::F17x2;
-use p3_bench_prime::small::F17;
-use p3_packed::packed_ext_field::PackedBinomialExtensionField;
-use p3_packings::ext_lane_items::to_ext_iter;
-use p3_packings::ext_powers::packed_ext_powers;
-use p3_packings::extension_lanes::ExtensionLanes;
+use p3_field_traits::field::PrimeField64;
+use p3_packed_extension::packed_ext_field::PackedBinomialExtensionField;
+use p3_packed_prime_fields::packed::Packed;
+use p3_packing_traits::ext_lane_items::to_ext_iter;
+use p3_packing_traits::ext_powers::packed_ext_powers;
+use p3_packing_traits::extension_lanes::ExtensionLanes;
+use p3_prime_fields::extensions::F17x2;
+use p3_prime_fields::small::F17;
 use p3_ring::ring::PrimeCharacteristicRing;
 
 type FourLanes = PackedBinomialExtensionField<F17, Packed<F17, 4>, 2>;

@@ -7,11 +7,11 @@ use crate::lane_calls::lanes_agree;
 use crate::numbered::Numbered;
 use crate::operation_calls::{dot_product_agrees, mixed_operation_agrees, operation_agrees};
 use crate::sequence_calls::sequences_agree;
-use p3_base::field::Field;
-use p3_packings::extension_lanes::PackedExtensionRing;
-use p3_packings::packed_field_extension::PackedFieldExtension;
+use p3_extension_traits::extension_field::ExtensionField;
+use p3_field_traits::field::Field;
+use p3_packing_traits::extension_lanes::PackedExtensionRing;
+use p3_packing_traits::packed_field_extension::PackedFieldExtension;
 use p3_ring::ring::{Algebra, PrimeCharacteristicRing};
-use p3_spaces::extension_field::ExtensionField;
 use std::alloc::{AllocError, Global};
 
 /// Whether a call on lanes or columns has its answer.

@@ -1,11 +1,11 @@
 //! Powers of an extension value as packings, and the values of packings one after the other.
 use crate::cases::{Call, Case};
 use crate::numbered::{Numbered, holds_at, value, value_count, values};
-use p3_base::field::Field;
-use p3_packings::packed_field_extension::PackedFieldExtension;
+use p3_extension_traits::extension_field::ExtensionField;
+use p3_field_traits::field::Field;
+use p3_packing_traits::packed_field_extension::PackedFieldExtension;
 use p3_ring::powers::{BoundedPowers, Powers};
 use p3_ring::ring::PrimeCharacteristicRing;
-use p3_spaces::extension_field::ExtensionField;
 use std::alloc::{AllocError, Global};
 
 /// Whether the packings or the values that a call gives one after the other are the answer.

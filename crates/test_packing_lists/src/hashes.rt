@@ -1,10 +1,10 @@
 //! Residues that differ hash apart.
 use crate::numbered::Numbered;
-use p3_bench_prime::baby_bear::BabyBearModulus;
-use p3_bench_prime::form::{Plain, ShortForm};
-use p3_bench_prime::fp::Fp;
-use p3_bench_prime::montgomery::Montgomery;
-use p3_bench_prime::small::M17;
+use p3_prime_fields::baby_bear::BabyBearModulus;
+use p3_prime_fields::form::{Plain, ShortForm};
+use p3_prime_fields::fp::Fp;
+use p3_prime_fields::montgomery::Montgomery;
+use p3_prime_fields::small::M17;
 use std::alloc::{AllocError, Global};
 use std::hash::{Hash, Hasher};
 use std::process::Abort;

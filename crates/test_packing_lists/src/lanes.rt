@@ -4,9 +4,9 @@ ghost use Rattle.std.specs.Prelude.{◌≡◌, length};
 
 use crate::numbered::Numbered;
 use crate::texts::{holds, number_at, packing, part, value_at};
-use p3_base::field::Field;
-use p3_base::packed_traits::{PackedField, PackedFieldPow2};
-use p3_tools::helpers::{par_add_scaled_slice_in_place, par_scale_slice_in_place};
+use p3_field_traits::field::Field;
+use p3_field_traits::packed_traits::{PackedField, PackedFieldPow2};
+use p3_helpers::helpers::{par_add_scaled_slice_in_place, par_scale_slice_in_place};
 use std::alloc::{AllocError, Global};
 use std::process::Abort;
 use std::test::Fail;

@@ -1,7 +1,7 @@
 //! Residues by their numbers alone.
-use p3_base::field::PrimeField64;
-use p3_bench_prime::form::{Form, Word};
-use p3_bench_prime::fp::Fp;
+use p3_field_traits::field::PrimeField64;
+use p3_prime_fields::form::{Form, Word};
+use p3_prime_fields::fp::Fp;
 use p3_ring::ring::PrimeCharacteristicRing;
 
 /// A residue by its number, and no more of a prime field: a function that is bounded by all of one takes seconds

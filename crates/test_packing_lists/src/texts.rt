@@ -1,6 +1,6 @@
 //! Parts of texts, numbers, which stand between commas, and packings of residues with these numbers.
 use crate::numbered::Numbered;
-use p3_base::packed_traits::PackedValue;
+use p3_field_traits::packed_traits::PackedValue;
 
 /// The text at an index of those that stand between semicolons, empty past the last one.
 pub(crate) fn part(text: &str, index: usize) -> &str {

@@ -2,8 +2,8 @@
 use crate::fields::Rooms;
 use crate::numbered::Numbered;
 use crate::texts::{holds_from, value_at};
-use p3_base::field::Field;
-use p3_base::packed_traits::{Inhabited, Packable, PackedField, PackedValue};
+use p3_field_traits::field::Field;
+use p3_field_traits::packed_traits::{Inhabited, Packable, PackedField, PackedValue};
 use p3_vectorized::array::FieldArray;
 use p3_vectorized::vectorized::Vectorized;
 use poly_eval::eval_vectorized;

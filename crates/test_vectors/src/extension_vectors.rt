@@ -1,13 +1,13 @@
 //! Vectors of two values of the extension of the residues modulo 17 by `X^2 = 3`, and of two residues. Expected
 //! values by hand.
 use crate::values::{Canonical, Listed};
-use p3_base::field::Field;
-use p3_base::packed_traits::{Inhabited, Packable};
-use p3_bench_prime::binomial_constants::BinomialConstants;
-use p3_bench_prime::form::{Form, OverModulus, Plain};
-use p3_bench_prime::fp::Fp;
-use p3_bench_prime::small::M17;
-use p3_ext::extension::{Binomial, ExtField, ExtensionShape, FrobeniusExtendable};
+use p3_extension::extension::{Binomial, ExtField, ExtensionShape, FrobeniusExtendable};
+use p3_field_traits::field::Field;
+use p3_field_traits::packed_traits::{Inhabited, Packable};
+use p3_prime_fields::binomial_constants::BinomialConstants;
+use p3_prime_fields::form::{Form, OverModulus, Plain};
+use p3_prime_fields::fp::Fp;
+use p3_prime_fields::small::M17;
 use p3_ring::ring::{Algebra, PrimeCharacteristicRing};
 use p3_vectorized::vectorized::Vectorized;
 use p3_vectorized::vectorized_ext::VectorizedExt;

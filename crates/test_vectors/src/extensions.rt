@@ -4,16 +4,16 @@ use crate::packings::{ExtensionRuns, ExtensionVectors};
 use crate::runs::Run;
 use crate::value_calls::{Call, agrees};
 use crate::values::Canonical;
-use p3_bench_packed::lanes::LaneCount;
-use p3_bench_packed::packed::Packed;
-use p3_bench_prime::binomial_constants::BinomialConstants;
-use p3_bench_prime::form::{Form, OverModulus};
-use p3_bench_prime::fp::Fp;
-use p3_bench_prime::polynomial_constants::PolynomialConstants;
-use p3_ext::extension::{
+use p3_extension::extension::{
     Binomial, Cubic, CubicTrinomial, ExtField, ExtensionShape, FrobeniusExtendable,
     IntegerPolynomial, Modulo, Septic, SepticTrinomial,
 };
+use p3_packed_prime_fields::lanes::LaneCount;
+use p3_packed_prime_fields::packed::Packed;
+use p3_prime_fields::binomial_constants::BinomialConstants;
+use p3_prime_fields::form::{Form, OverModulus};
+use p3_prime_fields::fp::Fp;
+use p3_prime_fields::polynomial_constants::PolynomialConstants;
 use std::alloc::{AllocError, Global};
 
 /// Whether a call on the values of an extension of F gives what is told. Nothing is read of `_room`.

@@ -1,10 +1,12 @@
 //! Runs over vectors of packings of an extension's values, implemented once for all packings.
 use crate::runs::{Run, Vectors, run_agrees};
 use crate::values::Canonical;
-use p3_base::field::Field;
-use p3_base::packed_traits::{Inhabited, Packable};
-use p3_ext::extension::{ExtField, ExtensionOverAlgebra, ExtensionShape, FrobeniusExtendable};
-use p3_packed::packed_ext_field::{PackedExtField, Packing};
+use p3_extension::extension::{
+    ExtField, ExtensionOverAlgebra, ExtensionShape, FrobeniusExtendable,
+};
+use p3_field_traits::field::Field;
+use p3_field_traits::packed_traits::{Inhabited, Packable};
+use p3_packed_extension::packed_ext_field::{PackedExtField, Packing};
 use p3_ring::packed_ring::PackedRing;
 use p3_ring::ring::{Algebra, PrimeCharacteristicRing};
 use std::alloc::{AllocError, Global};

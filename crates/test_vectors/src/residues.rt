@@ -4,11 +4,11 @@
 ghost use Rattle.std.specs.Prelude.{◌∷◌, [], codes, refl};
 ghost use Rattle.std.proofs.Common.{lit<, lit≤};
 
-use p3_bench_prime::binomial_constants::BinomialConstants;
-use p3_bench_prime::form::{Modulus, ModulusOrder, Order, Plain};
-use p3_bench_prime::fp::Fp;
-use p3_bench_prime::polynomial_constants::PolynomialConstants;
-use p3_ext::extension::{BinomialExtensionField, Cubic, CubicTrinomialExtensionField};
+use p3_extension::extension::{BinomialExtensionField, Cubic, CubicTrinomialExtensionField};
+use p3_prime_fields::binomial_constants::BinomialConstants;
+use p3_prime_fields::form::{Modulus, ModulusOrder, Order, Plain};
+use p3_prime_fields::fp::Fp;
+use p3_prime_fields::polynomial_constants::PolynomialConstants;
 
 /// The marker of the order 17 whose polynomials are `X^D - 1`.
 pub struct SplitM17;

@@ -3,15 +3,15 @@
 ghost use Rattle.std.specs.Prelude.{◌≡◌, ◌<◌, ◌*◌, ℕ, length, map};
 ghost use Rattle.p3_theory.specs.Lanes.VectorLanes.{vector_lane};
 ghost use Rattle.p3_theory.specs.Polynomials.Polynomial.{quotient_ops};
-ghost use Rattle.p3_ext.specs.Values.{ext_ops};
-ghost use Rattle.p3_runs.specs.Runs.{Fit, run};
+ghost use Rattle.p3_extension.specs.Values.{ext_ops};
+ghost use Rattle.p3_helpers.specs.Runs.{Fit, run};
 
 use crate::values::{Canonical, List, Listed, ZERO};
-use p3_ext::extension::{ExtField, ExtensionShape, FrobeniusExtendable};
+use p3_extension::extension::{ExtField, ExtensionShape, FrobeniusExtendable};
 use p3_field::laws::run_lane_steps_by_coefficients;
-use p3_packings::extension_lanes::PackedExtensionRing;
+use p3_helpers::steps::{Step, run_steps, steps_fit};
+use p3_packing_traits::extension_lanes::PackedExtensionRing;
 use p3_ring::ring::PrimeCharacteristicRing;
-use p3_runs::steps::{Step, run_steps, steps_fit};
 use p3_vectorized::vectorized_ext::VectorizedExt;
 use std::alloc::{AllocError, Global};
 

@@ -1,9 +1,9 @@
 //! The calls that take inverses of values.
-ghost use Rattle.p3_runs.specs.FieldRuns.{OrdersGiven};
+ghost use Rattle.p3_helpers.specs.FieldRuns.{OrdersGiven};
 
 use crate::values::{List, Listed, ZERO};
-use p3_base::field::Field;
-use p3_runs::steps::{FieldStep, StepFault, StepRefused, run_field_steps, steps_fit};
+use p3_field_traits::field::Field;
+use p3_helpers::steps::{FieldStep, StepFault, StepRefused, run_field_steps, steps_fit};
 use std::alloc::{AllocError, Global};
 
 /// A call on values.

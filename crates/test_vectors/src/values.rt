@@ -1,8 +1,8 @@
 //! Extension values by their coefficient lists.
-use p3_base::field::PrimeField64;
-use p3_bench_prime::form::{Form, Word};
-use p3_bench_prime::fp::Fp;
-use p3_ext::extension::{ExtField, ExtensionShape, FrobeniusExtendable, HasFrobenius};
+use p3_extension::extension::{ExtField, ExtensionShape, FrobeniusExtendable, HasFrobenius};
+use p3_field_traits::field::PrimeField64;
+use p3_prime_fields::form::{Form, Word};
+use p3_prime_fields::fp::Fp;
 
 /// The greatest degree of the extensions.
 pub(crate) const MOST: usize = 8;

@@ -1,7 +1,7 @@
 //! Values of polynomials over cosets of Goldilocks, whose words are the canonical numbers.
-use p3_bench_prime::goldilocks::Goldilocks;
-use p3_word_cosets::cosets::coset_values;
-use p3_words::refusal::Refusal;
+use p3_c_calls::cosets::coset_values;
+use p3_c_words::refusal::Refusal;
+use p3_prime_fields::goldilocks::Goldilocks;
 use std::test::Fail;
 
 #[test]

@@ -1,7 +1,7 @@
 //! Inverses in BabyBear's extension by `X^4 = 31`. The words of coefficients are their numbers times 2^32.
-use p3_bench_prime::baby_bear::BabyBear;
-use p3_ext::extension::Binomial;
-use p3_word_extensions::extensions::batch_inverse;
+use p3_c_calls::extensions::batch_inverse;
+use p3_extension::extension::Binomial;
+use p3_prime_fields::baby_bear::BabyBear;
 use std::test::Fail;
 
 /// The words of X, of 2 and of 1 + X.

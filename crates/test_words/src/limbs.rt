@@ -1,7 +1,7 @@
 //! Limbs of BabyBear, whose words are its numbers times 2^32, packed into values of Goldilocks, and back.
-use p3_bench_prime::baby_bear::BabyBear;
-use p3_bench_prime::goldilocks::Goldilocks;
-use p3_word_limbs::limbs::{pack, split};
+use p3_c_calls::limbs::{pack, split};
+use p3_prime_fields::baby_bear::BabyBear;
+use p3_prime_fields::goldilocks::Goldilocks;
 use std::test::Fail;
 
 /// The words of 1, 2 and 3.

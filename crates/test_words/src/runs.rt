@@ -1,8 +1,8 @@
 //! Runs of steps over registers of Goldilocks, whose words are the canonical numbers.
-use p3_bench_prime::goldilocks::Goldilocks;
-use p3_word_runs::coded::RunStep;
-use p3_word_runs::runs::run;
-use p3_words::refusal::Refusal;
+use p3_c_calls::coded::RunStep;
+use p3_c_calls::runs::run;
+use p3_c_words::refusal::Refusal;
+use p3_prime_fields::goldilocks::Goldilocks;
 use std::test::Fail;
 
 /// The step with this operation over these registers.

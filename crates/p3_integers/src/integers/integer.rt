@@ -1,3 +1,4 @@
+//! What the twelve integer types have in common: the integer that a value is, and its remainder.
 ghost use Rattle.std.specs.Prelude.{◌≡◌, ◌<◌, ◌≤◌, ℤ, pos, MatchOption};
 ghost use Rattle.p3_theory.specs.Rings.Multiples.{remainder_of, IsCanonical};
 

@@ -2,10 +2,10 @@
 ghost use Rattle.std.specs.Prelude.{◌≡◌, ◌<◌, ◌^◌, ℕ};
 
 use super::FieldArray;
-use p3_base::field::Field;
-use p3_base::packed_traits::{Inhabited, Packable, PackedField, PackedFieldPow2};
-use p3_packed::holds_scalar::HoldsScalar;
-use p3_packed::packed_ext_field::Packing;
+use p3_field_traits::field::Field;
+use p3_field_traits::packed_traits::{Inhabited, Packable, PackedField, PackedFieldPow2};
+use p3_packed_extension::holds_scalar::HoldsScalar;
+use p3_packed_extension::packed_ext_field::Packing;
 use p3_ring::packed_ring::PackedRing;
 
 /// A packing of values of F.

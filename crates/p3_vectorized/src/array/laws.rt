@@ -3,8 +3,8 @@ ghost use Rattle.std.specs.Prelude.{◌≡◌, ◌<◌, ℕ, Decides, get_or};
 ghost use Rattle.p3_theory.specs.Rings.Ring.{Invertible};
 
 use super::FieldArray;
-use p3_base::field::Field;
-use p3_base::packed_traits::Inhabited;
+use p3_field_traits::field::Field;
+use p3_field_traits::packed_traits::Inhabited;
 use p3_ring::ring::PrimeCharacteristicRing;
 use std::ops::Div;
 

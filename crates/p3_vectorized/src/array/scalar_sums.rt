@@ -2,8 +2,8 @@
 ghost use Rattle.std.specs.Prelude.{◌≡◌};
 
 use super::FieldArray;
-use p3_base::packed_traits::Inhabited;
-use p3_packings::scalar_sums::ScalarSums;
+use p3_field_traits::packed_traits::Inhabited;
+use p3_packing_traits::scalar_sums::ScalarSums;
 use p3_ring::accumulate::{product_from, sum_from};
 use p3_ring::ring::PrimeCharacteristicRing;
 use std::iter::{Product, Sum};

@@ -7,7 +7,7 @@ ghost use Rattle.p3_theory.specs.Polynomials.Polynomial.{at};
 ghost use Rattle.p3_vectorized.specs.VectorLists.{lane_at, lane_count, vector_lanes};
 
 use super::Vectorized;
-use p3_base::packed_traits::{Inhabited, Packable, PackedValue};
+use p3_field_traits::packed_traits::{Inhabited, Packable, PackedValue};
 use p3_ring::packed_ring::PackedRing;
 use p3_ring::ring::PrimeCharacteristicRing;
 

@@ -3,8 +3,8 @@ ghost use Rattle.std.specs.Prelude.{◌≡◌, ◌<◌, ℕ, get_or, length};
 
 use super::VectorizedExt;
 use crate::vectorized::Vectorized;
-use p3_base::field::Field;
-use p3_base::packed_traits::Inhabited;
+use p3_field_traits::field::Field;
+use p3_field_traits::packed_traits::Inhabited;
 use p3_ring::ring::{Algebra, PrimeCharacteristicRing};
 use p3_ring::sums::sum_of_products;
 use std::ops::{Add, AddAssign, Mul, MulAssign, Sub, SubAssign};

@@ -3,16 +3,16 @@ use super::numbers::{Pair, Sequence, coefficient, coefficients, terms};
 use super::table::Call;
 use crate::canonical::Canonical;
 use crate::inverses::have_inverses;
-use p3_base::field::{Field, PrimeField32};
-use p3_base::packed_traits::Packable;
-use p3_batch_inverse::batch_inverse::batch_multiplicative_inverse_in;
-use p3_ext::extension::{Binomial, BinomiallyExtendable, ExtField, HasFrobenius};
-use p3_ring::ring::PrimeCharacteristicRing;
-use p3_spaces::basis::{AlgebraIdentity, BasedVectorSpace};
-use p3_spaces::in_memory::InMemory;
-use p3_tools::splits::{
+use p3_extension::extension::{Binomial, BinomiallyExtendable, ExtField, HasFrobenius};
+use p3_extension_traits::basis::{AlgebraIdentity, BasedVectorSpace};
+use p3_extension_traits::in_memory::InMemory;
+use p3_field_traits::field::{Field, PrimeField32};
+use p3_field_traits::packed_traits::Packable;
+use p3_helpers::batch_inverse::batch_multiplicative_inverse_in;
+use p3_helpers::splits::{
     split_32_in, split_pf_to_field_order_limbs_in, split_pf_to_packed_limbs_in,
 };
+use p3_ring::ring::PrimeCharacteristicRing;
 use std::alloc::{AllocError, Allocator};
 use std::marker::PhantomData;
 

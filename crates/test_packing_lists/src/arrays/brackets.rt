@@ -1,7 +1,7 @@
 //! Arrays read and written by brackets, compared and printed.
 use crate::numbered::Numbered;
 use crate::texts::{number_at, packing};
-use p3_base::packed_traits::{Inhabited, Packable};
+use p3_field_traits::packed_traits::{Inhabited, Packable};
 use p3_vectorized::array::FieldArray;
 use std::alloc::{AllocError, Global};
 use std::fmt;

@@ -2,7 +2,7 @@
 use crate::fields::Rooms;
 use crate::numbered::Numbered;
 use crate::texts::{holds, packing};
-use p3_base::packed_traits::{Inhabited, Packable};
+use p3_field_traits::packed_traits::{Inhabited, Packable};
 use p3_ring::ring::PrimeCharacteristicRing;
 use p3_vectorized::array::FieldArray;
 use std::process::Abort;

@@ -4,8 +4,8 @@ ghost use Rattle.p3_theory.specs.Rings.Ring.{Invertible};
 
 use crate::numbered::Numbered;
 use crate::texts::{holds, packing};
-use p3_base::field::Field;
-use p3_base::packed_traits::{Inhabited, Packable};
+use p3_field_traits::field::Field;
+use p3_field_traits::packed_traits::{Inhabited, Packable};
 use p3_vectorized::array::FieldArray;
 use std::process::Abort;
 

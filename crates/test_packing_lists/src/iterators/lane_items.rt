@@ -1,9 +1,9 @@
 //! The values in the lanes of packings as an iterator.
 use super::{repeated, says_left, says_none_left};
-use p3_base::field::Field;
-use p3_base::packed_traits::{Packable, PackedField};
-use p3_packings::ext_lane_items::to_ext_iter;
-use p3_packings::extension_lanes::ExtensionLanes;
+use p3_field_traits::field::Field;
+use p3_field_traits::packed_traits::{Packable, PackedField};
+use p3_packing_traits::ext_lane_items::to_ext_iter;
+use p3_packing_traits::extension_lanes::ExtensionLanes;
 use p3_ring::ring::PrimeCharacteristicRing;
 use std::process::Abort;
 use std::test::Fail;

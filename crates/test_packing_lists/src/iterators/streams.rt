@@ -1,10 +1,10 @@
 //! Streams of bytes and words over sources whose hint is exact, and over one whose lower bound is zero.
 use super::{repeated, says};
-use p3_bench_prime::baby_bear::BabyBear;
-use p3_packings::parallel_streams::{
+use p3_extension_traits::streams::RawDataSerializable;
+use p3_packing_traits::parallel_streams::{
     into_parallel_byte_streams, into_parallel_u32_streams, into_parallel_u64_streams,
 };
-use p3_spaces::streams::RawDataSerializable;
+use p3_prime_fields::baby_bear::BabyBear;
 use std::array;
 use std::process::Abort;
 use std::test::Fail;

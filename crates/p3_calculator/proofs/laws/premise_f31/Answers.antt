@@ -2,7 +2,7 @@ use Rattle.std.specs.Prelude.{refl}
 use Rattle.p3_theory.specs.Roots.FiniteFields.{premise_by_image}
 use Rattle.p3_theory.specs.ResidueRings.Residues.{are_residues, same_canon}
 use Rattle.p3_theory.specs.Rings.ZeroDivisors.{residues_have_no_zero_divisors}
-use Rattle.p3_bench_prime.specs.Elements.{is}
+use Rattle.p3_prime_fields.specs.Elements.{is}
 use Rattle.p3_calculator.proofs.laws.premise_f31.Goals as goal
 
 pub returns-clause-premise : goal.returns-clause-premise

@@ -4,8 +4,8 @@ use Rattle.p3_theory.specs.Polynomials.Polynomial.{binomial}
 use Rattle.p3_theory.specs.Inverses.QuadraticDomains.{residues_only_zero}
 use Rattle.p3_theory.specs.ResidueRings.Residues.{are_residues, residue_laws}
 use Rattle.p3_theory.specs.Rings.ZeroDivisors.{residues_have_no_zero_divisors}
-use Rattle.p3_ext.specs.Domains.{quadratic_has_no_zero_divisors}
-use Rattle.p3_bench_prime.specs.Elements.{is, ops}
+use Rattle.p3_extension.specs.Domains.{quadratic_has_no_zero_divisors}
+use Rattle.p3_prime_fields.specs.Elements.{is, ops}
 use Rattle.p3_calculator.specs.Coefficients.{extension_represented}
 use Rattle.p3_calculator.proofs.laws.premise_f31c.Goals as goal
 

@@ -2,8 +2,8 @@ use Rattle.std.specs.Prelude.{ℕ, [], ◌∷◌, refl, get_or}
 use Rattle.p3_theory.specs.Polynomials.Polynomial.{binomial, tabulate}
 use Rattle.p3_theory.specs.Polynomials.Coefficients.{length-tabulate}
 use Rattle.p3_theory.specs.ResidueRings.Residues.{are_residues}
-use Rattle.p3_bench_prime.specs.Elements.{canon, of, ops, is}
-use Rattle.p3_ext.specs.Values.{value_of}
+use Rattle.p3_prime_fields.specs.Elements.{canon, of, ops, is}
+use Rattle.p3_extension.specs.Values.{value_of}
 use Rattle.p3_calculator.specs.Coefficients.{all_coefficients, extension_represented}
 use Rattle.p3_calculator.proofs.PremiseLemmas.{meets_premise}
 use Rattle.p3_calculator.proofs.laws.specification_f17x2_meets_the_premise.Goals as goal

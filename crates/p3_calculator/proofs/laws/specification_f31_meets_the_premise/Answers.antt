@@ -1,6 +1,6 @@
 use Rattle.std.specs.Prelude.{refl}
 use Rattle.p3_theory.specs.ResidueRings.Residues.{are_residues}
-use Rattle.p3_bench_prime.specs.Elements.{canon, of, ops, is}
+use Rattle.p3_prime_fields.specs.Elements.{canon, of, ops, is}
 use Rattle.p3_calculator.specs.Coefficients.{one_coefficient, residues_represented}
 use Rattle.p3_calculator.proofs.PremiseLemmas.{meets_premise}
 use Rattle.p3_calculator.proofs.laws.specification_f31_meets_the_premise.Goals as goal

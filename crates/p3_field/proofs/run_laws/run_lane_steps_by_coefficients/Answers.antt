@@ -1,6 +1,6 @@
-use Rattle.p3_ext.specs.Values.{ext_ops}
+use Rattle.p3_extension.specs.Values.{ext_ops}
 use Rattle.p3_theory.specs.Lanes.VectorLanes.{vector_lane}
-use Rattle.p3_ext.specs.ExtensionGenerators.{list_keeps}
+use Rattle.p3_extension.specs.ExtensionGenerators.{list_keeps}
 use Rattle.p3_field.specs.CoefficientRuns.{read_through}
 use Rattle.p3_field.proofs.run_laws.run_lane_steps_by_coefficients.Goals as goal
 

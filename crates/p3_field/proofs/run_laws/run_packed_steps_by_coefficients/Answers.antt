@@ -1,6 +1,6 @@
 use Rattle.p3_theory.specs.Rings.Homomorphism.{compose}
-use Rattle.p3_runs.specs.RunsAlong.{run-through}
-use Rattle.p3_ext.specs.ExtensionGenerators.{list_keeps}
+use Rattle.p3_helpers.specs.RunsAlong.{run-through}
+use Rattle.p3_extension.specs.ExtensionGenerators.{list_keeps}
 use Rattle.p3_field.proofs.run_laws.run_packed_steps_by_coefficients.Goals as goal
 
 pub returns : goal.returns

@@ -1,4 +1,4 @@
-use Rattle.p3_runs.specs.RunsAlong.{run-through}
+use Rattle.p3_helpers.specs.RunsAlong.{run-through}
 use Rattle.p3_field.proofs.run_laws.run_steps_by_lanes.Goals as goal
 
 pub returns : goal.returns

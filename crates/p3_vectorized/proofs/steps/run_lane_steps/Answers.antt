@@ -1,5 +1,5 @@
 use Rattle.p3_theory.specs.Lanes.VectorLanes.{vector_keeps}
-use Rattle.p3_runs.specs.RunsAlong.{run-through}
+use Rattle.p3_helpers.specs.RunsAlong.{run-through}
 use Rattle.p3_vectorized.proofs.steps.run_lane_steps.Goals as goal
 
 pub returns : goal.returns

@@ -1,4 +1,4 @@
-use Rattle.p3_ext.specs.Values.{is_difference}
+use Rattle.p3_extension.specs.Values.{is_difference}
 use Rattle.p3_calculator.proofs.field.ExtFieldCalculatorField.difference.Goals as goal
 
 pub returns : goal.returns

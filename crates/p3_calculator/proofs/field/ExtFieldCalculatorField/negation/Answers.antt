@@ -1,4 +1,4 @@
-use Rattle.p3_ext.specs.Values.{is_negation}
+use Rattle.p3_extension.specs.Values.{is_negation}
 use Rattle.p3_calculator.proofs.field.ExtFieldCalculatorField.negation.Goals as goal
 
 pub returns : goal.returns

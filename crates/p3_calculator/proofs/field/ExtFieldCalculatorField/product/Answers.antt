@@ -1,4 +1,4 @@
-use Rattle.p3_ext.specs.Values.{ext_ops, same_value}
+use Rattle.p3_extension.specs.Values.{ext_ops, same_value}
 use Rattle.p3_calculator.proofs.field.ExtFieldCalculatorField.product.Goals as goal
 
 pub returns : goal.returns

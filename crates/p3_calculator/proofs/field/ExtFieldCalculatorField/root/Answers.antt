@@ -2,8 +2,8 @@ use Rattle.std.proofs.Common.{◌≡◌, ◌∙◌, ◌^◌, Some, IsSome, sym, 
 use Rattle.p3_theory.specs.Polynomials.Coefficients.{length-tabulate}
 use Rattle.p3_theory.specs.Polynomials.Polynomial.{tabulate}
 use Rattle.p3_theory.specs.Roots.PowersOfTwo.{at_least_two}
-use Rattle.p3_ext.specs.Orders.{extension_size, extension_values}
-use Rattle.p3_ext.specs.Values.{ext_ops, value_of, constants_apart}
+use Rattle.p3_extension.specs.Orders.{extension_size, extension_values}
+use Rattle.p3_extension.specs.Values.{ext_ops, value_of, constants_apart}
 use Rattle.p3_calculator.proofs.RootSearches.{searched, extension_order, extension_order_given}
 use Rattle.p3_calculator.proofs.field.ExtFieldCalculatorField.root.Goals as goal
 

@@ -1,4 +1,4 @@
-use Rattle.p3_ext.specs.Values.{is_sum}
+use Rattle.p3_extension.specs.Values.{is_sum}
 use Rattle.p3_calculator.proofs.field.ExtFieldCalculatorField.sum.Goals as goal
 
 pub returns : goal.returns

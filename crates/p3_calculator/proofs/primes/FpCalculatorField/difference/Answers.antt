@@ -1,5 +1,5 @@
 use Rattle.p3_theory.specs.ResidueRings.Residues.{is_difference}
-use Rattle.p3_bench_prime.specs.Elements.{is}
+use Rattle.p3_prime_fields.specs.Elements.{is}
 use Rattle.p3_calculator.proofs.primes.FpCalculatorField.difference.Goals as goal
 
 pub returns : goal.returns

@@ -1,5 +1,5 @@
 use Rattle.p3_theory.specs.ResidueRings.Residues.{is_of}
-use Rattle.p3_bench_prime.specs.Elements.{is}
+use Rattle.p3_prime_fields.specs.Elements.{is}
 use Rattle.p3_calculator.proofs.primes.FpCalculatorField.product.Goals as goal
 
 pub returns : goal.returns

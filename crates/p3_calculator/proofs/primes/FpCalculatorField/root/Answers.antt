@@ -1,5 +1,5 @@
 use Rattle.std.proofs.Common.{arith}
-use Rattle.p3_bench_prime.specs.Elements.{of}
+use Rattle.p3_prime_fields.specs.Elements.{of}
 use Rattle.p3_calculator.proofs.RootSearches.{residues_searched}
 use Rattle.p3_calculator.proofs.primes.FpCalculatorField.root.Goals as goal
 

@@ -1,6 +1,6 @@
 use Rattle.std.specs.Prelude.{◌≡◌, ℕ, List, IfOk, string_bytes, decimal}
 use Rattle.std.proofs.Common.{subst, sym, rules}
-use Rattle.p3_bench_prime.specs.Elements.{canon}
+use Rattle.p3_prime_fields.specs.Elements.{canon}
 use Rattle.p3_calculator.specs.Coefficients.{display-one}
 use Rattle.p3_calculator.proofs.primes.FpCalculatorField.text.Goals as goal
 

@@ -1,7 +1,7 @@
 use Rattle.std.proofs.Common.{arith}
 use borrow.Author.Rules.{of_calls}
 use Rattle.p3_vectorized.specs.VectorLists.{lane_count, vector_lanes, length-lanes}
-use Rattle.p3_packings.specs.CallsInTurn.{answered-none, answered-callable, answered-more, answered-all}
+use Rattle.p3_packing_traits.specs.CallsInTurn.{answered-none, answered-callable, answered-more, answered-all}
 use Rattle.p3_vectorized.proofs.vectorized.lanes.Vectorized+F+P+N.by_lanes.Goals as goal
 
 pub loop-lane-init : goal.loop-lane-init

@@ -1,6 +1,6 @@
 use denote.Param.Always.{always_mut}
 use Rattle.p3_vectorized.specs.VectorLists.{lane_count, vector_lanes}
-use Rattle.p3_packings.specs.CallsInTurn.{AnsweredBelow}
+use Rattle.p3_packing_traits.specs.CallsInTurn.{AnsweredBelow}
 use Rattle.p3_vectorized.proofs.vectorized.lanes.Vectorized+F+P+N.by_lanes.Given as goal
 
 abbrev pub invariant-loop-lane : goal.invariant-loop-lane

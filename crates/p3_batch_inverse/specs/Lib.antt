@@ -1,4 +1,0 @@
-pub mod BatchProducts
-pub mod Chains
-pub mod Inverses
-pub mod Strands

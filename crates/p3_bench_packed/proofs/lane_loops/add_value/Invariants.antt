@@ -1,7 +1,0 @@
-use Rattle.std.proofs.Common.{◌≡◌, ◌<◌, ℕ, length, get_or}
-use Rattle.p3_bench_packed.proofs.lane_loops.add_value.Given as goal
-
-abbrev pub invariant-loop-i : goal.invariant-loop-i
-invariant-loop-i g l =
-    (length l.value ≡ g.row.N)
-    × ((d : g.row.F.Denot) (k : ℕ) → k < l.i → g.F.Add.add_gives (get_or l.x.value k d) l.y (get_or l.value k d))

@@ -1,7 +1,0 @@
-use Rattle.p3_theory.specs.Lanes.RowRing.{filled}
-use Rattle.p3_bench_prime.specs.Elements.{ops}
-use Rattle.p3_bench_packed.specs.Values.{packed_rows}
-use Rattle.p3_bench_packed.proofs.ring.PackedFpPrimeCharacteristicRing.zero.Goals as goal
-
-pub returns : goal.returns
-returns g c = filled packed_rows (ops g.W.Form) c.new.result _ _ c.new.ensures c.zero-zero.ensures

@@ -1,7 +1,0 @@
-use Rattle.std.proofs.Common.{◌≡◌, ◌<◌, ℕ, length, get_or}
-use Rattle.p3_bench_prime.proofs.lane_products.products_by_index.Given as goal
-
-abbrev pub invariant-loop-i : goal.invariant-loop-i
-invariant-loop-i g l =
-    (length l.products ≡ g.row.N)
-    × ((d : g.row.F.Denot) (k : ℕ) → k < l.i → g.F.Mul.mul_gives (get_or l.left k d) (get_or l.right k d) (get_or l.products k d))

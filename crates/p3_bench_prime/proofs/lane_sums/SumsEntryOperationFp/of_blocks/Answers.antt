@@ -1,7 +1,0 @@
-use Rattle.std.proofs.Common.{get_or}
-use Rattle.p3_theory.specs.ResidueRings.Residues.{is_of}
-use Rattle.p3_bench_prime.specs.Elements.{is}
-use Rattle.p3_bench_prime.proofs.lane_sums.SumsEntryOperationFp.of_blocks.Goals as goal
-
-pub returns-clause-lanes : goal.returns-clause-lanes
-returns-clause-lanes g c d k h = is_of (is g.W.Form) (get_or c.lane_sums.result k d) _ (c.lane_sums.ensures.lanes d k h)

@@ -1,6 +1,0 @@
-use Rattle.p3_theory.specs.ResidueRings.Residues.{is_of}
-use Rattle.p3_bench_prime.specs.Elements.{is}
-use Rattle.p3_bench_prime.proofs.lane_sums.SumsEntryOperationFp.of_values.Goals as goal
-
-pub returns : goal.returns
-returns g c = is_of (is g.W.Form) c.add.result _ c.add.ensures

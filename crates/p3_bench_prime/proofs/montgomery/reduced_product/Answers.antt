@@ -1,8 +1,0 @@
-use Rattle.std.proofs.Common.{◌*◌, ◌%◌, ◌^◌, ap₂, ◌∙◌}
-use Rattle.p3_bench_prime.proofs.montgomery.reduced_product.Goals as goal
-
-pub montgomery_product-requires-clause-inverse : goal.montgomery_product-requires-clause-inverse
-montgomery_product-requires-clause-inverse g c = ap₂ (λ p i. (p * i) % 2 ^ 32) c.ORDER.ensures c.INVERSE.ensures ∙ g.M.MontgomeryModulus.inverts_order
-
-pub returns-clause-value : goal.returns-clause-value
-returns-clause-value g c = rw c.ORDER.ensures at c.montgomery_product.ensures.value

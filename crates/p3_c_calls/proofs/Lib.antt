@@ -1,0 +1,4 @@
+mod CoefficientLists
+mod WordGroups
+mod GivenOrders
+mod RunLengths

@@ -1,0 +1,4 @@
+pub mod ExtensionCalls
+pub mod CosetCalls
+pub mod RunCalls
+pub mod LimbCalls

@@ -1,5 +1,0 @@
-use Rattle.p3_spaces.specs.StreamLemmas.{byte_stream-parts}
-use Rattle.p3_ext.proofs.laws.bytes_are_of_coefficients.Goals as goal
-
-pub returns : goal.returns
-returns g c = byte_stream-parts g.F.RawDataSerializable.bytes (λ x. x.value) c.args.xs.now

@@ -1,7 +1,0 @@
-use Rattle.std.proofs.Common.{ℕ, ◌<◌, get_or}
-use Rattle.p3_theory.specs.Bases.Subfields.{IsEmbedded}
-use Rattle.p3_ext.specs.Values.{constant}
-use Rattle.p3_ext.proofs.subfield.ExtFieldHasSubfield.all_in_subfield.Given as goal
-
-abbrev pub invariant-loop-i : goal.invariant-loop-i
-invariant-loop-i g l = (k : ℕ) (d : _) → k < l.i → IsEmbedded (constant g.F.PrimeCharacteristicRing.ops) (get_or l.values k d)

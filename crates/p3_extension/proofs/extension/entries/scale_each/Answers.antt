@@ -1,0 +1,19 @@
+use Rattle.std.proofs.Common.{get_or, arith, sym, ap, ◌∙◌}
+use Rattle.p3_theory.specs.Lists.ByIndex.{read_at}
+use Rattle.p3_theory.specs.Lists.TabulatedEntries.{holds-none, holds-more, holds-all}
+use Rattle.p3_extension.proofs.extension.entries.scale_each.Goals as goal
+
+pub loop-i-init : goal.loop-i-init
+loop-i-init g c o gives = holds-none (λ k. o.mul (get_or c.args.a.now k o.zero) c.args.factor) o.zero c.args.res.now
+
+pub loop-i-preserved : goal.loop-i-preserved
+loop-i-preserved g c o gives =
+    let i = c.loop-i.i in
+    holds-more (λ k. o.mul (get_or c.args.a.now k o.zero) c.args.factor) o.zero c.loop-i.res i c.mul-product.result (omega arith) (c.loop-i.invariant o gives)
+    (gives.exact _ _ _ c.mul-product.ensures
+    ∙ ap (λ z. o.mul z c.args.factor) (sym (read_at c.args.a.now i c.index-a-i.result o.zero (omega arith) c.index-a-i.is)))
+
+pub returns : goal.returns
+returns g c D o long gives =
+    holds-all (λ k. o.mul (get_or c.args.a.now k o.zero) c.args.factor) o.zero c.loop-i.res D
+    (omega arith) (λ k w. c.loop-i.invariant o gives k (omega arith))

@@ -1,0 +1,9 @@
+use Rattle.std.proofs.Common.{◌≡◌, ◌<◌, ℕ, length, get_or}
+use Rattle.p3_theory.specs.Rings.Powers.{power}
+use Rattle.p3_theory.specs.Rings.Multiples.{two}
+use Rattle.p3_extension.proofs.extension.ext_field.ExtFieldPrimeCharacteristicRing.div_2exp_u64.Given as goal
+
+abbrev pub invariant-loop-i : goal.invariant-loop-i
+invariant-loop-i g l =
+    let o = g.A.PrimeCharacteristicRing.ops in
+    (length l.value ≡ g.row.D) × ((d : g.row.A.Denot) (k : ℕ) → k < l.i → o.mul (get_or l.value k d) (power o (two o) l.exponent) ≡ get_or l.self.value k d)

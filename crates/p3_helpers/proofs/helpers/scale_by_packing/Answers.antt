@@ -1,0 +1,24 @@
+use Rattle.std.proofs.Common.{◌≡◌, ◌+◌, ◌*◌, ◌++◌, map, take, drop, arith, rules, ap, sym, subst, ◌∙◌}
+use Rattle.std.proofs.Math.Nat.{suc-mul}
+use Rattle.p3_helpers.proofs.GroupSteps.{mapped_group, scaled_lanes}
+use Rattle.p3_helpers.proofs.helpers.scale_by_packing.Goals as goal
+
+pub loop-i-preserved : goal.loop-i-preserved
+loop-i-preserved g c =
+    let o = g.P.PrimeCharacteristicRing.ops in
+    let q = g.F.PrimeCharacteristicRing.ops in
+    let lanes = g.P.PackedValue.lanes in
+    let w = g.P.PackedValue.WIDTH in
+    let i = c.loop-i.i in
+    let f = λ (x : g.row.F.Denot). q.mul x c.args.s in
+    let new = c.store_block.new.slice in
+    let step : (i + 1) * w ≡ i * w + w = omega (arith, suc-mul i w) in
+    record {
+      long = search rules;
+      scaled = subst (λ n. take n new ++ map f (drop n new) ≡ map f c.args.slice.now) (sym step)
+          (mapped_group f new c.loop-i.slice c.args.slice.now (i * w) w c.store_block.ensures.before
+          (c.store_block.ensures.block ∙ ap lanes (g.met.P.PrimeCharacteristicRing.muls.exact _ _ _ c.mul-product.ensures ∙ ap (o.mul c.load_block.result) c.requires)
+          ∙ scaled_lanes o q lanes w g.met.P.PackedRing.lengths g.met.P.PackedRing.keeps c.load_block.result (g.P.Algebra.embed c.args.s) c.args.s (g.met.P.PackedRing.injects c.args.s)
+          ∙ ap (map f) c.load_block.ensures)
+          c.store_block.ensures.after c.loop-i.invariant.scaled);
+    }

@@ -1,0 +1,12 @@
+pub mod BackwardRuns
+pub mod CopiedItems
+pub mod Digits
+pub mod Multiples
+pub mod PairedRuns
+pub mod Runs
+pub mod FieldRuns
+pub mod RunsAlong
+pub mod BatchProducts
+pub mod Chains
+pub mod Inverses
+pub mod Strands

@@ -1,3 +1,0 @@
-pub mod ModularLanes
-pub mod Blocks
-pub mod Interleaving

@@ -1,8 +1,0 @@
-use Rattle.p3_lanes.proofs.ModularLanes.{sums, sums_width}
-use Rattle.p3_lanes.proofs.mod_arithmetic.mod_add.Goals as goal
-
-pub returns-clause-width : goal.returns-clause-width
-returns-clause-width g c = sums_width c.args.a c.args.b c.args.p g.row.N c.fits-a.0 c.fits-b.0 c.fits-p.0
-
-pub returns-clause-lanes : goal.returns-clause-lanes
-returns-clause-lanes g c = sums c.args.a c.args.b c.args.p g.row.N c.fits-a.0 c.fits-b.0 c.fits-p.0 c.requires.order c.requires.left c.requires.right

@@ -1,8 +1,0 @@
-use Rattle.std.proofs.Common.{List, subst, sym}
-use Rattle.std.specs.Array.{IsFromFnResult}
-use Rattle.p3_packed.proofs.basis.PackedExtFieldBasedVectorSpace.from_basis_coefficients_fn.Goals as goal
-
-pub returns : goal.returns
-returns g c =
-    let Holds : List g.row.P.Denot → Type 0 = λ l. IsFromFnResult g.G.FnMut c.args.f l g.row.D in
-    subst Holds (sym c.new.ensures) c.from_fn.ensures.items

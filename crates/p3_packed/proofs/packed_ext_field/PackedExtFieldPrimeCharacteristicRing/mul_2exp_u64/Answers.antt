@@ -1,9 +1,0 @@
-use Rattle.p3_theory.specs.Rings.Ring.{ring_of}
-use Rattle.p3_packed.specs.PackedValues.{packed_double}
-use Rattle.p3_packed.proofs.packed_ext_field.PackedExtFieldPrimeCharacteristicRing.mul_2exp_u64.Goals as goal
-
-pub returns : goal.returns
-returns g c =
-    let m = g.met.F.ExtensionAlgebra in
-    packed_double (ring_of g.met.P.PrimeCharacteristicRing.ring) g.met.P.Algebra.embeds m.at_least_two g.F.ExtensionAlgebra.modulus m.monic
-    c.args.self.now c.new.result c.args.exponent c.loop-i.value c.loop-i.i c.loop-i-test.false c.new.ensures c.loop-i.invariant.1

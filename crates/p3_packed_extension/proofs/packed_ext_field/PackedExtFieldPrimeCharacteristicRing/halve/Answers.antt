@@ -1,0 +1,14 @@
+use Rattle.p3_theory.specs.Rings.Ring.{ring_of}
+use Rattle.p3_packed_extension.specs.PackedValues.{packed_half_of_base, packed_half}
+use Rattle.p3_packed_extension.proofs.packed_ext_field.PackedExtFieldPrimeCharacteristicRing.halve.Goals as goal
+
+pub halve-requires : goal.halve-requires
+halve-requires g c =
+    let m = g.met.F.ExtensionAlgebra in
+    packed_half_of_base (ring_of g.met.P.PrimeCharacteristicRing.ring) g.met.P.Algebra.embeds m.at_least_two g.F.ExtensionAlgebra.modulus m.monic c.requires
+
+pub returns : goal.returns
+returns g c =
+    let m = g.met.F.ExtensionAlgebra in
+    packed_half (ring_of g.met.P.PrimeCharacteristicRing.ring) g.met.P.Algebra.embeds m.at_least_two g.F.ExtensionAlgebra.modulus m.monic
+    c.args.self.now c.new.result c.loop-i.value c.loop-i.i c.loop-i-test.false c.new.ensures c.loop-i.invariant.1

@@ -1,0 +1,6 @@
+use Rattle.p3_theory.specs.ResidueRings.Residues.{is_of}
+use Rattle.p3_prime_fields.specs.Elements.{is}
+use Rattle.p3_prime_fields.proofs.lane_sums.SumsEntryOperationFp.of_values.Goals as goal
+
+pub returns : goal.returns
+returns g c = is_of (is g.W.Form) c.add.result _ c.add.ensures

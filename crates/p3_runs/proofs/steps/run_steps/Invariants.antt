@@ -1,8 +1,0 @@
-use Rattle.std.proofs.Common.{◌≡◌, drop}
-use Rattle.p3_runs.specs.Runs.{run}
-use Rattle.p3_runs.proofs.steps.run_steps.Given as goal
-
-abbrev pub invariant-loop-step : goal.invariant-loop-step
-invariant-loop-step g l =
-    let o = g.R.PrimeCharacteristicRing.ops in
-    run o (drop l.step-index l.steps) l.regs ≡ run o l.steps l.initial.regs

@@ -1,2 +1,0 @@
-mod InversionLaws
-mod RoundLaws

@@ -1,2 +1,0 @@
-pub mod Inversions
-pub mod Rounds

@@ -1,2 +1,0 @@
-mod CoefficientLists
-mod WordGroups

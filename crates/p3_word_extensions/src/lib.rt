@@ -1,6 +1,0 @@
-//! Calls over the values of an extension, each stored as the words of its coefficients.
-#![tactic(auto)]
-
-pub mod extensions;
-pub mod grouped;
-mod groups;

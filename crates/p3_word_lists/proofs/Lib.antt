@@ -1,2 +1,0 @@
-mod BlockTotals
-mod PowerBlocks

@@ -1,2 +1,0 @@
-mod GivenOrders
-mod RunLengths

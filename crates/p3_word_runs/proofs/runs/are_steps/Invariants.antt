@@ -1,7 +1,0 @@
-use Rattle.std.proofs.Common.{take}
-use Rattle.std.specs.Prelude.{All}
-use Rattle.p3_word_runs.specs.Calls.{IsStep}
-use Rattle.p3_word_runs.proofs.runs.are_steps.Given as goal
-
-abbrev pub invariant-loop-i : goal.invariant-loop-i
-invariant-loop-i l = All (IsStep l.n) (take l.i l.steps)

@@ -1,8 +1,0 @@
-pub mod InvertedWords
-mod LaneProducts
-pub mod ListProducts
-pub mod PairedWords
-mod Refusals
-mod StoredProducts
-mod StoredSums
-mod WrittenWords

@@ -1,4 +1,0 @@
-pub mod Calls
-pub mod Fields
-pub mod Statuses
-pub mod Words
