@@ -12,13 +12,13 @@ ghost use Rattle.p3_c_calls.specs.RunCalls.{WritesRun};
 use p3_c_calls::coded::RunStep;
 use p3_c_calls::limbs::{most_digits, pack, split};
 use p3_c_calls::{cosets, runs};
-use p3_c_words::koala_bear::KoalaBear;
 use p3_c_words::status::{answer, status};
 use p3_c_words::stored::Stored;
 use p3_c_words::{inverses, numbers, pairs, points, totals};
 use p3_field_traits::field::{Field, TwoAdicField};
 use p3_integers::integers::Quotient;
 use p3_prime_fields::goldilocks::Goldilocks;
+use p3_prime_fields::koala_bear::KoalaBear;
 use p3_ring::ring::PrimeCharacteristicRing;
 use std::alloc::Global;
 

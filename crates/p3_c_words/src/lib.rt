@@ -6,7 +6,6 @@
 
 pub mod blocks;
 pub mod inverses;
-pub mod koala_bear;
 pub mod numbers;
 pub mod pairs;
 pub mod points;

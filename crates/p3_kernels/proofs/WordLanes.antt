@@ -4,6 +4,7 @@ use Rattle.std.proofs.Math.Nat.{mod-eq_of_lt, mod-eq-sub-mod}
 use Rattle.std.proofs.lemmas.Bool.{lt-ltb, le-ltb}
 use Rattle.std.proofs.lemmas.Bool.Decides.{leb_tells}
 use Rattle.p3_kernels.proofs.LaneOperations.{lane_by, width_by}
+use Rattle.p3_residues.proofs.ModularLanes.{least_lane}
 use lib.Lanes.{sel_l, top, zip2}
 use lib.ListN.{replicate}
 use borrow.Rule.Simd.Lanes.{act2}
@@ -36,13 +37,6 @@ one_reduced p s o m = elim (leb_tells p s) [
       let q : s - p < p = omega (arith, h.1) in
       rw e (lesser_right s (s - p) (omega (arith, h.1)) ∙ sym (mod-eq-sub-mod h.1 ∙ mod-eq_of_lt q)))
 ]
-
--- a lane of the lesser of two vectors
-least_lane : (us vs : List ℕ) (k : ℕ) → k < length us → length us ≡ length vs → get_or (sel_l (map (top 31) (zip2 less us vs)) us vs) k 0 ≡ lesser (get_or us k 0) (get_or vs k 0)
-least_lane [] vs k l e = absurd (omega arith)
-least_lane (u ∷ us) [] k l e = absurd (omega arith)
-least_lane (u ∷ us) (v ∷ vs) zero l e = refl
-least_lane (u ∷ us) (v ∷ vs) (suc k) l e = least_lane us vs k (omega arith) (omega arith)
 
 least_width : (us vs : List ℕ) → length us ≡ length vs → length (sel_l (map (top 31) (zip2 less us vs)) us vs) ≡ length us
 least_width [] vs e = refl

@@ -1,9 +1,8 @@
-//! Sums of four products in Montgomery's form of blocks of 4, 8 and 16 words, which are reduced once. In each lane
+//! Sums of four products in Montgomery's form of blocks of 4 and 8 words, which are reduced once. In each lane
 //! such a sum is what `montgomery_short_sum` says of one.
 ghost use Rattle.std.specs.Prelude.{◌≡◌, ℕ, ◌*◌, ◌%◌, ◌^◌, ◌<◌, length};
 ghost use Rattle.p3_kernels.specs.Words.{AreBelow, AreReduced, RowsAreBelow, dot_at};
 
-use crate::halves::{high_halves, join_halves, low_halves};
 use crate::lane_reductions::{reduce_short_sums_4, reduce_short_sums_8};
 use crate::wide_products::{sums_of_four, wide_products_4, wide_products_8};
 use std::simd::prelude::*;
@@ -11,7 +10,7 @@ use std::simd::prelude::*;
 /// In each of four lanes the residue that is the sum of four products once it is multiplied by 2^32. Of fewer
 /// products the others are those of zeros.
 #[inline(always)]
-pub fn montgomery_dot_products_4(
+pub(crate) fn montgomery_dot_products_4(
     left: [u32x4; 4],
     right: [u32x4; 4],
     order: u32,
@@ -39,7 +38,7 @@ pub fn montgomery_dot_products_4(
 /// In each of eight lanes the residue that is the sum of four products once it is multiplied by 2^32. Of fewer
 /// products the others are those of zeros.
 #[inline(always)]
-pub fn montgomery_dot_products_8(
+pub(crate) fn montgomery_dot_products_8(
     left: [u32x8; 4],
     right: [u32x8; 4],
     order: u32,
@@ -62,26 +61,4 @@ pub fn montgomery_dot_products_8(
     let even = sums_of_four::<4>(first.0, second.0, third.0, fourth.0);
     let odd = sums_of_four::<4>(first.1, second.1, third.1, fourth.1);
     reduce_short_sums_8(even, odd, order, inverse)
-}
-
-/// In each of sixteen lanes the residue that is the sum of four products once it is multiplied by 2^32, by two
-/// blocks of eight.
-#[inline(always)]
-pub fn montgomery_dot_products_16(
-    left: [u32x16; 4],
-    right: [u32x16; 4],
-    order: u32,
-    inverse: u32,
-) -> u32x16
-    requires fits { order < 2 ^ 31 }
-    requires inverse { (order * inverse) % 2 ^ 32 ≡ 1 }
-    requires left { RowsAreBelow 16 order left }
-    requires right { RowsAreBelow 16 order right }
-    ensures width { length result ≡ 16 }
-    ensures below { AreBelow 16 order result }
-    ensures value { AreReduced 16 order (dot_at left right) result }
-{
-    let low = montgomery_dot_products_8(low_halves(left), low_halves(right), order, inverse);
-    let high = montgomery_dot_products_8(high_halves(left), high_halves(right), order, inverse);
-    join_halves(low, high)
 }

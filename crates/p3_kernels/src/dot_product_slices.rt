@@ -27,7 +27,7 @@ fn load_8(row: &[u32], start: usize) -> u32x8
 
 /// The four words of each of four rows from an index on.
 #[inline(always)]
-pub fn load_rows_4(rows: [&[u32]; 4], start: usize) -> [u32x4; 4]
+pub(crate) fn load_rows_4(rows: [&[u32]; 4], start: usize) -> [u32x4; 4]
     requires { All (λ row. start + 4 ≤ length row.now) rows }
     ensures { result ≡ map (block_at start 4) (rows_of rows.entry) }
 {
@@ -42,7 +42,7 @@ pub fn load_rows_4(rows: [&[u32]; 4], start: usize) -> [u32x4; 4]
 
 /// The eight words of each of four rows from an index on.
 #[inline(always)]
-pub fn load_rows_8(rows: [&[u32]; 4], start: usize) -> [u32x8; 4]
+pub(crate) fn load_rows_8(rows: [&[u32]; 4], start: usize) -> [u32x8; 4]
     requires { All (λ row. start + 8 ≤ length row.now) rows }
     ensures { result ≡ map (block_at start 8) (rows_of rows.entry) }
 {
@@ -89,7 +89,7 @@ fn dot_product_at(left: [&[u32]; 4], right: [&[u32]; 4], i: usize, order: u32, i
 
 /// Writes at each index the residue that is the sum of the four products there once it is multiplied by 2^32.
 #[inline(always)]
-pub fn write_dot_products(
+pub(crate) fn write_dot_products(
     out: &mut [u32],
     left: [&[u32]; 4],
     right: [&[u32]; 4],

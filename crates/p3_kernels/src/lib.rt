@@ -6,7 +6,6 @@
 pub mod dot_product_blocks;
 pub mod dot_product_slices;
 mod halfwords;
-mod halves;
 mod lane_reductions;
 pub mod montgomery_blocks;
 pub mod montgomery_slices;

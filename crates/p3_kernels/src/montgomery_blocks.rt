@@ -1,16 +1,15 @@
-//! Products in Montgomery's form of blocks of 4, 8 and 16 words, which hold residues times 2^32, modulo an odd
+//! Products in Montgomery's form of blocks of 4 and 8 words, which hold residues times 2^32, modulo an odd
 //! order below 2^31. In each lane a product is what `montgomery_product` says of one word.
 ghost use Rattle.std.specs.Prelude.{◌≡◌, ℕ, ◌*◌, ◌%◌, ◌^◌, ◌<◌, length};
 ghost use Rattle.p3_kernels.specs.Words.{AreBelow, AreReduced, product_at};
 
-use crate::halves::{high_half, join_halves, low_half};
 use crate::lane_reductions::{reduce_4, reduce_8};
 use crate::wide_products::{wide_products_4, wide_products_8};
 use std::simd::prelude::*;
 
 /// In each of four lanes the residue that is the product of both words once it is multiplied by 2^32.
 #[inline(always)]
-pub fn montgomery_products_4(left: u32x4, right: u32x4, order: u32, inverse: u32) -> u32x4
+pub(crate) fn montgomery_products_4(left: u32x4, right: u32x4, order: u32, inverse: u32) -> u32x4
     requires fits { order < 2 ^ 31 }
     requires inverse { (order * inverse) % 2 ^ 32 ≡ 1 }
     requires left { AreBelow 4 order left }
@@ -24,7 +23,7 @@ pub fn montgomery_products_4(left: u32x4, right: u32x4, order: u32, inverse: u32
 
 /// In each of eight lanes the residue that is the product of both words once it is multiplied by 2^32.
 #[inline(always)]
-pub fn montgomery_products_8(left: u32x8, right: u32x8, order: u32, inverse: u32) -> u32x8
+pub(crate) fn montgomery_products_8(left: u32x8, right: u32x8, order: u32, inverse: u32) -> u32x8
     requires fits { order < 2 ^ 31 }
     requires inverse { (order * inverse) % 2 ^ 32 ≡ 1 }
     requires left { AreBelow 8 order left }
@@ -34,20 +33,4 @@ pub fn montgomery_products_8(left: u32x8, right: u32x8, order: u32, inverse: u32
 {
     let products = wide_products_8(left, right);
     reduce_8(products.0, products.1, order, inverse)
-}
-
-/// In each of sixteen lanes the residue that is the product of both words once it is multiplied by 2^32. Two
-/// blocks of eight are faster than vectors of sixteen words in one.
-#[inline(always)]
-pub fn montgomery_products_16(left: u32x16, right: u32x16, order: u32, inverse: u32) -> u32x16
-    requires fits { order < 2 ^ 31 }
-    requires inverse { (order * inverse) % 2 ^ 32 ≡ 1 }
-    requires left { AreBelow 16 order left }
-    ensures width { length result ≡ 16 }
-    ensures below { AreBelow 16 order result }
-    ensures value { AreReduced 16 order (product_at left right) result }
-{
-    let low = montgomery_products_8(low_half(left), low_half(right), order, inverse);
-    let high = montgomery_products_8(high_half(left), high_half(right), order, inverse);
-    join_halves(low, high)
 }

@@ -253,7 +253,7 @@ fn write_lanes<R: WordRow<N>, V: WordVectors<L, H>, const N: usize, const L: usi
 /// The sums of the products of two lists of rows, lane by lane. `None` where the number of lanes is neither four
 /// nor a multiple of eight.
 #[inline(always)]
-pub fn sums_of_rows<R: WordRow<N>, const N: usize>(u: &[R], v: &[R]) -> Option<[u128; N]>
+pub(crate) fn sums_of_rows<R: WordRow<N>, const N: usize>(u: &[R], v: &[R]) -> Option<[u128; N]>
     requires lengths { length u.now ≡ length v.now }
     requires few { length u.now ≤ 2 ^ 16 }
     requires short { (k : ℕ) (x : R) → k < N → R.word k x < 2 ^ 31 }

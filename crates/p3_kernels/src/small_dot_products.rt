@@ -77,7 +77,7 @@ fn short_sums<const N: usize>(
 
 /// The sum of the four products modulo the order in each of four lanes.
 #[inline(always)]
-pub fn small_dot_products_4(left: [u32x4; 4], right: [u32x4; 4], order: u32) -> u32x4
+pub(crate) fn small_dot_products_4(left: [u32x4; 4], right: [u32x4; 4], order: u32) -> u32x4
     requires fits { order ≤ 2 ^ 7 }
     requires left { RowsAreBelow 4 order left }
     requires right { RowsAreBelow 4 order right }
@@ -93,7 +93,7 @@ pub fn small_dot_products_4(left: [u32x4; 4], right: [u32x4; 4], order: u32) -> 
 
 /// The sum of the four products modulo the order in each of eight lanes.
 #[inline(always)]
-pub fn small_dot_products_8(left: [u32x8; 4], right: [u32x8; 4], order: u32) -> u32x8
+pub(crate) fn small_dot_products_8(left: [u32x8; 4], right: [u32x8; 4], order: u32) -> u32x8
     requires fits { order ≤ 2 ^ 7 }
     requires left { RowsAreBelow 8 order left }
     requires right { RowsAreBelow 8 order right }
@@ -139,7 +139,12 @@ fn small_dot_product_at(left: [&[u32]; 4], right: [&[u32]; 4], i: usize, order: 
 
 /// Writes at each index the sum of the four products there, modulo the order.
 #[inline(always)]
-pub fn write_small_dot_products(out: &mut [u32], left: [&[u32]; 4], right: [&[u32]; 4], order: u32)
+pub(crate) fn write_small_dot_products(
+    out: &mut [u32],
+    left: [&[u32]; 4],
+    right: [&[u32]; 4],
+    order: u32,
+)
     requires fits { order ≤ 2 ^ 7 }
     requires left_lengths { All (λ row. length row.now ≡ length out.old) left }
     requires right_lengths { All (λ row. length row.now ≡ length out.old) right }

@@ -9,7 +9,7 @@ use std::simd::prelude::*;
 
 /// The products of four words by four others, which have 16 bits: those of the halves are these, and zeros.
 #[inline(always)]
-pub fn whole_products_4(left: u32x4, right: u32x4) -> u32x4
+pub(crate) fn whole_products_4(left: u32x4, right: u32x4) -> u32x4
     requires left { AreBelow 4 (2 ^ 8) left }
     requires right { AreBelow 4 (2 ^ 8) right }
     ensures width { length result ≡ 4 }
@@ -23,7 +23,7 @@ pub fn whole_products_4(left: u32x4, right: u32x4) -> u32x4
 
 /// The products of eight words by eight others, which have 16 bits: those of the halves are these, and zeros.
 #[inline(always)]
-pub fn whole_products_8(left: u32x8, right: u32x8) -> u32x8
+pub(crate) fn whole_products_8(left: u32x8, right: u32x8) -> u32x8
     requires left { AreBelow 8 (2 ^ 8) left }
     requires right { AreBelow 8 (2 ^ 8) right }
     ensures width { length result ≡ 8 }

@@ -30,7 +30,7 @@ pub(crate) fn high_products<const H: usize>(left: Simd<u64, H>, right: Simd<u64,
 
 /// The sums of four numbers, as two sums of two.
 #[inline(always)]
-pub fn sums_of_four<const H: usize>(
+pub(crate) fn sums_of_four<const H: usize>(
     first: Simd<u64, H>,
     second: Simd<u64, H>,
     third: Simd<u64, H>,
@@ -66,7 +66,7 @@ pub(crate) fn wide_products_4(left: u32x4, right: u32x4) -> (u64x2, u64x2)
 
 /// The products of eight words by eight others: of those with an even index, and of those with an odd one.
 #[inline(always)]
-pub fn wide_products_8(left: u32x8, right: u32x8) -> (u64x4, u64x4)
+pub(crate) fn wide_products_8(left: u32x8, right: u32x8) -> (u64x4, u64x4)
     ensures even_width { length result.0 ≡ 4 }
     ensures odd_width { length result.1 ≡ 4 }
     ensures even { (k : ℕ) → k < 4 → slice_index result.0 k ≡ product_at left right (2 * k) }

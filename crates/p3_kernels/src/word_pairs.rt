@@ -45,7 +45,7 @@ pub(crate) fn words_of_8(pairs: u64x4) -> u32x8
 
 /// The low words of pairs.
 #[inline(always)]
-pub fn low_words<const H: usize>(pairs: Simd<u64, H>) -> Simd<u64, H>
+pub(crate) fn low_words<const H: usize>(pairs: Simd<u64, H>) -> Simd<u64, H>
     ensures width { length result ≡ H }
     ensures lanes { (k : ℕ) → k < H → slice_index result k ≡ slice_index pairs.entry k % 2 ^ 32 }
 {
@@ -54,7 +54,7 @@ pub fn low_words<const H: usize>(pairs: Simd<u64, H>) -> Simd<u64, H>
 
 /// The high words of pairs.
 #[inline(always)]
-pub fn high_words<const H: usize>(pairs: Simd<u64, H>) -> Simd<u64, H>
+pub(crate) fn high_words<const H: usize>(pairs: Simd<u64, H>) -> Simd<u64, H>
     ensures width { length result ≡ H }
     ensures lanes { (k : ℕ) → k < H → slice_index result k ≡ slice_index pairs.entry k / 2 ^ 32 }
 {

@@ -60,7 +60,7 @@ one_difference p x y o l m = elim (leb_tells y x) [
 ]
 
 -- a lane of the lesser of two vectors
-least_lane : (us vs : List ℕ) (k : ℕ) → k < length us → length us ≡ length vs → get_or (sel_l (map (top 31) (zip2 less us vs)) us vs) k 0 ≡ lesser (get_or us k 0) (get_or vs k 0)
+pub least_lane : (us vs : List ℕ) (k : ℕ) → k < length us → length us ≡ length vs → get_or (sel_l (map (top 31) (zip2 less us vs)) us vs) k 0 ≡ lesser (get_or us k 0) (get_or vs k 0)
 least_lane [] vs k l e = absurd (omega arith)
 least_lane (u ∷ us) [] k l e = absurd (omega arith)
 least_lane (u ∷ us) (v ∷ vs) zero l e = refl

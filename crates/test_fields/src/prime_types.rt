@@ -106,7 +106,7 @@ fn baby_bear(rt: HostRuntime) -> Result<(), Fail> {
 
 #[test]
 fn koala_bear(rt: HostRuntime) -> Result<(), Fail> {
-    assert_prime::<Plain<KoalaBearModulus>, u32>(
+    assert_prime::<Montgomery<KoalaBearModulus>, u32>(
         &rt,
         &[tables::KOALA_BEAR, tables::KOALA_BEAR_HALVES],
     )

@@ -1,8 +1,7 @@
 //! What the README shows of a call of the library.
 
 use p3_field::Field;
-use p3_prime_fields::extensions::F17x2;
-use p3_prime_fields::small::F17;
+use p3_fields::{F17, F17x2};
 
 #[test]
 fn inverse_of_an_extension_value(rt: HostRuntime) {

@@ -22,6 +22,12 @@ into_bytes;220298451;148,211,252,67
 into_u64_stream;1,2;2305842992302260222
 into_u64_stream;;";
 
+/// Values of `kb`, which are stored as words in Montgomery's form.
+pub(crate) const KOALA_BEAR: &str = "into_bytes;1;254,255,255,1
+into_bytes;123456789;77,187,42,36
+into_u32_stream;2130706432;2097152003
+into_u64_stream;1,2;288230359005396990";
+
 /// Values of the extension of `f17` by `X^2 = 3`.
 pub(crate) const F17X2: &str = "into_byte_stream;1,2,20,16;1,0,0,0,2,0,0,0,3,0,0,0,16,0,0,0";
 

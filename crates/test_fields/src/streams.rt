@@ -9,6 +9,7 @@ use p3_prime_fields::baby_bear::{BabyBear, BabyBearModulus};
 use p3_prime_fields::form::{Plain, ShortForm};
 use p3_prime_fields::fp::Fp;
 use p3_prime_fields::goldilocks::Goldilocks;
+use p3_prime_fields::koala_bear::KoalaBearModulus;
 use p3_prime_fields::montgomery::Montgomery;
 use p3_prime_fields::small::{F17, M2, M17};
 use std::alloc::{AllocError, Global};
@@ -112,6 +113,7 @@ fn streams_of_residues(rt: HostRuntime) -> Result<(), Fail> {
     assert_residues::<Plain<M2>>(&rt, tables::F2)?;
     assert_residues::<Plain<M17>>(&rt, tables::F17)?;
     assert_residues::<Montgomery<BabyBearModulus>>(&rt, tables::BABY_BEAR)?;
+    assert_residues::<Montgomery<KoalaBearModulus>>(&rt, tables::KOALA_BEAR)?;
     assert_streams::<Goldilocks>(&rt, tables::GOLDILOCKS)
 }
 

@@ -322,7 +322,7 @@ fn packings_of_baby_bear(rt: HostRuntime) -> Result<(), Fail> {
 #[test]
 fn packings_of_koala_bear(rt: HostRuntime) -> Result<(), Fail> {
     for lists in OF_KOALA_BEAR {
-        assert!(rt; all_agree::<Plain<KoalaBearModulus>>(rt.alloc(), lists)?);
+        assert!(rt; all_agree::<Montgomery<KoalaBearModulus>>(rt.alloc(), lists)?);
     }
     Ok(())
 }
@@ -376,7 +376,9 @@ fn many_values(rt: HostRuntime) -> Result<(), Fail> {
         assert!(rt; short_values_agree::<Montgomery<BabyBearModulus>>(rt.alloc(), &VALUES, lists)?);
     }
     for lists in OF_KOALA_BEAR {
-        assert!(rt; short_values_agree::<Plain<KoalaBearModulus>>(rt.alloc(), &VALUES, lists)?);
+        assert!(rt;
+            short_values_agree::<Montgomery<KoalaBearModulus>>(rt.alloc(), &VALUES, lists)?
+        );
     }
     for lists in OF_GOLDILOCKS {
         assert!(rt; all_values_agree::<GoldilocksForm, u64>(rt.alloc(), None, &VALUES, lists)?);

@@ -1,13 +1,12 @@
-//! KoalaBear in Montgomery's form: packings and values, and by the calls over stored words their numbers, products,
-//! sums and dot products, against plain arithmetic.
+//! Words that are stored for values of KoalaBear: their numbers, products, sums and dot products, against plain
+//! arithmetic.
 use crate::cases::Arithmetic;
-use crate::long_products::{OF_KOALA_BEAR, VALUES, all_agree, short_values_agree};
 use crate::number_rules::{Rule, plain, plain_at, plain_dot};
 use crate::numbered::number_at;
-use p3_c_words::koala_bear::KoalaBearModulus;
 use p3_c_words::numbers::{from_canonical, to_canonical};
 use p3_c_words::stored::Stored;
 use p3_prime_fields::fp::Fp;
+use p3_prime_fields::koala_bear::KoalaBearModulus;
 use p3_prime_fields::montgomery::{Montgomery, MontgomeryModulus};
 use std::alloc::{AllocError, Global};
 use std::test::Fail;
@@ -178,29 +177,4 @@ fn words_of_koala_bear(rt: HostRuntime) -> Result<(), Fail> {
         }
     }
     Ok(())
-}
-
-#[test]
-fn packings_in_montgomery_form(rt: HostRuntime) -> Result<(), Fail> {
-    for lists in OF_KOALA_BEAR {
-        assert!(rt; all_agree::<Montgomery<KoalaBearModulus>>(rt.alloc(), lists)?);
-    }
-    Ok(())
-}
-
-#[test]
-fn values_in_montgomery_form(rt: HostRuntime) -> Result<(), Fail> {
-    for lists in OF_KOALA_BEAR {
-        assert!(rt;
-            short_values_agree::<Montgomery<KoalaBearModulus>>(rt.alloc(), &VALUES, lists)?
-        );
-    }
-    Ok(())
-}
-
-#[test]
-fn other_words_are_refused(rt: HostRuntime) {
-    assert!(rt; is_word_of(2130706432, 1073676289));
-    assert!(rt; !is_word_of(2130706431, 1073676289));
-    assert!(rt; !are_products(&[2130706432], &[1073676289], &[2]));
 }

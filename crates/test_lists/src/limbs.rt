@@ -211,7 +211,7 @@ fn assert_lines<W: ShortForm, V: Form<T>, T: Word>(
 fn limbs_between_fields(rt: HostRuntime) -> Result<(), Fail> {
     assert_lines::<Plain<M17>, Montgomery<BabyBearModulus>, u32>(&rt, tables::F17_INTO_BB)?;
     assert_lines::<Plain<M2>, Plain<M17>, u32>(&rt, tables::F2_INTO_F17)?;
-    assert_lines::<Plain<KoalaBearModulus>, Montgomery<BabyBearModulus>, u32>(
+    assert_lines::<Montgomery<KoalaBearModulus>, Montgomery<BabyBearModulus>, u32>(
         &rt,
         tables::KB_INTO_BB,
     )?;
@@ -221,10 +221,10 @@ fn limbs_between_fields(rt: HostRuntime) -> Result<(), Fail> {
     assert_lines::<Plain<M2>, Plain<M2>, u32>(&rt, tables::F2_INTO_F2)?;
     assert_lines::<Plain<M17>, Plain<M2>, u32>(&rt, tables::F17_INTO_F2)?;
     assert_lines::<Plain<M17>, Plain<M17>, u32>(&rt, tables::F17_INTO_F17)?;
-    assert_lines::<Plain<M31>, Plain<KoalaBearModulus>, u32>(&rt, tables::F31_INTO_KB)?;
+    assert_lines::<Plain<M31>, Montgomery<KoalaBearModulus>, u32>(&rt, tables::F31_INTO_KB)?;
     assert_lines::<Plain<M15>, Montgomery<BabyBearModulus>, u32>(&rt, tables::Z15_INTO_BB)?;
-    assert_lines::<Plain<KoalaBearModulus>, GoldilocksForm, u64>(&rt, tables::KB_INTO_GL)?;
-    assert_lines::<Montgomery<BabyBearModulus>, Plain<KoalaBearModulus>, u32>(
+    assert_lines::<Montgomery<KoalaBearModulus>, GoldilocksForm, u64>(&rt, tables::KB_INTO_GL)?;
+    assert_lines::<Montgomery<BabyBearModulus>, Montgomery<KoalaBearModulus>, u32>(
         &rt,
         tables::BB_INTO_KB,
     )?;
