@@ -2,7 +2,7 @@
 
 CRATE ?= p3_ring
 
-.PHONY: help try run test check prove fmt docs gate bench bindings
+.PHONY: help try run test check prove fmt docs gate bench bindings rust
 
 help: ## lists these commands
 	@sed -n 's/^\([a-z]*\):.*## /\1: /p' Makefile
@@ -39,3 +39,7 @@ bench: ## times the library beside plain Rust
 
 bindings: ## the proved library for C and Rust
 	scripts/bindings
+
+rust: ## the Rust crate made of the sources, and its tests; it needs Python and stable Rust alone
+	scripts/to-rust
+	cd rust && cargo test --offline

@@ -1,5 +1,6 @@
 """The kit's commands over libraries that are proved: what scripts/prove and scripts/check-over share."""
 import os
+import shutil
 import subprocess
 import sys
 
@@ -7,7 +8,8 @@ sys.dont_write_bytecode = True
 
 # The checkout of the script that runs, by the path that it was called by: scripts/ may be a link to another one's.
 ROOT = os.path.dirname(os.path.dirname(os.path.abspath(sys.argv[0])))
-KIT = os.path.dirname(subprocess.run(["rt", "doc"], capture_output=True, text=True).stdout.strip())
+# The kit's folder; empty where there is no kit, as for scripts that need none.
+KIT = os.path.dirname(subprocess.run(["rt", "doc"], capture_output=True, text=True).stdout.strip() if shutil.which("rt") else "")
 TOOLCHAIN = f"{KIT}/toolchain"
 
 
