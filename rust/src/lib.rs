@@ -17,6 +17,8 @@
 #![cfg_attr(feature = "nightly", feature(portable_simd))]
 
 extern crate alloc;
+#[cfg(test)]
+extern crate std;
 
 mod by_upstream;
 mod proved;

@@ -27,14 +27,14 @@ pub mod alloc {
     impl Allocator for Global {}
 }
 
-use ::alloc::vec;
+use ::alloc::vec as heap;
 use alloc::{AllocError, Allocator, Global};
 use core::ops::{Deref, DerefMut};
 
 /// A vector whose growth may be refused. `into` makes it Rust's own, without a copy.
 #[derive(PartialEq)]
 pub struct Vec<T, A: Allocator = Global> {
-    items: vec::Vec<T>,
+    items: heap::Vec<T>,
     alloc: A,
 }
 
@@ -48,13 +48,13 @@ impl<T, A: Allocator> Vec<T, A> {
     /// A vector without items, which takes no memory.
     #[inline]
     pub fn new(alloc: A) -> Self {
-        Vec { items: vec::Vec::new(), alloc }
+        Vec { items: heap::Vec::new(), alloc }
     }
 
     /// A vector without items, with room for so many.
     #[inline]
     pub fn with_capacity(alloc: A, capacity: usize) -> Result<Self, AllocError> {
-        let mut items = vec::Vec::new();
+        let mut items = heap::Vec::new();
         items.try_reserve_exact(capacity).map_err(|_| AllocError)?;
         Ok(Vec { items, alloc })
     }
@@ -123,14 +123,14 @@ impl<T, A: Allocator> DerefMut for Vec<T, A> {
     }
 }
 
-impl<T> From<vec::Vec<T>> for Vec<T> {
+impl<T> From<heap::Vec<T>> for Vec<T> {
     #[inline]
-    fn from(items: vec::Vec<T>) -> Self {
+    fn from(items: heap::Vec<T>) -> Self {
         Vec { items, alloc: Global }
     }
 }
 
-impl<T, A: Allocator> From<Vec<T, A>> for vec::Vec<T> {
+impl<T, A: Allocator> From<Vec<T, A>> for heap::Vec<T> {
     #[inline]
     fn from(vector: Vec<T, A>) -> Self {
         vector.items
@@ -139,7 +139,7 @@ impl<T, A: Allocator> From<Vec<T, A>> for vec::Vec<T> {
 
 impl<T, A: Allocator> IntoIterator for Vec<T, A> {
     type Item = T;
-    type IntoIter = vec::IntoIter<T>;
+    type IntoIter = heap::IntoIter<T>;
 
     #[inline]
     fn into_iter(self) -> Self::IntoIter {
@@ -194,6 +194,13 @@ pub trait Collect: Iterator + Sized {
 }
 
 impl<I: Iterator> Collect for I {}
+
+#[cfg(test)]
+mod in_tests;
+#[cfg(test)]
+pub use in_tests::{Abort, AllocGlobal, Fail, HostRuntime, String, made, shown};
+#[cfg(test)]
+pub(crate) use in_tests::{format, vec};
 
 #[cfg(not(feature = "nightly"))]
 #[allow(non_camel_case_types, missing_docs)]
