@@ -14,6 +14,6 @@ pub use p3_prime_fields::goldilocks::Goldilocks;
 pub use p3_prime_fields::koala_bear::{KoalaBear, KoalaBearModulus};
 pub use p3_prime_fields::small::{F2, F17, F17b, F31, Z15};
 pub use p3_prime_fields::{
-    binomial_constants, form, monomials, montgomery, polynomial_constants, two_adic,
+    binomial_constants, form, fp, monomials, montgomery, polynomial_constants, two_adic,
     two_adic_constants,
 };
