@@ -3,7 +3,6 @@
 use crate::packings::{ExtensionRuns, ExtensionVectors};
 use crate::runs::Run;
 use crate::value_calls::{Call, agrees};
-use crate::values::Canonical;
 use p3_extension::extension::{
     Binomial, Cubic, CubicTrinomial, ExtField, ExtensionShape, FrobeniusExtendable,
     IntegerPolynomial, Modulo, Septic, SepticTrinomial,
@@ -15,6 +14,7 @@ use p3_prime_fields::form::{Form, OverModulus};
 use p3_prime_fields::fp::Fp;
 use p3_prime_fields::polynomial_constants::PolynomialConstants;
 use std::alloc::{AllocError, Global};
+use test_values::canonical::Canonical;
 
 /// Whether a call on the values of an extension of F gives what is told. Nothing is read of `_room`.
 fn extension_agrees<F: FrobeniusExtendable<D, S> + Canonical, S: ExtensionShape, const D: usize>(

@@ -4,12 +4,13 @@ use crate::residues::{F17n, F17s, F31s, NilpotentM17, SplitM17, SplitM31, SplitM
 use crate::split_tables::SPLITS;
 use crate::texts::{list_of, lists_of};
 use crate::value_calls::Call;
-use crate::values::List;
 use p3_extension::extension::{Binomial, CubicTrinomial};
 use p3_prime_fields::form::Plain;
 use std::alloc::{AllocError, Global};
 use std::process::Abort;
 use std::test::Fail;
+use test_values::lists::List;
+use test_values::texts::named;
 
 /// The extensions that are no fields.
 #[derive(Clone, Copy)]
@@ -37,17 +38,6 @@ static NAMES: [(&str, SplitExtension); 8] = [
 ];
 
 impl SplitExtension {
-    /// The extension of a name.
-    fn of_name(name: &str) -> Option<Self> {
-        for row in NAMES {
-            let (known, extension) = row;
-            if known == name {
-                return Some(extension);
-            }
-        }
-        None
-    }
-
     /// Whether a call on values gives what is told.
     fn agrees(self, alloc: Global, call: &Call<'_>) -> Result<bool, AllocError> {
         match self {
@@ -97,7 +87,7 @@ impl<'a> Row<'a> {
         let (name, sides) = line.split_once(':')?;
         let mut parts = sides.split('|');
         Some(Row {
-            extension: SplitExtension::of_name(name)?,
+            extension: named(&NAMES, name)?,
             inverses: parts.next()?,
             before: parts.next()?,
             after: parts.next()?,

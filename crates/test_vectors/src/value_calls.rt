@@ -1,10 +1,11 @@
 //! The calls that take inverses of values.
 ghost use Rattle.p3_helpers.specs.FieldRuns.{OrdersGiven};
 
-use crate::values::{List, Listed, ZERO};
+use crate::values::Listed;
 use p3_field_traits::field::Field;
 use p3_helpers::steps::{FieldStep, StepFault, StepRefused, run_field_steps, steps_fit};
 use std::alloc::{AllocError, Global};
+use test_values::lists::{List, ZERO};
 
 /// A call on values.
 #[derive(Clone, Copy)]

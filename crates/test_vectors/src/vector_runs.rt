@@ -12,6 +12,7 @@ use p3_prime_fields::small::{M2, M17, M31};
 use std::alloc::{AllocError, Global};
 use std::process::Abort;
 use std::test::Fail;
+use test_values::texts::named;
 
 /// The extensions.
 #[derive(Clone, Copy)]
@@ -34,17 +35,6 @@ static NAMES: [(&str, Extension); 5] = [
 ];
 
 impl Extension {
-    /// The extension of a name.
-    fn of_name(name: &str) -> Option<Self> {
-        for row in NAMES {
-            let (known, extension) = row;
-            if known == name {
-                return Some(extension);
-            }
-        }
-        None
-    }
-
     /// Whether a run leaves what it has to, over packings of so many values; false where there are no such
     /// packings here.
     fn run_agrees(self, alloc: Global, lanes: usize, run: &Run<'_>) -> Result<bool, AllocError> {
@@ -83,17 +73,6 @@ static KINDS: [(&str, StepKind); 8] = [
     ("Mul", StepKind::Mul),
 ];
 
-/// The kind of a name.
-fn kind_of(name: &str) -> Option<StepKind> {
-    for row in KINDS {
-        let (known, kind) = row;
-        if known == name {
-            return Some(kind);
-        }
-    }
-    None
-}
-
 /// The step with one register read.
 fn unary_step(kind: StepKind, d: usize, a: usize) -> Option<Step> {
     match kind {
@@ -120,7 +99,7 @@ fn binary_step(kind: StepKind, d: usize, a: usize, last: u64) -> Option<Step> {
 /// The step of a word, as `Add:0:1:2`.
 fn step(word: &str) -> Option<Step> {
     let mut parts = word.split(':');
-    let kind = kind_of(parts.next()?)?;
+    let kind = named(&KINDS, parts.next()?)?;
     let d = parts.next()?.parse::<usize>().ok()?;
     let a = parts.next()?.parse::<usize>().ok()?;
     match parts.next() {
@@ -162,7 +141,7 @@ impl<'a> Row<'a> {
         let (before, steps) = arguments.split_once('|')?;
         let mut words = head.split(' ');
         Some(Row {
-            extension: Extension::of_name(words.next()?)?,
+            extension: named(&NAMES, words.next()?)?,
             lanes: words.next()?.parse::<usize>().ok()?,
             packings: words.nth(1)?.parse::<usize>().ok()?,
             before,
