@@ -1,4 +1,4 @@
-//! The front of the library: every public name at its path, over the crates that hold them.
+//! The public interface of the library: every public name at its path, over the crates that hold them.
 #![tactic(auto)]
 
 pub mod bounds;

@@ -1,5 +1,5 @@
 //! Arithmetic of words on the lanes of vectors, over no field: products in Montgomery's form and modulo small orders
-//! and sums of four of them, for blocks of 4, 8 and 16 words and for slices of every length, sums of products of any
+//! and sums of four of them, for blocks of 4 and 8 words and for slices of every length, sums of products of any
 //! number, and sums and differences of arrays.
 #![tactic(auto)]
 

@@ -12,14 +12,12 @@ use p3_kernels::dot_product_slices::array_dot_products;
 use p3_kernels::small_dot_products::array_small_dot_products;
 use p3_prime_fields::form::{Form, Word};
 use p3_prime_fields::fp::Fp;
+use p3_prime_fields::lane_products::BYTE_ORDERS;
 use p3_prime_fields::lane_words::{MOST_LANES, values_of, words_of};
 use p3_ring::ring::PrimeCharacteristicRing;
 
 /// Orders up to which sums of four products of residues have 16 bits.
 const SMALL_ORDERS: u64 = 0x80;
-
-/// Orders up to which products of residues have 16 bits.
-const SHORT_ORDERS: u64 = 0x100;
 
 /// A type that may have the dot products of rows of N values at once. This project's own.
 pub trait LaneDotProducts<const N: usize>: PrimeCharacteristicRing {
@@ -131,7 +129,7 @@ impl<W: Form<T>, T: Word, const N: usize> LaneDotProducts<N> for Fp<W, T> {
     ) -> Option<Packed<Self, N>> {
         if W::INVERSE > 0 && N <= MOST_LANES {
             montgomery_dot_of_slices::<W, T, N>(left, right)
-        } else if W::PLAIN && W::ORDER <= SHORT_ORDERS && N <= MOST_LANES {
+        } else if W::PLAIN && W::ORDER <= BYTE_ORDERS && N <= MOST_LANES {
             small_dot_of_slices::<W, T, N>(left, right)
         } else {
             None

@@ -4,7 +4,7 @@ ghost use Rattle.p3_theory.specs.ResidueRings.RootsOfUnity.{is_root_of_unity};
 
 use crate::form::{Order, OverModulus};
 use crate::fp::Fp;
-use crate::lane_products::SMALL_ORDERS;
+use crate::lane_products::BYTE_ORDERS;
 use p3_extension::extension::{
     Binomial, BinomiallyExtendable, ExtensionAlgebra, ExtensionOverAlgebra, ExtensionProduct,
     PackedProduct,
@@ -86,7 +86,7 @@ where
     #[inline(always)]
     fn ext_square(a: &[Self], res: &mut [Self]) {
         let w = Self::new(<W::Modulus>::W);
-        if D > 4 && W::ORDER <= SMALL_ORDERS {
+        if D > 4 && W::ORDER <= BYTE_ORDERS {
             ring_product::<Self, D>(a, a, res, w);
         } else {
             ring_square::<Self, D>(a, res, w);

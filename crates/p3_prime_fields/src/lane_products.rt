@@ -12,8 +12,8 @@ use p3_kernels::small_products::multiply_small_arrays;
 use p3_slice_kernels::entrywise::{BLOCK, EntryOperation, take_entrywise, write_with_one};
 use std::ops::Mul;
 
-/// Orders up to which products of residues have 16 bits.
-pub(crate) const SMALL_ORDERS: u64 = 0x100;
+/// Orders up to which a residue has a byte, so that a product of two has 16 bits.
+pub const BYTE_ORDERS: u64 = 0x100;
 
 /// The products, one after the other.
 #[inline(always)]
@@ -79,7 +79,7 @@ pub fn lane_products<W: Form<T>, T: Word, const N: usize>(
 {
     if W::INVERSE > 0 && N <= MOST_LANES {
         montgomery_products::<W, T, N>(left, right)
-    } else if W::PLAIN && W::ORDER <= SMALL_ORDERS && N <= MOST_LANES {
+    } else if W::PLAIN && W::ORDER <= BYTE_ORDERS && N <= MOST_LANES {
         small_products::<W, T, N>(left, right)
     } else {
         products_by_index::<Fp<W, T>, N>(left, right)
@@ -89,7 +89,7 @@ pub fn lane_products<W: Form<T>, T: Word, const N: usize>(
 /// Whether products of these residues go by vectors.
 #[inline(always)]
 pub(crate) fn by_vectors<W: Form<T>, T: Word>() -> bool {
-    W::INVERSE > 0 || W::PLAIN && W::ORDER <= SMALL_ORDERS
+    W::INVERSE > 0 || W::PLAIN && W::ORDER <= BYTE_ORDERS
 }
 
 /// The product, which goes by vectors where `lane_products` does.

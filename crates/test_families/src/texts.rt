@@ -3,7 +3,7 @@ use std::alloc::{AllocError, Global};
 use test_values::lists::{List, MOST, ZERO};
 
 /// The coefficient list of a word.
-pub(crate) fn list_of(word: &str) -> List {
+pub fn list_of(word: &str) -> List {
     let mut list = ZERO;
     for (i, number) in word.split(',').enumerate() {
         if i < MOST {
@@ -14,7 +14,7 @@ pub(crate) fn list_of(word: &str) -> List {
 }
 
 /// The coefficient lists of a text.
-pub(crate) fn lists_of(alloc: Global, text: &str) -> Result<Vec<List>, AllocError> {
+pub fn lists_of(alloc: Global, text: &str) -> Result<Vec<List>, AllocError> {
     let mut lists = Vec::new(alloc);
     for word in text.split_ascii_whitespace() {
         lists.push(list_of(word))?;

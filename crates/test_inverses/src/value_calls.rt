@@ -1,10 +1,11 @@
 //! The calls that take inverses of values.
 ghost use Rattle.p3_helpers.specs.FieldRuns.{OrdersGiven};
 
-use crate::values::Listed;
+use crate::plain::PlainRing;
 use p3_field_traits::field::Field;
 use p3_helpers::steps::{FieldStep, StepFault, StepRefused, run_field_steps, steps_fit};
 use std::alloc::{AllocError, Global};
+use test_families::values::{Listed, list_of_value, of_list};
 use test_values::lists::{List, ZERO};
 
 /// A call on values.
@@ -15,6 +16,10 @@ pub(crate) enum Call<'a> {
         value: List,
         inverse: Option<List>,
     },
+    /// Each value has an inverse, whose product with it is one in plain numbers, just where a search finds one.
+    Every(PlainRing),
+    /// So many values have an inverse just where their norm in plain numbers isn't zero.
+    Sampled(PlainRing, u64),
     /// A run over registers that hold the first values is refused and leaves the others.
     Refused {
         before: &'a [List],
@@ -29,6 +34,8 @@ pub(crate) fn agrees<T: Field + Listed>(
 ) -> Result<bool, AllocError> {
     match *call {
         Call::Inverse { value, inverse } => Ok(is_inverse::<T>(&value, inverse)),
+        Call::Every(ring) => Ok(every_value_agrees::<T>(&ring)),
+        Call::Sampled(ring, count) => Ok(samples_agree::<T>(&ring, count)),
         Call::Refused { before, after } => is_refused::<T>(alloc, before, after),
     }
 }
@@ -44,18 +51,50 @@ fn given_inverse<T: Field>(x: T) -> Option<T> {
 /// The coefficients of an answer.
 fn list_of<T: Listed>(answer: Option<T>) -> Option<List> {
     match answer {
-        Some(y) => Some(y.list()),
+        Some(y) => Some(list_of_value(&y)),
         None => None,
     }
 }
 
 /// Whether the calls give this inverse, or zero and none where it is none.
 fn is_inverse<T: Field + Listed>(x: &List, inverse: Option<List>) -> bool {
-    let value = T::of_list(x);
-    let or_zero = value.inverse_or_zero().list();
+    let value = of_list::<T>(x);
+    let or_zero = list_of_value(&value.inverse_or_zero());
     list_of(value.try_inverse()) == inverse
         && list_of(given_inverse(value)) == inverse
         && or_zero == inverse.unwrap_or(ZERO)
+}
+
+/// Whether each value has an inverse, whose product with it is one in plain numbers, just where a search among its
+/// powers finds one.
+fn every_value_agrees<T: Field + Listed>(ring: &PlainRing) -> bool {
+    for number in 0..ring.count() {
+        let value = ring.value(number);
+        let is_right = match list_of(of_list::<T>(&value).try_inverse()) {
+            Some(inverse) => ring.is_inverse(&value, &inverse),
+            None => ring.inverse(&value).is_none(),
+        };
+        if !is_right {
+            return false;
+        }
+    }
+    true
+}
+
+/// Whether so many values have an inverse, which gives one in plain numbers, just where their norm isn't zero.
+fn samples_agree<T: Field + Listed>(ring: &PlainRing, count: u64) -> bool {
+    let mut seed: u64 = 1;
+    for _ in 0..count {
+        let value = ring.sample(&mut seed);
+        let is_right = match list_of(of_list::<T>(&value).try_inverse()) {
+            Some(inverse) => ring.is_inverse(&value, &inverse),
+            None => ring.norm(&value) == 0,
+        };
+        if !is_right {
+            return false;
+        }
+    }
+    true
 }
 
 /// Inverts the first of three registers, multiplies it with the last one into the second one, and inverts and
@@ -87,7 +126,7 @@ fn is_refused<T: Field + Listed>(
 ) -> Result<bool, AllocError> {
     let mut registers: Vec<T> = Vec::new(alloc);
     for list in before {
-        registers.push(T::of_list(list))?;
+        registers.push(of_list::<T>(list))?;
     }
     let refused = StepRefused {
         index: 2,
@@ -97,7 +136,7 @@ fn is_refused<T: Field + Listed>(
         return Ok(false);
     }
     for (register, list) in registers.iter().zip(after) {
-        if register.list() != *list {
+        if list_of_value(register) != *list {
             return Ok(false);
         }
     }

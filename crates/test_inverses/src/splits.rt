@@ -1,78 +1,19 @@
 //! The calls that take inverses of values, over extensions that are no fields.
-use crate::extensions::Extended;
-use crate::residues::{F17n, F17s, F31s, NilpotentM17, SplitM17, SplitM31, SplitM59};
-use crate::split_tables::SPLITS;
-use crate::texts::{list_of, lists_of};
+use crate::extensions::agrees_at;
+use crate::plain::PlainRing;
+use crate::split_tables::{EVERY, SAMPLED, SPLITS};
 use crate::value_calls::Call;
-use p3_extension::extension::{Binomial, CubicTrinomial};
-use p3_prime_fields::form::Plain;
 use std::alloc::{AllocError, Global};
 use std::process::Abort;
 use std::test::Fail;
+use test_families::names::Extension;
+use test_families::texts::{list_of, lists_of};
 use test_values::lists::List;
-use test_values::texts::named;
-
-/// The extensions that are no fields.
-#[derive(Clone, Copy)]
-enum SplitExtension {
-    F17sx2,
-    F17sx4,
-    F17sx8,
-    F17nx2,
-    F31sx3,
-    F31sx5,
-    F31sx6,
-    F59t3,
-}
-
-/// Their names.
-static NAMES: [(&str, SplitExtension); 8] = [
-    ("f17sx2", SplitExtension::F17sx2),
-    ("f17sx4", SplitExtension::F17sx4),
-    ("f17sx8", SplitExtension::F17sx8),
-    ("f17nx2", SplitExtension::F17nx2),
-    ("f31sx3", SplitExtension::F31sx3),
-    ("f31sx5", SplitExtension::F31sx5),
-    ("f31sx6", SplitExtension::F31sx6),
-    ("f59t3", SplitExtension::F59t3),
-];
-
-impl SplitExtension {
-    /// Whether a call on values gives what is told.
-    fn agrees(self, alloc: Global, call: &Call<'_>) -> Result<bool, AllocError> {
-        match self {
-            Self::F17sx2 => <Plain<SplitM17> as Extended<Binomial<F17s>, 2>>::agrees(
-                alloc, None, call,
-            ),
-            Self::F17sx4 => <Plain<SplitM17> as Extended<Binomial<F17s>, 4>>::agrees(
-                alloc, None, call,
-            ),
-            Self::F17sx8 => <Plain<SplitM17> as Extended<Binomial<F17s>, 8>>::agrees(
-                alloc, None, call,
-            ),
-            Self::F17nx2 => <Plain<NilpotentM17> as Extended<Binomial<F17n>, 2>>::agrees(
-                alloc, None, call,
-            ),
-            Self::F31sx3 => <Plain<SplitM31> as Extended<Binomial<F31s>, 3>>::agrees(
-                alloc, None, call,
-            ),
-            Self::F31sx5 => <Plain<SplitM31> as Extended<Binomial<F31s>, 5>>::agrees(
-                alloc, None, call,
-            ),
-            Self::F31sx6 => <Plain<SplitM31> as Extended<Binomial<F31s>, 6>>::agrees(
-                alloc, None, call,
-            ),
-            Self::F59t3 => <Plain<SplitM59> as Extended<CubicTrinomial, 3>>::agrees(
-                alloc, None, call,
-            ),
-        }
-    }
-}
 
 /// What is asserted of one extension.
 #[derive(Clone, Copy)]
 struct Row<'a> {
-    extension: SplitExtension,
+    extension: Extension,
     /// Values and their inverses, or `none`.
     inverses: &'a str,
     /// The registers of a run that is refused.
@@ -87,7 +28,7 @@ impl<'a> Row<'a> {
         let (name, sides) = line.split_once(':')?;
         let mut parts = sides.split('|');
         Some(Row {
-            extension: named(&NAMES, name)?,
+            extension: Extension::of_name(name)?,
             inverses: parts.next()?,
             before: parts.next()?,
             after: parts.next()?,
@@ -112,7 +53,7 @@ fn has_inverses(alloc: Global, row: &Row<'_>) -> Result<bool, AllocError> {
             value: list_of(value),
             inverse: inverse_of(inverse),
         };
-        if !row.extension.agrees(alloc, &call)? {
+        if !agrees_at(row.extension, alloc, &call)? {
             return Ok(false);
         }
     }
@@ -128,7 +69,7 @@ fn is_refused(alloc: Global, row: &Row<'_>) -> Result<bool, AllocError> {
         before: &before,
         after: &after,
     };
-    row.extension.agrees(alloc, &refused)
+    agrees_at(row.extension, alloc, &refused)
 }
 
 /// Whether a line agrees; `Ok(None)` where it can't be read.
@@ -137,6 +78,58 @@ fn line_agrees(alloc: Global, line: &str) -> Result<Option<bool>, AllocError> {
         return Ok(None);
     };
     Ok(Some(has_inverses(alloc, &row)? && is_refused(alloc, &row)?))
+}
+
+/// The extension of a line like `z15x2 15 2 2,0`, and it in plain numbers: its order, its degree and its rule.
+fn plain_ring(line: &str) -> Option<(Extension, PlainRing)> {
+    let mut words = line.split(' ');
+    let extension = Extension::of_name(words.next()?)?;
+    let order = words.next()?.parse::<u64>().ok()?;
+    let degree = words.next()?.parse::<usize>().ok()?;
+    let rule = list_of(words.next()?);
+    Some((
+        extension,
+        PlainRing {
+            order,
+            degree,
+            rule,
+        },
+    ))
+}
+
+/// Whether each value of a line's extension has just the inverse that a search in plain numbers finds.
+fn every_agrees(alloc: Global, line: &str) -> Result<bool, AllocError> {
+    match plain_ring(line) {
+        Some((extension, ring)) => agrees_at(extension, alloc, &Call::Every(ring)),
+        None => Ok(false),
+    }
+}
+
+/// Whether 2000 values of a line's extension have an inverse just where their norm in plain numbers isn't zero.
+fn samples_agree(alloc: Global, line: &str) -> Result<bool, AllocError> {
+    match plain_ring(line) {
+        Some((extension, ring)) => {
+            let call = Call::Sampled(ring, 2000);
+            agrees_at(extension, alloc, &call)
+        }
+        None => Ok(false),
+    }
+}
+
+#[test]
+fn every_value(rt: HostRuntime) -> Result<(), Fail> {
+    for line in EVERY.trim().lines() {
+        assert!(rt; every_agrees(rt.alloc(), line)?, "{line}");
+    }
+    Ok(())
+}
+
+#[test]
+fn values_by_their_norm(rt: HostRuntime) -> Result<(), Fail> {
+    for line in SAMPLED.trim().lines() {
+        assert!(rt; samples_agree(rt.alloc(), line)?, "{line}");
+    }
+    Ok(())
 }
 
 #[test]

@@ -1,6 +1,6 @@
 //! Residues modulo primes whose extensions here are no fields: their polynomials are products of factors of
 //! degree one, so some values other than zero have no inverse. A field has one polynomial of a shape and
-//! degree, so each family has a marker of its own.
+//! degree, so each family has a marker of its own. And the residues modulo 4, where two times two is zero.
 ghost use Rattle.std.specs.Prelude.{◌∷◌, [], codes, refl};
 ghost use Rattle.std.proofs.Common.{lit<, lit≤};
 
@@ -9,6 +9,23 @@ use p3_prime_fields::binomial_constants::BinomialConstants;
 use p3_prime_fields::form::{Modulus, ModulusOrder, Order, Plain};
 use p3_prime_fields::fp::Fp;
 use p3_prime_fields::polynomial_constants::PolynomialConstants;
+
+/// The marker of the order 4.
+pub struct M4;
+
+impl Modulus for M4 {
+    ghost ORDER = { 4 };
+
+    ghost GENERATOR = { 3 };
+
+    ghost above_one = { lit< tt };
+
+    ghost fits = { lit< tt };
+
+    const ORDER: u32 = 4;
+
+    const GENERATOR: u32 = 3;
+}
 
 /// The marker of the order 17 whose polynomials are `X^D - 1`.
 pub struct SplitM17;
