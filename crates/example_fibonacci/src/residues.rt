@@ -4,9 +4,9 @@ ghost use Rattle.std.proofs.Common.{lit<, lit≤};
 
 use crate::golden::Golden;
 use p3_field::extension::{BinomialExtensionField, ExtField, Modulo};
+use p3_fields::Fp;
 use p3_fields::binomial_constants::BinomialConstants;
 use p3_fields::form::{Modulus, ModulusOrder, Order, Plain};
-use p3_fields::fp::Fp;
 use p3_fields::polynomial_constants::PolynomialConstants;
 use p3_fields::two_adic::{TopPowerConstants, TwoAdicConstants};
 

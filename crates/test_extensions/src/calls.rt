@@ -1,8 +1,7 @@
 //! The calls of extension values, and whether they have their answers.
 
 use crate::cases::{Call, Case, MemoryCall, MixedCall, ValueCall, part};
-use crate::lists::{List, at, list_of_text};
-use crate::values::{Listed, Residue};
+use crate::values::Listed;
 use p3_extension::extension::HasFrobenius;
 use p3_extension_traits::basis::{AlgebraIdentity, BasedVectorSpace};
 use p3_extension_traits::extension_field::ExtensionField;
@@ -11,6 +10,8 @@ use p3_field_traits::sqrt::tonelli_shanks_counted;
 use p3_ring::ring::{Algebra, PrimeCharacteristicRing};
 use std::alloc::{AllocError, Global};
 use std::fmt::Display;
+use test_values::canonical::Canonical;
+use test_values::lists::{List, at, list_of_text};
 
 /// The coefficients of an answer.
 pub fn list_of<T: Listed>(answer: Option<T>) -> Option<List> {
@@ -26,7 +27,7 @@ fn product<T: PrimeCharacteristicRing>(x: T, y: T) -> T {
 }
 
 /// The value that a call answers, if it answers one.
-fn value<F: Field + Residue, EF: HasFrobenius<F> + Listed>(
+fn value<F: Field + Canonical, EF: HasFrobenius<F> + Listed>(
     call: ValueCall,
     case: Case<'_>,
 ) -> Option<EF> {
@@ -56,7 +57,7 @@ fn mixed_value<F: PrimeCharacteristicRing, EF: Algebra<F>>(call: MixedCall, x: E
 }
 
 /// Whether the element of the base that a value is, if it is one, is the answer.
-fn base_value_agrees<F: Field + Residue, EF: ExtensionField<F>>(x: EF, answer: &str) -> bool {
+fn base_value_agrees<F: Field + Canonical, EF: ExtensionField<F>>(x: EF, answer: &str) -> bool {
     match x.as_base() {
         Some(base) => answer.parse::<u64>() == Ok(base.canonical()),
         None => answer == "None",
@@ -101,20 +102,20 @@ fn has_name<F: PrimeCharacteristicRing, V: AlgebraIdentity<F>>(
 }
 
 /// The value of the first coefficients of a list, so many of them, if they make one.
-fn of_slice<F: PrimeCharacteristicRing + Residue, V: BasedVectorSpace<F> + Listed>(
+fn of_slice<F: PrimeCharacteristicRing + Canonical, V: BasedVectorSpace<F> + Listed>(
     alloc: Global,
     list: &List,
     count: usize,
 ) -> Result<Option<List>, AllocError> {
     let mut coefficients: Vec<F> = Vec::new(alloc);
     for i in 0..count {
-        coefficients.push(F::residue(at(list, i)))?;
+        coefficients.push(F::of_number(at(list, i)))?;
     }
     Ok(list_of(V::from_basis_coefficients_slice(&coefficients)))
 }
 
 /// Whether the sum of the products of two values with the residues of two numbers is the answer.
-fn mixed_sum_agrees<F: PrimeCharacteristicRing + Residue, EF: Algebra<F> + Listed>(
+fn mixed_sum_agrees<F: PrimeCharacteristicRing + Canonical, EF: Algebra<F> + Listed>(
     alloc: Global,
     case: Case<'_>,
 ) -> Result<bool, AllocError> {
@@ -123,7 +124,7 @@ fn mixed_sum_agrees<F: PrimeCharacteristicRing + Residue, EF: Algebra<F> + Liste
     let mut residues: Vec<F> = Vec::new(alloc);
     for i in 0..2 {
         values.push(EF::of_list(&case.list(i)))?;
-        residues.push(F::residue(at(&numbers, i)))?;
+        residues.push(F::of_number(at(&numbers, i)))?;
     }
     if values.len() != residues.len() {
         return Ok(false);
@@ -196,7 +197,7 @@ fn order_agrees<T: Field>(answer: &str) -> bool {
 
 /// Whether a call has its answer. Nothing is read of `_room`, which tells that values have room. False where
 /// the call is none of those here.
-pub fn agrees<F: Field + Residue, EF: HasFrobenius<F> + Listed>(
+pub fn agrees<F: Field + Canonical, EF: HasFrobenius<F> + Listed>(
     alloc: Global,
     _room: Option<EF>,
     case: Case<'_>,
@@ -205,7 +206,7 @@ pub fn agrees<F: Field + Residue, EF: HasFrobenius<F> + Listed>(
         Call::Value(call) => Ok(case.answers(list_of(value::<F, EF>(call, case)))),
         Call::Mixed(call) => {
             let x = EF::of_list(&case.list(0));
-            let found = mixed_value::<F, EF>(call, x, F::residue(case.number(1)));
+            let found = mixed_value::<F, EF>(call, x, F::of_number(case.number(1)));
             Ok(case.answers(Some(found.list())))
         }
         Call::Memory(call) => memory_agrees::<F, EF>(alloc, call, case),
@@ -219,7 +220,7 @@ pub fn agrees<F: Field + Residue, EF: HasFrobenius<F> + Listed>(
 }
 
 /// The same of the calls that take memory.
-fn memory_agrees<F: Field + Residue, EF: HasFrobenius<F> + Listed>(
+fn memory_agrees<F: Field + Canonical, EF: HasFrobenius<F> + Listed>(
     alloc: Global,
     call: MemoryCall,
     case: Case<'_>,

@@ -1,6 +1,7 @@
 //! The calls that the lines of tables name, their arguments and their answers.
 
-use crate::lists::{List, ZERO, list_of_text};
+use test_values::lists::{List, ZERO, list_of_text};
+use test_values::texts::named;
 
 /// A call that answers a value, or none.
 #[derive(Clone, Copy)]
@@ -112,17 +113,6 @@ static CALLS: [(&str, Call); 27] = [
     ("constants", Call::Constants),
 ];
 
-/// The call of a name.
-fn call_of(name: &str) -> Option<Call> {
-    for row in &CALLS {
-        let (known, call) = *row;
-        if known == name {
-            return Some(call);
-        }
-    }
-    None
-}
-
 /// The text at an index of those between bars.
 pub fn part(text: &str, index: usize) -> &str {
     text.split('|').nth(index).unwrap_or("")
@@ -142,7 +132,7 @@ impl<'a> Case<'a> {
         let (name, sides) = line.split_once(';')?;
         let (arguments, answer) = sides.split_once(';')?;
         Some(Case {
-            call: call_of(name)?,
+            call: named(&CALLS, name)?,
             arguments,
             answer,
         })

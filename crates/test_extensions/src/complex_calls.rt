@@ -3,7 +3,6 @@
 use crate::cases::Case;
 use crate::fields::binomial_agrees;
 use crate::two_adic_calls::generator;
-use crate::values::Residue;
 use p3_extension::extension::{
     BinomialExtensionField, BinomiallyExtendable, Complex, ComplexExtendable,
     HasComplexBinomialExtension, HasTwoAdicBinomialExtension, HasTwoAdicComplexBinomialExtension,
@@ -11,6 +10,7 @@ use p3_extension::extension::{
 use p3_field_traits::field::Field;
 use p3_ring::ring::PrimeCharacteristicRing;
 use std::alloc::{AllocError, Global};
+use test_values::canonical::Canonical;
 
 /// The numbers of a complex value, its real and its imaginary part.
 pub type Pair = [u64; 2];
@@ -55,19 +55,19 @@ pub enum PairCall {
 }
 
 /// The complex value with these numbers.
-fn complex<F: PrimeCharacteristicRing + Residue>(pair: Pair) -> Complex<F> {
-    Complex::<F>::new_complex(F::residue(pair[0]), F::residue(pair[1]))
+fn complex<F: PrimeCharacteristicRing + Canonical>(pair: Pair) -> Complex<F> {
+    Complex::<F>::new_complex(F::of_number(pair[0]), F::of_number(pair[1]))
 }
 
 /// The numbers of a complex value.
-fn pair<F: Residue>(z: Complex<F>) -> Pair {
+fn pair<F: Canonical>(z: Complex<F>) -> Pair {
     let real = z.value[0];
     let imaginary = z.value[1];
     [real.canonical(), imaginary.canonical()]
 }
 
 /// The numbers of an array of both parts.
-fn pair_of_array<F: Residue>(parts: [F; 2]) -> Pair {
+fn pair_of_array<F: Canonical>(parts: [F; 2]) -> Pair {
     [parts[0].canonical(), parts[1].canonical()]
 }
 
@@ -78,14 +78,14 @@ fn rotated<F: PrimeCharacteristicRing>(z: Complex<F>, by: Complex<F>) -> Complex
 
 /// The numbers that a call of complex values alone answers. Nothing is read of `_room`, which tells that such
 /// values have room.
-fn ring_answer<F: PrimeCharacteristicRing + Residue>(
+fn ring_answer<F: PrimeCharacteristicRing + Canonical>(
     _room: Option<Complex<F>>,
     call: PairCall,
 ) -> Option<Pair> {
     match call {
         PairCall::Value(z) => Some(pair(complex::<F>(z))),
-        PairCall::OfReal(x) => Some(pair(Complex::<F>::new_real(F::residue(x)))),
-        PairCall::OfImaginary(x) => Some(pair(Complex::<F>::new_imag(F::residue(x)))),
+        PairCall::OfReal(x) => Some(pair(Complex::<F>::new_real(F::of_number(x)))),
+        PairCall::OfImaginary(x) => Some(pair(Complex::<F>::new_imag(F::of_number(x)))),
         PairCall::Conjugate(z) => Some(pair(complex::<F>(z).conjugate())),
         PairCall::Norm(z) => Some([complex::<F>(z).norm().canonical(), 0]),
         PairCall::Parts(z) => {
@@ -144,17 +144,17 @@ fn inverse_and_product<F: BinomiallyExtendable<2>>(
 type Tower<F> = BinomialExtensionField<Complex<F>, 2>;
 
 /// The value of the extension over complex values with these coefficients.
-fn tower<F: PrimeCharacteristicRing + Residue>(coefficients: [Pair; 2]) -> Tower<F> {
+fn tower<F: PrimeCharacteristicRing + Canonical>(coefficients: [Pair; 2]) -> Tower<F> {
     Tower::<F>::new([complex(coefficients[0]), complex(coefficients[1])])
 }
 
 /// The coefficients of a value of the extension over complex values.
-fn tower_pairs<F: Residue>(y: Tower<F>) -> [Pair; 2] {
+fn tower_pairs<F: Canonical>(y: Tower<F>) -> [Pair; 2] {
     [pair(y.value[0]), pair(y.value[1])]
 }
 
 /// The coefficients of the inverse in that extension, if there is one, and of the product with a second value.
-fn tower_answers<F: HasComplexBinomialExtension<2> + Residue>(
+fn tower_answers<F: HasComplexBinomialExtension<2> + Canonical>(
     _room: Option<Tower<F>>,
     y: [Pair; 2],
     z: [Pair; 2],
@@ -176,7 +176,7 @@ fn generator_over<F: HasTwoAdicBinomialExtension<2>>(
 
 /// The coefficients of the extension over complex values' two-adic generator for so many bits, if there is one. Nothing
 /// is read of `_room`.
-fn tower_generator<F: HasTwoAdicComplexBinomialExtension<2> + Residue>(
+fn tower_generator<F: HasTwoAdicComplexBinomialExtension<2> + Canonical>(
     _room: Option<Tower<F>>,
     bits: usize,
 ) -> Option<[Pair; 2]> {
@@ -192,7 +192,7 @@ fn tower_name<F: HasComplexBinomialExtension<2>>() -> &'static str {
 }
 
 /// The numbers of an answer.
-fn pair_of<F: Residue>(answer: Option<Complex<F>>) -> Option<Pair> {
+fn pair_of<F: Canonical>(answer: Option<Complex<F>>) -> Option<Pair> {
     match answer {
         Some(z) => Some(pair(z)),
         None => None,
@@ -200,7 +200,7 @@ fn pair_of<F: Residue>(answer: Option<Complex<F>>) -> Option<Pair> {
 }
 
 /// The complex value that a call of the field's extensions answers, if it answers one.
-fn extension_answer<F: HasTwoAdicComplexBinomialExtension<2> + Residue>(
+fn extension_answer<F: HasTwoAdicComplexBinomialExtension<2> + Canonical>(
     call: PairCall,
 ) -> Option<Complex<F>> {
     match call {
@@ -216,7 +216,7 @@ fn extension_answer<F: HasTwoAdicComplexBinomialExtension<2> + Residue>(
 }
 
 /// The numbers that a call answers, if it answers any. Nothing is read of `room`.
-fn answer<F: HasTwoAdicComplexBinomialExtension<2> + Residue>(
+fn answer<F: HasTwoAdicComplexBinomialExtension<2> + Canonical>(
     room: Option<Complex<F>>,
     call: PairCall,
 ) -> Option<Pair> {
@@ -246,7 +246,7 @@ pub enum Task<'a> {
 }
 
 /// Whether the inverse of y is the one that is told, and the product of both is one. Nothing is read of `room`.
-fn inverse_agrees<F: HasComplexBinomialExtension<2> + Residue>(
+fn inverse_agrees<F: HasComplexBinomialExtension<2> + Canonical>(
     room: Option<Tower<F>>,
     y: [Pair; 2],
     inverse: [Pair; 2],
@@ -257,7 +257,7 @@ fn inverse_agrees<F: HasComplexBinomialExtension<2> + Residue>(
 
 /// Whether what is told holds: one call at a field passes what the field owes for all of it. Nothing is read of
 /// `_rooms`, which tells that values have room.
-pub fn task_agrees<F: HasTwoAdicComplexBinomialExtension<2> + Residue>(
+pub fn task_agrees<F: HasTwoAdicComplexBinomialExtension<2> + Canonical>(
     alloc: Global,
     _rooms: Option<(Complex<F>, Tower<F>)>,
     task: Task<'_>,

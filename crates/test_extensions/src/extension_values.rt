@@ -2,8 +2,7 @@
 //! an extension is so over a marker: a test at a marker's name passes the field's constants alone.
 
 use crate::calls::agree_with;
-use crate::lists::{List, ZERO};
-use crate::values::{Listed, Residue, coefficients};
+use crate::values::{Listed, coefficients};
 use p3_extension::extension::BinomialExtensionField;
 use p3_extension_traits::basis::BasedVectorSpace;
 use p3_extension_traits::in_memory::InMemory;
@@ -19,6 +18,8 @@ use std::fmt::Debug;
 use std::hash::{Hash, Hasher};
 use std::process::Abort;
 use std::test::Fail;
+use test_values::canonical::Canonical;
+use test_values::lists::{List, ZERO};
 
 fn hash_of<T: Hash>(x: &T) -> u64 {
     let mut hasher = DefaultHasher::new();
@@ -88,7 +89,7 @@ fn values_of_one_type(rt: HostRuntime) -> Result<(), Fail> {
 /// The canonical numbers of the coefficients of values, one value after the other.
 fn flat_numbers<F, V>(alloc: Global, lists: &[List]) -> Result<Vec<u64>, AllocError>
 where
-    F: PrimeCharacteristicRing + InMemory + Residue,
+    F: PrimeCharacteristicRing + InMemory + Canonical,
     V: BasedVectorSpace<F> + Listed,
 {
     let values: Vec<V> = lists.iter().map(|list| V::of_list(list)).collect(alloc)?;
@@ -99,10 +100,10 @@ where
 /// The values that a list of coefficients makes.
 fn reconstituted<F, V>(alloc: Global, numbers: &[u64]) -> Result<Vec<V>, AllocError>
 where
-    F: PrimeCharacteristicRing + Residue,
+    F: PrimeCharacteristicRing + Canonical,
     V: BasedVectorSpace<F>,
 {
-    let flat: Vec<F> = numbers.iter().map(|n| F::residue(*n)).collect(alloc)?;
+    let flat: Vec<F> = numbers.iter().map(|n| F::of_number(*n)).collect(alloc)?;
     if flat.len() % V::DIMENSION == 0 {
         V::reconstitute_from_base(alloc, flat)
     } else {

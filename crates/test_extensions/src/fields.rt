@@ -4,17 +4,17 @@ ghost use Rattle.std.specs.Prelude.{◌<◌};
 
 use crate::calls::agrees;
 use crate::cases::{Call, Case, TwoAdicCall};
-use crate::lists::{List, at, list_of_text};
 use crate::two_adic_calls::two_adic_agrees;
-use crate::values::Residue;
 use p3_extension::extension::{
     Binomial, BinomialExtensionField, BinomiallyExtendable, ExtField, ExtensionShape,
     FrobeniusExtendable, HasTwoAdicBinomialExtension, TwoAdicExtendable,
 };
 use std::alloc::{AllocError, Global};
+use test_values::canonical::Canonical;
+use test_values::lists::{List, at, list_of_text};
 
 /// Whether a call of the extension of degree D by the shape S has its answer.
-fn extension_agrees<F: FrobeniusExtendable<D, S> + Residue, S: ExtensionShape, const D: usize>(
+fn extension_agrees<F: FrobeniusExtendable<D, S> + Canonical, S: ExtensionShape, const D: usize>(
     alloc: Global,
     room: Option<ExtField<F, D, S, F>>,
     case: Case<'_>,
@@ -23,7 +23,7 @@ fn extension_agrees<F: FrobeniusExtendable<D, S> + Residue, S: ExtensionShape, c
 }
 
 /// Whether the coefficients of the two-adic generator for so many bits are these.
-fn has_coefficients<F: TwoAdicExtendable<D, S> + Residue, S: ExtensionShape, const D: usize>(
+fn has_coefficients<F: TwoAdicExtendable<D, S> + Canonical, S: ExtensionShape, const D: usize>(
     bits: usize,
     generator: &List,
 ) -> bool {
@@ -41,7 +41,7 @@ fn has_coefficients<F: TwoAdicExtendable<D, S> + Residue, S: ExtensionShape, con
 
 /// The same of a call of two-adic generators, and of the coefficients that the field gives.
 fn two_adic_extension_agrees<
-    F: TwoAdicExtendable<D, S> + Residue,
+    F: TwoAdicExtendable<D, S> + Canonical,
     S: ExtensionShape,
     const D: usize,
 >(room: Option<ExtField<F, D, S, F>>, call: TwoAdicCall, case: Case<'_>) -> bool {
@@ -55,7 +55,7 @@ fn two_adic_extension_agrees<
 }
 
 /// W, the root, and the generator candidate's coefficients at 1 and X.
-fn constants<F: BinomiallyExtendable<D> + Residue, const D: usize>() -> List
+fn constants<F: BinomiallyExtendable<D> + Canonical, const D: usize>() -> List
     requires { 1 < D }
 {
     [
@@ -71,7 +71,7 @@ fn constants<F: BinomiallyExtendable<D> + Residue, const D: usize>() -> List
 }
 
 /// The same of the extension by `X^D = W`.
-pub fn binomial_agrees<F: BinomiallyExtendable<D> + Residue, const D: usize>(
+pub fn binomial_agrees<F: BinomiallyExtendable<D> + Canonical, const D: usize>(
     alloc: Global,
     room: Option<BinomialExtensionField<F, D>>,
     case: Case<'_>,
@@ -83,7 +83,7 @@ pub fn binomial_agrees<F: BinomiallyExtendable<D> + Residue, const D: usize>(
 }
 
 /// The same of the extension by `X^D = W`, with two-adic generators.
-pub fn two_adic_binomial_agrees<F: HasTwoAdicBinomialExtension<D> + Residue, const D: usize>(
+pub fn two_adic_binomial_agrees<F: HasTwoAdicBinomialExtension<D> + Canonical, const D: usize>(
     alloc: Global,
     room: Option<BinomialExtensionField<F, D>>,
     case: Case<'_>,
@@ -98,7 +98,7 @@ pub fn two_adic_binomial_agrees<F: HasTwoAdicBinomialExtension<D> + Residue, con
 
 /// The same of the extension by the shape S, with two-adic generators.
 pub fn two_adic_shape_agrees<
-    F: TwoAdicExtendable<D, S> + Residue,
+    F: TwoAdicExtendable<D, S> + Canonical,
     S: ExtensionShape,
     const D: usize,
 >(alloc: Global, room: Option<ExtField<F, D, S, F>>, case: Case<'_>) -> Result<bool, AllocError> {

@@ -21,8 +21,6 @@ mod extensions;
 #[cfg(test)]
 mod fields;
 #[cfg(test)]
-mod lists;
-#[cfg(test)]
 mod markers;
 #[cfg(test)]
 mod powers;

@@ -1,6 +1,5 @@
 //! Powers that permute a field.
 
-use crate::values::Residue;
 use p3_extension_traits::monomials::PermutationMonomial;
 use p3_prime_fields::baby_bear::BabyBearModulus;
 use p3_prime_fields::form::{OverModulus, Plain, Word};
@@ -10,12 +9,13 @@ use p3_prime_fields::koala_bear::KoalaBearModulus;
 use p3_prime_fields::monomials::MonomialConstants;
 use p3_prime_fields::montgomery::Montgomery;
 use p3_prime_fields::small::{M17, M31};
+use test_values::canonical::Canonical;
 
 /// The power N of a number's residue, and the number whose power N is the residue of a second one.
-fn powers_of<F: PermutationMonomial<N> + Residue, const N: u64>(x: u64, y: u64) -> [u64; 2] {
+fn powers_of<F: PermutationMonomial<N> + Canonical, const N: u64>(x: u64, y: u64) -> [u64; 2] {
     [
-        F::residue(x).injective_exp_n().canonical(),
-        F::residue(y).injective_exp_root_n().canonical(),
+        F::of_number(x).injective_exp_n().canonical(),
+        F::of_number(y).injective_exp_root_n().canonical(),
     ]
 }
 

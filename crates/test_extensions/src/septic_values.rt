@@ -1,12 +1,12 @@
 //! The rows of the Frobenius map of the extension by `X^7 = X + 1`, worked by hand.
 ghost use Rattle.std.specs.Prelude.{◌<◌};
 
-use crate::values::Residue;
 use p3_extension::extension::{ExtendableModulo, Septic, SepticTrinomialExtendable};
 use p3_prime_fields::small::F2;
+use test_values::canonical::Canonical;
 
 /// The coefficients of the power i + 1 of the image of X.
-fn septic_row<F: SepticTrinomialExtendable + Residue>(i: usize) -> [u64; 7]
+fn septic_row<F: SepticTrinomialExtendable + Canonical>(i: usize) -> [u64; 7]
     requires { i < 6 }
 {
     let mut row = [0; 7];
@@ -17,7 +17,7 @@ fn septic_row<F: SepticTrinomialExtendable + Residue>(i: usize) -> [u64; 7]
 }
 
 /// The same for a field that gives the table of the polynomial: a test at a field passes that alone.
-fn frobenius_row<F: ExtendableModulo<7, Septic> + Residue>(i: usize) -> [u64; 7]
+fn frobenius_row<F: ExtendableModulo<7, Septic> + Canonical>(i: usize) -> [u64; 7]
     requires { i < 6 }
 {
     septic_row::<F>(i)

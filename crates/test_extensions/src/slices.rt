@@ -1,8 +1,7 @@
 //! Worked products and squares over slices. What writes to a slice does so where ones were.
 
 use crate::cases::part;
-use crate::lists::{List, MOST, ZERO, list_of_text};
-use crate::values::{Residue, coefficients};
+use crate::values::coefficients;
 use crate::{septic_tables as septic, slice_tables as worked};
 use p3_extension::extension::{
     binomial_mul, binomial_square, cubic_square, octic_mul, quartic_mul, quintic_mul,
@@ -17,6 +16,9 @@ use p3_prime_fields::montgomery::Montgomery;
 use p3_prime_fields::small::{M2, M15, M17, M31};
 use p3_ring::ring::PrimeCharacteristicRing;
 use std::process::Abort;
+use test_values::canonical::Canonical;
+use test_values::lists::{List, MOST, ZERO, list_of_text};
+use test_values::texts::named;
 
 /// What is computed from two lists of coefficients, a and b, and W.
 #[derive(Clone, Copy)]
@@ -79,19 +81,8 @@ static CALLS: [(&str, Call); 15] = [
     ("vector_sub", Call::Difference),
 ];
 
-/// The call of a name.
-fn call_of(name: &str) -> Option<Call> {
-    for row in &CALLS {
-        let (known, call) = *row;
-        if known == name {
-            return Some(call);
-        }
-    }
-    None
-}
-
 /// The canonical numbers of coefficients.
-fn numbers<R: Residue, const N: usize>(coefficients: [R; N]) -> List {
+fn numbers<R: Canonical, const N: usize>(coefficients: [R; N]) -> List {
     let mut list = ZERO;
     for i in 0..N {
         if i < MOST {
@@ -169,7 +160,7 @@ fn septic_results<R: PrimeCharacteristicRing>(a: [R; 7], b: [R; 7]) -> ([R; 7], 
 
 /// The numbers of what a call answers that takes a w. Nothing is read of `_list`, which tells that lists have
 /// room.
-fn binomial_answer<R: PrimeCharacteristicRing + Residue>(
+fn binomial_answer<R: PrimeCharacteristicRing + Canonical>(
     _list: Option<[R; MOST]>,
     call: BinomialCall,
     a: &List,
@@ -196,14 +187,14 @@ fn binomial_answer<R: PrimeCharacteristicRing + Residue>(
 }
 
 /// The numbers of what a call answers; W is 3. Nothing is read of `list`.
-fn answer<R: PrimeCharacteristicRing + Residue>(
+fn answer<R: PrimeCharacteristicRing + Canonical>(
     list: Option<[R; MOST]>,
     call: Call,
     a: &List,
     b: &List,
 ) -> List {
     match call {
-        Call::Binomial(call) => binomial_answer(list, call, a, b, R::residue(3)),
+        Call::Binomial(call) => binomial_answer(list, call, a, b, R::of_number(3)),
         Call::CubicProduct => numbers(cubic_results::<R>(coefficients(a), coefficients(b)).0),
         Call::CubicSquare => numbers(cubic_results::<R>(coefficients(a), coefficients(b)).1),
         Call::QuinticProduct => numbers(quintic_results::<R>(coefficients(a), coefficients(b)).0),
@@ -236,17 +227,6 @@ static RINGS: [(&str, Ring); 6] = [
     ("gl", Ring::Goldilocks),
 ];
 
-/// The ring of a name.
-fn ring_of(name: &str) -> Option<Ring> {
-    for row in &RINGS {
-        let (known, ring) = *row;
-        if known == name {
-            return Some(ring);
-        }
-    }
-    None
-}
-
 /// `answer` for the residues of a marker. Nothing is read of `list`.
 fn answer_at<W: Form<T>, T: Word>(
     list: Option<[Fp<W, T>; MOST]>,
@@ -278,7 +258,7 @@ fn agrees(line: &str) -> Option<bool> {
     let a = list_of_text(part(arguments, 0))?;
     let b = list_of_text(part(arguments, 1))?;
     let expected = list_of_text(answer)?;
-    let found = answer_in(ring_of(ring)?, call_of(call)?, &a, &b);
+    let found = answer_in(named(&RINGS, ring)?, named(&CALLS, call)?, &a, &b);
     Some(found == expected)
 }
 

@@ -3,7 +3,6 @@ ghost use Rattle.std.proofs.Common.{lit<};
 
 use crate::cases::part;
 use crate::square_root_tables as tables;
-use crate::values::Residue;
 use p3_field_traits::field::{Field, TwoAdicField};
 use p3_field_traits::sqrt::{tonelli_shanks_counted, tonelli_shanks_two_adic_counted};
 use p3_prime_fields::form::{Form, Modulus, OverModulus, Plain};
@@ -11,6 +10,7 @@ use p3_prime_fields::fp::Fp;
 use p3_prime_fields::small::{M2, M15, M17, M17b, M31};
 use p3_prime_fields::two_adic::TwoAdicConstants;
 use std::process::Abort;
+use test_values::canonical::Canonical;
 
 /// The marker of the order 4, at which two times two is zero.
 struct M4;
@@ -30,7 +30,7 @@ impl Modulus for M4 {
 }
 
 /// The canonical number of an answer.
-fn number<F: Residue>(answer: Option<F>) -> Option<u64> {
+fn number<F: Canonical>(answer: Option<F>) -> Option<u64> {
     match answer {
         Some(root) => Some(root.canonical()),
         None => None,
@@ -38,10 +38,10 @@ fn number<F: Residue>(answer: Option<F>) -> Option<u64> {
 }
 
 /// The root that is answered and the turns of the search, as numbers, where the order is given.
-fn counted<F: Field + Residue>(x: u64) -> Option<(Option<u64>, u32)> {
+fn counted<F: Field + Canonical>(x: u64) -> Option<(Option<u64>, u32)> {
     match F::order() {
         Some(_) => {
-            let (root, turns) = tonelli_shanks_counted(F::residue(x));
+            let (root, turns) = tonelli_shanks_counted(F::of_number(x));
             Some((number(root), turns.count()))
         }
         None => None,
@@ -49,10 +49,10 @@ fn counted<F: Field + Residue>(x: u64) -> Option<(Option<u64>, u32)> {
 }
 
 /// The same of the search by the greatest two-adic generator.
-fn two_adic_counted<F: TwoAdicField + Residue>(x: u64) -> Option<(Option<u64>, u32)> {
+fn two_adic_counted<F: TwoAdicField + Canonical>(x: u64) -> Option<(Option<u64>, u32)> {
     match F::order() {
         Some(_) => {
-            let (root, turns) = tonelli_shanks_two_adic_counted(F::residue(x));
+            let (root, turns) = tonelli_shanks_two_adic_counted(F::of_number(x));
             Some((number(root), turns.count()))
         }
         None => None,

@@ -1,9 +1,8 @@
 //! The bytes of extension values. The functions that choose the extension are generic over the marker of a field:
 //! a test then passes the field's order alone.
 
-use crate::lists::{List, list_of_text};
 use crate::stream_tables as tables;
-use crate::values::{Listed, Residue};
+use crate::values::Listed;
 use p3_extension::extension::{
     Binomial, ByteCountFits, CubicTrinomial, ExtField, QuinticTrinomial, SepticTrinomial,
 };
@@ -17,6 +16,8 @@ use std::alloc::{AllocError, Global};
 use std::array::IntoIter;
 use std::process::Abort;
 use std::test::Fail;
+use test_values::canonical::Canonical;
+use test_values::lists::{List, list_of_text};
 
 /// Whether words are those that a text tells, with commas between them.
 fn are_words(words: &[u64], text: &str) -> bool {
@@ -52,7 +53,7 @@ fn words_agree<T: RawDataSerializable + Listed>(
 
 /// `words_agree` of values of the extension of F of degree D by the shape S: a call at a base passes how it counts
 /// bytes alone. Nothing is read of `_rooms`, which tells that values and their bytes have room.
-fn extension_words_agree<F: ByteCountFits<D> + Residue, S: Copy, const D: usize>(
+fn extension_words_agree<F: ByteCountFits<D> + Canonical, S: Copy, const D: usize>(
     alloc: Global,
     _rooms: Option<(ExtField<F, D, S, F>, ByteStream<IntoIter<F, D>, F::Bytes>)>,
     line: &str,
@@ -157,7 +158,7 @@ fn are_bytes<T: RawDataSerializable + Listed>(
 }
 
 /// The same of a value of the extension of F of degree D by the shape S. Nothing is read of `_rooms`.
-fn extension_bytes_agree<F: ByteCountFits<D> + Residue, S: Copy, const D: usize>(
+fn extension_bytes_agree<F: ByteCountFits<D> + Canonical, S: Copy, const D: usize>(
     alloc: Global,
     _rooms: Option<(ExtField<F, D, S, F>, ByteStream<IntoIter<F, D>, F::Bytes>)>,
     list: &List,

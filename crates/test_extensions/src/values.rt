@@ -1,31 +1,8 @@
-//! Residues by their canonical numbers, and extension values by lists of these.
+//! Extension values by lists of the canonical numbers of their coefficients.
 
-use crate::lists::{List, MOST, ZERO, at};
 use p3_extension::extension::ExtField;
-use p3_field_traits::field::PrimeField64;
-use p3_prime_fields::form::{Form, Word};
-use p3_prime_fields::fp::Fp;
-use p3_ring::ring::PrimeCharacteristicRing;
-
-/// A residue and its canonical number alone: `PrimeField64` has all integer maps among its bounds, which
-/// each call at a type's own name would pass.
-pub trait Residue: Copy {
-    /// The residue of a number.
-    fn residue(number: u64) -> Self;
-
-    /// The canonical number.
-    fn canonical(self) -> u64;
-}
-
-impl<W: Form<T>, T: Word> Residue for Fp<W, T> {
-    fn residue(number: u64) -> Self {
-        Self::from_u64(number)
-    }
-
-    fn canonical(self) -> u64 {
-        self.as_canonical_u64()
-    }
-}
+use test_values::canonical::Canonical;
+use test_values::lists::{List, MOST, ZERO, at};
 
 /// Extension values that lists of coefficients tell.
 pub trait Listed: Copy {
@@ -40,15 +17,15 @@ pub trait Listed: Copy {
 }
 
 /// The residues of the first D numbers of a list.
-pub fn coefficients<F: Residue, const D: usize>(list: &List) -> [F; D] {
-    let mut coefficients = [F::residue(0); D];
+pub fn coefficients<F: Canonical, const D: usize>(list: &List) -> [F; D] {
+    let mut coefficients = [F::of_number(0); D];
     for i in 0..D {
-        coefficients[i] = F::residue(at(list, i));
+        coefficients[i] = F::of_number(at(list, i));
     }
     coefficients
 }
 
-impl<F: Residue, const D: usize, S: Copy> Listed for ExtField<F, D, S, F> {
+impl<F: Canonical, const D: usize, S: Copy> Listed for ExtField<F, D, S, F> {
     fn of_list(list: &List) -> Self {
         ExtField::<F, D, S, F>::new(coefficients(list))
     }

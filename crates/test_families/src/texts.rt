@@ -1,6 +1,6 @@
 //! Coefficient lists, read from texts.
-use crate::values::{List, MOST, ZERO};
 use std::alloc::{AllocError, Global};
+use test_values::lists::{List, MOST, ZERO};
 
 /// The coefficient list of a word.
 pub fn list_of(word: &str) -> List {

@@ -4,32 +4,7 @@ use p3_field_traits::field::{Field, PrimeField64};
 use p3_prime_fields::form::{Form, Word};
 use p3_prime_fields::fp::Fp;
 use p3_ring::ring::PrimeCharacteristicRing;
-
-/// The greatest degree of the extensions.
-pub const MOST: usize = 8;
-
-/// The coefficients of a value, from the constant one upward, and zeros from the degree on.
-pub type List = [u64; MOST];
-
-/// The coefficient list of zero.
-pub const ZERO: List = [0; MOST];
-
-/// The number at an index, zero past the end.
-pub fn at(list: &List, index: usize) -> u64 {
-    list.get(index).copied().unwrap_or(0)
-}
-
-/// The canonical number of a residue, and no more of a prime field.
-pub trait Canonical: Copy {
-    /// The number, which is below the order.
-    fn canonical(self) -> u64;
-}
-
-impl<W: Form<T>, T: Word> Canonical for Fp<W, T> {
-    fn canonical(self) -> u64 {
-        self.as_canonical_u64()
-    }
-}
+use test_values::lists::{List, MOST, ZERO, at};
 
 /// Values that lists of numbers tell: of an extension value those of each coefficient, one after the other.
 pub trait Listed: Copy {

@@ -1,7 +1,5 @@
 //! Streams of bytes and of words.
 
-use crate::cases::numbers;
-use crate::numbered::{Numbered, all_hold};
 use crate::stream_tables as tables;
 use crate::streams::assert_streams;
 use p3_field::{
@@ -11,6 +9,8 @@ use p3_field::{
 use std::alloc::{AllocError, Global};
 use std::array;
 use std::test::Fail;
+use test_values::numbered::{Numbered, all_hold};
+use test_values::texts::numbers;
 
 /// A 32-bit word, which is written with its lowest byte first.
 #[derive(Clone, Copy)]
@@ -41,8 +41,8 @@ impl Numbered for Word {
         1
     }
 
-    fn read(numbers: &[u64], first: usize) -> Word {
-        Word(u32::read(numbers, first))
+    fn read(numbers: &[u64], first: usize, step: usize) -> Word {
+        Word(u32::read(numbers, first, step))
     }
 
     fn number(&self, _index: usize) -> u64 {

@@ -1,5 +1,6 @@
 //! The calls that the lines of tables name, and the numbers of their arguments and answers.
 use std::alloc::{AllocError, Global};
+use test_values::texts::numbers;
 
 /// A constant of a prime field.
 #[derive(Clone, Copy)]
@@ -257,17 +258,6 @@ fn call_of(name: &str, arguments: &str, answer: &str) -> Option<Call> {
         return Some(Call::Tool(call));
     }
     Some(Call::Coset(coset_call_of(name, answer)?))
-}
-
-/// The numbers of a text, which stand between commas.
-pub(crate) fn numbers(alloc: Global, text: &str) -> Result<Vec<u64>, AllocError> {
-    let mut numbers = Vec::new(alloc);
-    for word in text.split(',') {
-        if let Ok(number) = word.parse::<u64>() {
-            numbers.push(number)?;
-        }
-    }
-    Ok(numbers)
 }
 
 /// A line's call, and the numbers of its arguments and its answer.

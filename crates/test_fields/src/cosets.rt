@@ -1,10 +1,10 @@
 //! Cosets of prime fields, generic over the field. The first two arguments of a call are the shift and the log
 //! size.
 use crate::cases::{Case, CosetCall};
-use crate::numbered::{Numbered, holds, holds_at, value};
 use p3_field_traits::field::TwoAdicField;
 use p3_helpers::coset::TwoAdicMultiplicativeCoset;
 use p3_ring::ring::{PrimeCharacteristicRing, RingSums};
+use test_values::numbered::{Numbered, holds, holds_at, value};
 
 /// Whether a call has its answer.
 pub(crate) fn coset_agrees<F: TwoAdicField + RingSums + Numbered>(

@@ -3,9 +3,9 @@ ghost use Rattle.std.specs.Prelude.{IsTrue};
 ghost use Rattle.p3_theory.specs.Rings.Ring.{Invertible};
 
 use crate::cases::{Case, Constant, QuotientCall};
-use crate::numbered::{Numbered, holds, value};
 use p3_field_traits::field::{Field, PrimeField64, TwoAdicField};
 use p3_ring::ring::PrimeCharacteristicRing;
+use test_values::numbered::{Numbered, holds, value};
 
 /// Whether a constant is the answer.
 pub(crate) fn constant_agrees<F: TwoAdicField + PrimeField64 + Numbered>(

@@ -1,6 +1,5 @@
 //! Runs of steps over packings whose lanes are the values of an extension, whatever its type, and what the registers
 //! then hold at each lane. A field is an extension of itself, and its arrays are packings of its values.
-use crate::numbered::Numbered;
 use p3_field::laws::run_packed_extension_steps_by_lanes;
 use p3_field::steps::{Step, steps_fit};
 use p3_field::{ExtensionLanes, FieldArray, Lanes, PackedExtensionRing, PrimeCharacteristicRing};
@@ -9,12 +8,13 @@ use p3_prime_fields::fp::Fp;
 use p3_prime_fields::small::M17;
 use std::alloc::{AllocError, Global};
 use std::test::Fail;
+use test_values::numbered::Numbered;
 
 /// The packing whose values these numbers tell, lane by lane.
 fn packing<F: Copy, EF: PrimeCharacteristicRing + Numbered, PE: PackedExtensionRing<F, EF>>(
     numbers: &[u64],
 ) -> PE {
-    PE::from_ext_fn(|lane: usize| -> EF { EF::read(numbers, lane) })
+    PE::from_ext_fn(|lane: usize| -> EF { EF::read(numbers, lane, 1) })
 }
 
 /// Whether the value at each lane is the one that the number there tells.

@@ -14,8 +14,6 @@ mod lane_runs;
 #[cfg(test)]
 mod list_calls;
 #[cfg(test)]
-mod numbered;
-#[cfg(test)]
 mod prime_tables;
 #[cfg(test)]
 mod prime_types;

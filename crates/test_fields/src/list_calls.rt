@@ -2,7 +2,6 @@
 ghost use Rattle.std.specs.Prelude.{◌≡◌, length};
 
 use crate::cases::{Case, ListCall};
-use crate::numbered::{Numbered, all_hold, holds, value, values};
 use p3_field_traits::field::Field;
 use p3_helpers::helpers::{HornerIter, dot_product};
 use p3_ring::linear_combination::{
@@ -11,6 +10,7 @@ use p3_ring::linear_combination::{
 use p3_ring::ring::{Algebra, PrimeCharacteristicRing, RingSums};
 use p3_ring::sums::sum_array;
 use std::alloc::{AllocError, Global};
+use test_values::numbered::{Numbered, all_hold, holds, value, values};
 
 /// Whether a call on lists has its answer.
 pub(crate) fn list_agrees<F: Field + RingSums + Numbered>(

@@ -4,7 +4,6 @@ use crate::cases::{Call, Case};
 use crate::cosets::coset_agrees;
 use crate::field_calls::{constant_agrees, quotient_agrees};
 use crate::list_calls::list_agrees;
-use crate::numbered::Numbered;
 use crate::prime_tables as tables;
 use crate::ring_calls::{name_agrees, operation_agrees};
 use crate::tool_calls::tool_agrees;
@@ -22,6 +21,7 @@ use p3_ring::ring::RingSums;
 use std::alloc::{AllocError, Global};
 use std::process::Abort;
 use std::test::Fail;
+use test_values::numbered::Numbered;
 
 /// Whether the call of a line has its answer; false where the line can't be read or names no call.
 fn agrees<F: TwoAdicField + PrimeField64 + RingSums + Packable + Numbered>(

@@ -1,10 +1,10 @@
 //! Operations of a ring, and values that numbers name.
 use crate::cases::{Case, Name, Operation};
-use crate::numbered::{Numbered, holds, value};
 use p3_extension_traits::const_power::exp_const_u64;
 use p3_field_traits::field::{Field, PrimeField64, TwoAdicField};
 use p3_ring::ring::PrimeCharacteristicRing;
 use p3_ring::sponge::SpongePaddingValue;
+use test_values::numbered::{Numbered, holds, value};
 
 /// What an operation gives on three values, or on the first of them and a number.
 fn operation<R: PrimeCharacteristicRing>(operation: Operation, x: R, y: R, z: R, number: u64) -> R {

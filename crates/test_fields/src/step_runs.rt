@@ -2,7 +2,6 @@
 ghost use Rattle.std.specs.Prelude.{IsSome};
 ghost use Rattle.p3_helpers.specs.FieldRuns.{OrdersGiven};
 
-use crate::numbered::{Numbered, all_hold, values};
 use p3_field::steps::{
     FieldStep, Step, StepFault, StepRefused, run_field_steps, run_steps, steps_fit,
 };
@@ -13,6 +12,7 @@ use p3_prime_fields::fp::Fp;
 use p3_prime_fields::small::{F17, M17};
 use std::process::Abort;
 use std::test::Fail;
+use test_values::numbered::{Numbered, all_hold, values};
 
 /// Runs the steps where they fit the registers; whether they do.
 fn runs<R: PrimeCharacteristicRing>(regs: &mut [R], steps: &[Step]) -> bool {

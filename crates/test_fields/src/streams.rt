@@ -1,6 +1,4 @@
 //! The bytes and words of values, by functions that are generic over what is written.
-use crate::cases::numbers;
-use crate::numbered::{Numbered, all_hold, value, values};
 use crate::stream_tables as tables;
 use p3_extension::extension::{Binomial, ByteCountFits, ExtField};
 use p3_extension_traits::streams::{ByteStream, RawDataSerializable};
@@ -16,6 +14,8 @@ use std::alloc::{AllocError, Global};
 use std::array::IntoIter;
 use std::process::Abort;
 use std::test::Fail;
+use test_values::numbered::{Numbered, all_hold, value, values};
+use test_values::texts::numbers;
 
 /// A call that writes values.
 #[derive(Clone, Copy)]

@@ -1,6 +1,5 @@
 //! Exponentiation chains, and helpers of slices and of subgroups.
 use crate::cases::{Case, ToolCall};
-use crate::numbered::{Numbered, all_hold, holds, value, values};
 use p3_field::{halve_u32, halve_u64};
 use p3_field_traits::field::Field;
 use p3_field_traits::packed_traits::Packable;
@@ -15,6 +14,7 @@ use p3_ring::exponentiation::{
 };
 use p3_ring::ring::{PrimeCharacteristicRing, RingSums};
 use std::alloc::{AllocError, Global};
+use test_values::numbered::{Numbered, all_hold, holds, value, values};
 
 /// Whether a chain or a helper has its answer.
 pub(crate) fn tool_agrees<F: Field + RingSums + Packable + Numbered>(

@@ -1,5 +1,5 @@
 //! Rings of coefficient lists in plain numbers: inverses by search, and norms.
-use test_families::values::{List, MOST, ZERO, at};
+use test_values::lists::{List, MOST, ZERO, at};
 
 /// The coefficient list of one.
 const ONE: List = [1, 0, 0, 0, 0, 0, 0, 0];

@@ -8,7 +8,7 @@ use std::process::Abort;
 use std::test::Fail;
 use test_families::names::Extension;
 use test_families::texts::{list_of, lists_of};
-use test_families::values::List;
+use test_values::lists::List;
 
 /// What is asserted of one extension.
 #[derive(Clone, Copy)]

@@ -5,7 +5,8 @@ use crate::plain::PlainRing;
 use p3_field_traits::field::Field;
 use p3_helpers::steps::{FieldStep, StepFault, StepRefused, run_field_steps, steps_fit};
 use std::alloc::{AllocError, Global};
-use test_families::values::{List, Listed, ZERO, list_of_value, of_list};
+use test_families::values::{Listed, list_of_value, of_list};
+use test_values::lists::{List, ZERO};
 
 /// A call on values.
 #[derive(Clone, Copy)]

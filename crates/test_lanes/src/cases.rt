@@ -1,6 +1,7 @@
 //! The calls on packings that the rows of tables name, and the numbers of their arguments and answers.
-use crate::rows::Row;
 use std::alloc::{AllocError, Global};
+use test_values::rows::Row;
+use test_values::texts::{named, numbers};
 
 /// A sum, a difference or a product.
 #[derive(Clone, Copy)]
@@ -147,57 +148,15 @@ static CALLS: [(&str, Call); 25] = [
     ("unpack_into 5", Call::Unpack),
 ];
 
-/// The operation of a name.
-fn operation_of(name: &str) -> Option<Operation> {
-    for row in &OPERATIONS {
-        let (known, operation) = *row;
-        if known == name {
-            return Some(operation);
-        }
-    }
-    None
-}
-
-/// The call of a name that is no operation's.
-fn other_call(name: &str) -> Option<Call> {
-    for row in &CALLS {
-        let (known, call) = *row;
-        if known == name {
-            return Some(call);
-        }
-    }
-    None
-}
-
 /// The call that a row names.
 fn call_of(name: &str) -> Option<Call> {
     if let Some(operation) = name.strip_prefix("vectorized 3 ") {
-        return Some(Call::Vectors(operation_of(operation)?));
+        return Some(Call::Vectors(named(&OPERATIONS, operation)?));
     }
-    match operation_of(name) {
+    match named(&OPERATIONS, name) {
         Some(operation) => Some(Call::Operation(operation)),
-        None => other_call(name),
+        None => named(&CALLS, name),
     }
-}
-
-/// The numbers of a text, whatever stands between them.
-fn numbers(alloc: Global, text: &str) -> Result<Vec<u64>, AllocError> {
-    let mut numbers = Vec::new(alloc);
-    let mut number: Option<u64> = None;
-    for byte in text.bytes() {
-        let digit = byte.wrapping_sub(b'0');
-        if digit < 10 {
-            let tens = number.unwrap_or(0).wrapping_mul(10);
-            number = Some(tens.wrapping_add(digit as u64));
-        } else if let Some(whole) = number {
-            numbers.push(whole)?;
-            number = None;
-        }
-    }
-    if let Some(whole) = number {
-        numbers.push(whole)?;
-    }
-    Ok(numbers)
 }
 
 /// A row's call, and the numbers of its arguments and its answer.

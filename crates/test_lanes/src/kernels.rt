@@ -3,7 +3,6 @@ ghost use Rattle.std.specs.Prelude.{◌≡◌, ◌+◌, ◌-◌, ◌%◌, ◌^�
 
 use crate::kernel_tables::{BLOCKS, SUMS, VECTOR_SUMS, WORKED_BLOCKS, WORKED_SUMS};
 use crate::numbers::{all_below, numbers};
-use crate::rows::Row;
 use crate::vector_blocks::blocks_agree;
 use p3_residues::mod_arithmetic::{
     mm256_mod_add, mm256_mod_sub, mm512_mod_add, mm512_mod_sub, packed_mod_add, packed_mod_sub,
@@ -11,6 +10,8 @@ use p3_residues::mod_arithmetic::{
 };
 use std::process::Abort;
 use std::simd::prelude::*;
+use test_values::rows::Row;
+use test_values::texts::named;
 
 /// What a call makes of two lists.
 #[derive(Clone, Copy)]
@@ -39,17 +40,6 @@ static CALLS: [(&str, (Kernel, Side)); 8] = [
     ("mm512_mod_add", (Kernel::SixteenLanes, Side::Sum)),
     ("mm512_mod_sub", (Kernel::SixteenLanes, Side::Difference)),
 ];
-
-/// The call of a name.
-fn call_of(name: &str) -> Option<(Kernel, Side)> {
-    for row in CALLS {
-        let (known, call) = row;
-        if known == name {
-            return Some(call);
-        }
-    }
-    None
-}
 
 /// The greatest order that the calls take.
 const MOST: u32 = 0x8000_0000;
@@ -205,7 +195,7 @@ fn on_widths(side: Side, row: Row<'_>) -> Option<bool> {
 /// call.
 fn agrees(line: &str) -> Option<bool> {
     let row = Row::read(line)?;
-    let Some((kernel, side)) = call_of(row.call) else {
+    let Some((kernel, side)) = named(&CALLS, row.call) else {
         return blocks_agree(row);
     };
     match kernel {

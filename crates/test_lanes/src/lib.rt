@@ -13,8 +13,6 @@ mod long_products;
 #[cfg(test)]
 mod number_rules;
 #[cfg(test)]
-mod numbered;
-#[cfg(test)]
 mod numbers;
 #[cfg(test)]
 mod operations;
@@ -46,8 +44,6 @@ mod packing_texts;
 mod packing_types;
 #[cfg(test)]
 mod power_lists;
-#[cfg(test)]
-mod rows;
 #[cfg(test)]
 mod stored_products;
 #[cfg(test)]

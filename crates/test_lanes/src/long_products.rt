@@ -2,7 +2,6 @@
 //! arithmetic.
 use crate::cases::Arithmetic;
 use crate::number_rules::{Rule, plain_at, plain_dot};
-use crate::numbered::{Numbered, value, values};
 use crate::orders::Short17;
 use p3_packed_prime_fields::packed::Packed;
 use p3_prime_fields::baby_bear::BabyBearModulus;
@@ -15,6 +14,7 @@ use p3_prime_fields::small::M17;
 use p3_ring::ring::{PrimeCharacteristicRing, RingSums};
 use std::alloc::{AllocError, Global};
 use std::test::Fail;
+use test_values::numbered::{Numbered, value, values};
 
 /// An order, and two lists of numbers below it by their rules.
 #[derive(Clone, Copy)]

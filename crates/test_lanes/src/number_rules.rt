@@ -1,7 +1,7 @@
 //! Lists of numbers by a rule, and what their sums and products are modulo an order, by plain arithmetic.
 use crate::cases::Arithmetic;
-use crate::numbered::number_at;
 use std::alloc::{AllocError, Global};
+use test_values::numbered::number_at;
 
 /// A rule of a list of numbers.
 #[derive(Clone, Copy)]

@@ -3,10 +3,10 @@ ghost use Rattle.std.specs.Prelude.{IsTrue};
 ghost use Rattle.p3_theory.specs.Rings.Ring.{Invertible};
 
 use crate::cases::{Arithmetic, Case, Operation, Unary};
-use crate::numbered::{Numbered, holds, value, values};
 use p3_field_traits::field::Field;
 use p3_ring::ring::{Algebra, PrimeCharacteristicRing};
 use std::alloc::{AllocError, Global};
+use test_values::numbered::{Numbered, holds, value, values};
 
 /// A sum, a difference or a product of two values.
 fn of_two<A: PrimeCharacteristicRing>(operation: Arithmetic, x: A, y: A) -> A {

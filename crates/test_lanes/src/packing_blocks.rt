@@ -2,9 +2,9 @@
 ghost use Rattle.std.specs.Prelude.{◌≡◌, ◌%◌};
 
 use crate::cases::Case;
-use crate::numbered::{Numbered, holds_at, value};
 use p3_field_traits::field::Field;
 use p3_field_traits::packed_traits::{PackedFieldPow2, PackedValue};
+use test_values::numbered::{Numbered, holds_at, value};
 
 /// Two packings, interleaved by blocks of so many lanes; none where the blocks don't fill a packing.
 fn interleaved<F: Field, P: PackedFieldPow2<F>>(x: P, y: P, block: usize) -> Option<(P, P)> {

@@ -1,6 +1,5 @@
 //! The calls on packings of a prime field's values, implemented once for all of them.
 use crate::cases::{Arithmetic, Call, Case, Operation};
-use crate::numbered::{Numbered, holds, value};
 use crate::operations::operation_agrees;
 use crate::packing_blocks::interleaved_agree;
 use crate::packing_columns::{packed_agree, unpacked_agree};
@@ -19,6 +18,7 @@ use p3_prime_fields::fp::Fp;
 use p3_ring::ring::Algebra;
 use p3_vectorized::vectorized::Vectorized;
 use std::alloc::{AllocError, Global};
+use test_values::numbered::{Numbered, holds, value};
 
 /// What calls on packings P of values of F make values of: where a signature names them, it is known that they
 /// have room.

@@ -1,10 +1,10 @@
 //! Five columns of rows as packings, and back.
 use crate::cases::Case;
-use crate::numbered::{Numbered, all_hold, holds, multiples, value, value_at, values};
 use p3_field_traits::packed_traits::PackedValue;
 use p3_packing_traits::columns::{pack_columns, pack_columns_fn, unpack_into};
 use p3_packing_traits::unpacked_rows::{UnpackedRows, unpack_iter};
 use std::alloc::{AllocError, Global};
+use test_values::numbered::{Numbered, all_hold, holds, multiples, value, value_at, values};
 
 /// Whether the packings of the columns of rows are the answer, of rows in a slice and of rows that a closure
 /// answers. Signatures name the arrays, of which it is known then that they have room; nothing is read of them.

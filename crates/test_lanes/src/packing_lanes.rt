@@ -2,9 +2,9 @@
 ghost use Rattle.std.specs.Prelude.{◌≤◌, ◌+◌, ◌*◌, IfSome};
 
 use crate::cases::{Case, LaneCall};
-use crate::numbered::{Numbered, all_hold, holds, value, values};
 use p3_field_traits::packed_traits::PackedValue;
 use std::alloc::{AllocError, Global};
+use test_values::numbered::{Numbered, all_hold, holds, value, values};
 
 /// The number of a group that lies whole in so many values.
 pub(crate) fn group_within<P: PackedValue>(length: usize, group: usize) -> Option<usize>

@@ -3,12 +3,12 @@ ghost use Rattle.std.specs.Prelude.{◌≡◌, ◌<◌, IsTrue};
 ghost use Rattle.p3_theory.specs.Rings.Ring.{Invertible};
 
 use crate::cases::Case;
-use crate::numbered::{Numbered, holds, value};
 use crate::operations::has_inverse;
 use p3_field_traits::field::Field;
 use p3_field_traits::packed_traits::{PackedField, PackedValue};
 use p3_ring::packed_ring::PackedRing;
 use p3_ring::ring::{Algebra, PrimeCharacteristicRing};
+use test_values::numbered::{Numbered, holds, value};
 
 /// The packing of the inverses of the lanes, zero where a lane has none.
 fn lane_inverses<F: Field, P: PackedValue<Value = F>>(packing: &P) -> P {

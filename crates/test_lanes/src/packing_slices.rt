@@ -3,7 +3,6 @@
 ghost use Rattle.std.specs.Prelude.{◌≡◌, length};
 
 use crate::cases::{Case, SliceCall};
-use crate::numbered::{Numbered, all_hold, multiples, value, values};
 use crate::packing_lanes::group_within;
 use p3_field_traits::field::Field;
 use p3_field_traits::packed_traits::{PackedField, PackedValue};
@@ -12,6 +11,7 @@ use p3_helpers::helpers::{
 };
 use p3_ring::ring::PrimeCharacteristicRing;
 use std::alloc::{AllocError, Global};
+use test_values::numbered::{Numbered, all_hold, multiples, value, values};
 
 /// The calls that change a slice.
 static CALLS: [SliceCall; 4] = [

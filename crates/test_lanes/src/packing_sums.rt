@@ -2,7 +2,6 @@
 ghost use Rattle.std.specs.Prelude.{◌≡◌, ◌<◌, length};
 
 use crate::cases::Case;
-use crate::numbered::{Numbered, all_hold, holds, value, values};
 use p3_field_traits::field::Field;
 use p3_field_traits::packed_traits::PackedField;
 use p3_packing_traits::columnwise::{
@@ -10,6 +9,7 @@ use p3_packing_traits::columnwise::{
 };
 use p3_ring::ring::{Algebra, PrimeCharacteristicRing};
 use std::alloc::{AllocError, Global};
+use test_values::numbered::{Numbered, all_hold, holds, value, values};
 
 /// The pairs of coefficients and the packing that they go with, told by turns after the first argument.
 fn pairs<P: Numbered>(alloc: Global, case: &Case) -> Result<Vec<(Vec<P>, P)>, AllocError> {

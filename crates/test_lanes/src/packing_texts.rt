@@ -1,5 +1,4 @@
 //! The text of a packing, and its copy by `clone`.
-use crate::numbered::Numbered;
 use p3_packed_prime_fields::packed::Packed;
 use p3_prime_fields::baby_bear::BabyBearModulus;
 use p3_prime_fields::form::{Form, Plain};
@@ -9,6 +8,7 @@ use p3_prime_fields::small::M17;
 use std::alloc::AllocError;
 use std::process::Abort;
 use std::test::Fail;
+use test_values::numbered::{Numbered, value};
 
 /// The copy that `clone` makes.
 fn copy_of<T: Clone>(x: &T) -> Result<T, AllocError> {
@@ -21,7 +21,7 @@ fn assert_written<W: Form<u32>>(
     numbers: &[u64],
     text: &str,
 ) -> Result<(), Fail> {
-    let packing = <Packed<Fp<W>, 4> as Numbered>::read(numbers, 0);
+    let packing = value::<Packed<Fp<W>, 4>>(numbers);
     assert_eq!(rt; format!(in rt.alloc(); "{packing:?}")?.as_str(), text);
     let copy = copy_of(&packing)?;
     for i in 0..numbers.len() {

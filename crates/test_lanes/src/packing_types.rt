@@ -4,7 +4,6 @@ use crate::packing_calls::PackingCalls;
 use crate::packing_list_tables::{EVERY_LENGTH, LISTS, POWER_GROWTHS, POWERS, WORKED_POWERS};
 use crate::packing_sum_tables::{COLUMNS, EIGHT_LANES, SUMS, WORKED_SUMS};
 use crate::packing_tables::{BLOCKS, LEFT, OPERATIONS, WORKED_BLOCKS};
-use crate::rows::Row;
 use crate::vector_tables::VECTORS;
 use p3_field_traits::field::PrimeField64;
 use p3_packed_prime_fields::packed::Packed;
@@ -17,6 +16,7 @@ use p3_prime_fields::small::{F17, M17, M31};
 use std::alloc::{AllocError, Global};
 use std::process::Abort;
 use std::test::Fail;
+use test_values::rows::Row;
 
 /// Whether a call at packings of so many lanes has its answer, over a prime field whose residues are words of
 /// 32 bits.

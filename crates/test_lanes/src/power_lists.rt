@@ -1,7 +1,6 @@
 //! Powers as packings one after the other, lists of powers that are made by packings, and the growths that such
 //! lists ask for, refused in turn.
 use crate::cases::{Call, Case};
-use crate::numbered::{Numbered, holds_at, number_at, value, value_count};
 use p3_field_traits::field::Field;
 use p3_field_traits::packed_traits::PackedField;
 use p3_ring::packed_ring::PackedRing;
@@ -9,6 +8,7 @@ use p3_ring::powers::Powers;
 use p3_ring::ring::PrimeCharacteristicRing;
 use std::alloc::{AllocError, Global};
 use test_allocator::Refusing;
+use test_values::numbered::{Numbered, holds_at, number_at, value, value_count};
 
 /// Whether the first packings of a sequence are the answer.
 pub(crate) fn powers_agree<F: Field + Numbered, P: PackedField<F> + Numbered>(

@@ -2,7 +2,6 @@
 //! arithmetic.
 use crate::cases::Arithmetic;
 use crate::number_rules::{Rule, plain, plain_at, plain_dot};
-use crate::numbered::number_at;
 use p3_c_words::numbers::{from_canonical, to_canonical};
 use p3_c_words::stored::Stored;
 use p3_prime_fields::fp::Fp;
@@ -10,6 +9,7 @@ use p3_prime_fields::koala_bear::KoalaBearModulus;
 use p3_prime_fields::montgomery::{Montgomery, MontgomeryModulus};
 use std::alloc::{AllocError, Global};
 use std::test::Fail;
+use test_values::numbered::number_at;
 
 /// The order of KoalaBear.
 const ORDER: u64 = 2130706433;

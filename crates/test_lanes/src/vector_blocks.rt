@@ -2,9 +2,9 @@
 ghost use Rattle.std.specs.Prelude.{◌≡◌, ◌%◌, ◌<◌};
 
 use crate::numbers::numbers;
-use crate::rows::Row;
 use p3_residues::interleaves::{interleave_u32, interleave_u64, interleave_u128, interleave_u256};
 use std::simd::prelude::*;
+use test_values::rows::Row;
 
 /// The first of two values.
 fn first_of<T: Copy>(both: (T, T)) -> T {

@@ -1,7 +1,6 @@
 //! Batch inversion told by lines of three texts: what the closure answers, the entries and the answers.
 mod tables;
 
-use crate::canonical::Canonical;
 use crate::inverses::{have_inverses, inverse_or_zero};
 use crate::texts::{hold, values};
 use p3_field_traits::field::Field;
@@ -15,6 +14,7 @@ use std::process::Abort;
 use std::test::Fail;
 use tables::LINES;
 use test_allocator::Refusing;
+use test_values::canonical::Canonical;
 
 /// What the closure answers.
 #[derive(Clone, Copy)]

@@ -1,7 +1,6 @@
 //! Values of polynomials over cosets of residues modulo 17, and the one growth that a list of them asks for.
 ghost use Rattle.std.specs.Prelude.{◌<◌};
 
-use crate::canonical::Canonical;
 use crate::texts::{hold, values};
 use p3_field_traits::field::TwoAdicField;
 use p3_helpers::coset::TwoAdicMultiplicativeCoset;
@@ -10,6 +9,7 @@ use std::alloc::{AllocError, Global};
 use std::process::Abort;
 use std::test::Fail;
 use test_allocator::Refusing;
+use test_values::canonical::Canonical;
 
 /// The coefficients, the shift and the log size of a coset, and the values over it.
 type Row = (&'static str, u64, usize, &'static str);

@@ -1,6 +1,5 @@
 //! Cosets of two elements of residues modulo 15, 27 and 85, and over an extension that is no field, by hand; and
 //! the tests of cosets.
-use crate::canonical::Canonical;
 use crate::coset_values::assert_values;
 use crate::rings::{M27, M85, SplitM17};
 use p3_extension::extension::{BinomialExtensionField, HasTwoAdicBinomialExtension};
@@ -13,6 +12,7 @@ use p3_prime_fields::two_adic::TwoAdicConstants;
 use p3_prime_fields::two_adic_constants::TwoAdicBinomialConstants;
 use std::process::Abort;
 use std::test::Fail;
+use test_values::canonical::Canonical;
 
 /// A shift, and the elements of its coset; none where the shift has no inverse.
 type Row = (u64, Option<[u64; 2]>);

@@ -1,7 +1,6 @@
 //! What is asserted of the residues modulo 17, and of their extension by `X^2 = 3`: a check passes what both owe in one
 //! call for all topics.
 use crate::batch_inverses::assert_inverses;
-use crate::canonical::Canonical;
 use crate::growths::assert_growths;
 use crate::points::assert_points;
 use p3_extension::extension::{BinomialExtensionField, BinomiallyExtendable};
@@ -12,6 +11,7 @@ use p3_prime_fields::extensions::F17x2;
 use p3_prime_fields::small::F17;
 use std::process::Abort;
 use std::test::Fail;
+use test_values::canonical::Canonical;
 
 /// What is asserted.
 #[derive(Clone, Copy)]

@@ -4,7 +4,6 @@ mod calls;
 mod numbers;
 mod table;
 
-use crate::canonical::Canonical;
 use calls::{Callee, Scalars, Splits};
 use numbers::Pair;
 use p3_extension::extension::{BinomialExtensionField, BinomiallyExtendable};
@@ -16,6 +15,7 @@ use std::process::Abort;
 use std::test::Fail;
 use table::{Call, LIMBS, PAIRS, Row, SCALARS, answered, growths_at};
 use test_allocator::Refusing;
+use test_values::canonical::Canonical;
 
 /// The lengths that are tried beside those from 0 to 130.
 const LENGTHS: [usize; 6] = [1000, 1023, 1024, 1025, 1027, 2049];

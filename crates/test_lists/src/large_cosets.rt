@@ -1,7 +1,6 @@
 //! Values of polynomials over cosets of many points and of extensions, beside Horner's rule in plain numbers.
 ghost use Rattle.std.specs.Prelude.{◌<◌};
 
-use crate::canonical::Canonical;
 use crate::plain_ring::{List, MOST, PlainRing, at, list_of};
 use p3_extension::extension::{
     Binomial, BinomialExtensionField, ExtField, HasTwoAdicBinomialExtension,
@@ -20,6 +19,7 @@ use poly_eval::eval_coset_into;
 use std::alloc::{AllocError, Global};
 use std::process::Abort;
 use std::test::Fail;
+use test_values::canonical::Canonical;
 
 /// Values that lists of numbers tell.
 trait Listed: Copy {

@@ -5,8 +5,6 @@
 #[cfg(test)]
 mod batch_inverses;
 #[cfg(test)]
-mod canonical;
-#[cfg(test)]
 mod coset_values;
 #[cfg(test)]
 mod cosets;

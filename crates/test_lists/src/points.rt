@@ -1,5 +1,4 @@
 //! Values of polynomials over the residues modulo 17 at points of their extension by `X^2 = 3`, and of long ones at two.
-use crate::canonical::Canonical;
 use crate::texts::values;
 use p3_extension::extension::{BinomialExtensionField, BinomiallyExtendable};
 use p3_helpers::horner::horner_slice;
@@ -8,6 +7,7 @@ use poly_eval::eval_point;
 use std::alloc::{AllocError, Global};
 use std::process::Abort;
 use std::test::Fail;
+use test_values::canonical::Canonical;
 
 /// The coefficients of a polynomial, those of a point, and those of the value there. The first four rows are worked by
 /// hand, the others are outside values.

@@ -1,7 +1,7 @@
 //! Residues by texts of their numbers, which stand between spaces.
-use crate::canonical::Canonical;
 use p3_ring::ring::PrimeCharacteristicRing;
 use std::alloc::{AllocError, Global};
+use test_values::canonical::Canonical;
 
 /// The values of a text.
 pub(crate) fn values<F: PrimeCharacteristicRing>(

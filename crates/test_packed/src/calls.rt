@@ -4,7 +4,6 @@
 use crate::call_tables as tables;
 use crate::cases::Case;
 use crate::extension_calls::{BaseCalls, ComplexCalls, ExtensionCalls, ExtensionRooms};
-use crate::rows::Row;
 use p3_extension::extension::{Binomial, ExtensionShape, IntegerPolynomial, Modulo, Septic};
 use p3_packed_prime_fields::lanes::LaneCount;
 use p3_packed_prime_fields::packed::Packed;
@@ -16,6 +15,7 @@ use p3_prime_fields::small::{F31, M2, M17};
 use std::alloc::{AllocError, Global};
 use std::process::Abort;
 use std::test::Fail;
+use test_values::rows::Row;
 
 /// The calls over packings at the extension of degree D by the shape S, implemented once for all fields that
 /// have it.

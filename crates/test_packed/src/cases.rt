@@ -1,6 +1,7 @@
 //! The calls that the rows of tables name, and the numbers of their arguments and answers.
-use crate::rows::Row;
 use std::alloc::{AllocError, Global};
+use test_values::rows::Row;
+use test_values::texts::{named, numbers};
 
 /// A call on the lanes of a packing.
 #[derive(Clone, Copy)]
@@ -150,51 +151,20 @@ static OPERATIONS: [(&str, Call); 25] = [
     ),
 ];
 
-/// The call of a name in a table.
-fn call_in(table: &[(&'static str, Call)], name: &str) -> Option<Call> {
-    for row in table {
-        let (known, call) = *row;
-        if known == name {
-            return Some(call);
-        }
-    }
-    None
-}
-
 /// The call that a row names; an operation stands behind `packed_ext`.
 fn call_of(name: &str) -> Option<Call> {
     match name.strip_prefix("packed_ext ") {
-        Some(operation) => call_in(&OPERATIONS, operation),
-        None => call_in(&CALLS, name),
+        Some(operation) => named(&OPERATIONS, operation),
+        None => named(&CALLS, name),
     }
-}
-
-/// The numbers of a text, whatever stands between them.
-fn numbers(alloc: Global, text: &str) -> Result<Vec<u32>, AllocError> {
-    let mut numbers = Vec::new(alloc);
-    let mut number: Option<u32> = None;
-    for byte in text.bytes() {
-        let digit = byte.wrapping_sub(b'0');
-        if digit < 10 {
-            let tens = number.unwrap_or(0).wrapping_mul(10);
-            number = Some(tens.wrapping_add(digit as u32));
-        } else if let Some(whole) = number {
-            numbers.push(whole)?;
-            number = None;
-        }
-    }
-    if let Some(whole) = number {
-        numbers.push(whole)?;
-    }
-    Ok(numbers)
 }
 
 /// A row's call, and the numbers of its arguments and its answer.
 #[derive(Drop)]
 pub(crate) struct Case {
     pub(crate) call: Call,
-    pub(crate) arguments: Vec<Vec<u32>>,
-    pub(crate) answer: Vec<u32>,
+    pub(crate) arguments: Vec<Vec<u64>>,
+    pub(crate) answer: Vec<u64>,
 }
 
 impl Case {
@@ -216,7 +186,7 @@ impl Case {
     }
 
     /// The numbers of the argument at an index, none where there is none.
-    pub(crate) fn argument(&self, index: usize) -> &[u32] {
+    pub(crate) fn argument(&self, index: usize) -> &[u64] {
         match self.arguments.get(index) {
             Some(numbers) => numbers,
             None => &[],

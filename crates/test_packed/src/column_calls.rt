@@ -1,11 +1,11 @@
 //! Two columns of rows of extension values as packings, and back.
 use crate::cases::Case;
-use crate::numbered::{Numbered, all_hold, counted, holds, value, value_at, values};
 use p3_packing_traits::ext_columns::{pack_ext_columns, pack_ext_columns_fn, unpack_ext_into};
 use p3_packing_traits::extension_lanes::ExtensionLanes;
 use p3_packing_traits::unpacked_ext_rows::{UnpackedExtRows, unpack_ext_iter};
 use p3_ring::ring::PrimeCharacteristicRing;
 use std::alloc::{AllocError, Global};
+use test_values::numbered::{Numbered, all_hold, counted, holds, value, value_at, values};
 
 /// What calls on two columns make values of: where a signature names them, it is known that they have room.
 pub(crate) type Rooms<F, EF, PE> = ([EF; 2], [PE; 2], UnpackedExtRows<F, EF, PE, 2>);

@@ -1,11 +1,11 @@
 //! Products of rows of packings and two scales, added column by column to packings of extension values.
 use crate::cases::{Call, Case};
-use crate::numbered::{Numbered, all_hold, value, values};
 use p3_packing_traits::columnwise::{
     batched_columnwise_dot_product, generic_batched_columnwise_dot_product,
 };
 use p3_ring::ring::{Algebra, PrimeCharacteristicRing};
 use std::alloc::{AllocError, Global};
+use test_values::numbered::{Numbered, all_hold, value, values};
 
 /// The items of a product, told after the accumulators by turns by a row of packings and its scales.
 fn items<P: Numbered, EF: Numbered>(

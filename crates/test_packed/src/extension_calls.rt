@@ -3,7 +3,6 @@ use crate::cases::{Call, Case};
 use crate::column_calls::Rooms;
 use crate::extension_operations::quotient_or_total_agrees;
 use crate::lane_calls::lanes_agree;
-use crate::numbered::Numbered;
 use crate::operation_calls::operation_agrees;
 use crate::row_calls::row_agrees;
 use crate::sequence_calls::sequences_agree;
@@ -17,6 +16,7 @@ use p3_packed_extension::holds_scalar::HoldsScalar;
 use p3_packed_extension::packed_ext_field::PackedExtField;
 use p3_ring::ring::{Algebra, PrimeCharacteristicRing};
 use std::alloc::{AllocError, Global};
+use test_values::numbered::Numbered;
 
 /// What calls on packings P of values of an extension of F make values of.
 pub(crate) type ExtensionRooms<F, S, P, const D: usize> = Rooms<

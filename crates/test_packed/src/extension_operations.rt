@@ -5,7 +5,6 @@ ghost use Rattle.p3_theory.specs.Lanes.Lanes.{lane};
 
 use crate::cases::{Call, Case};
 use crate::inverse_calls::{has_inverse, have_inverses};
-use crate::numbered::{Numbered, holds, value, values};
 use p3_extension::extension::{
     ExtField, ExtensionOverAlgebra, ExtensionShape, FrobeniusExtendable,
 };
@@ -16,6 +15,7 @@ use p3_packed_extension::packed_ext_field::PackedExtField;
 use p3_packing_traits::extension_lanes::ExtensionLanes;
 use p3_ring::ring::PrimeCharacteristicRing;
 use std::alloc::{AllocError, Global};
+use test_values::numbered::{Numbered, holds, value, values};
 
 /// Packings of values of EF with their quotients, and the sums and products of lists.
 pub(crate) trait ExtensionOperations<F, EF: PrimeCharacteristicRing>: ExtensionLanes<F, EF> {

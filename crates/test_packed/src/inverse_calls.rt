@@ -4,11 +4,11 @@ ghost use Rattle.p3_theory.specs.Rings.Ring.{Invertible};
 ghost use Rattle.p3_theory.specs.Lanes.Lanes.{lane};
 
 use crate::cases::Case;
-use crate::numbered::{Numbered, holds, value};
 use p3_field_traits::field::Field;
 use p3_helpers::packed_inverse::invert_packed_extension;
 use p3_packing_traits::extension_lanes::{ExtensionLanes, PackedExtensionRing};
 use p3_ring::ring::Algebra;
+use test_values::numbered::{Numbered, holds, value};
 
 /// Whether a value has an inverse.
 pub(crate) fn has_inverse<T: Field>(y: T) -> bool

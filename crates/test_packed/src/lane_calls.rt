@@ -1,9 +1,9 @@
 //! Calls on the lanes of packed values.
 use crate::cases::{Case, LaneCall};
-use crate::numbered::{Numbered, all_hold, counted, holds, value, value_at, values};
 use p3_packing_traits::extension_lanes::ExtensionLanes;
 use p3_ring::ring::PrimeCharacteristicRing;
 use std::alloc::{AllocError, Global};
+use test_values::numbered::{Numbered, all_hold, counted, holds, value, value_at, values};
 
 /// Whether a call on lanes has its answer.
 pub(crate) fn lanes_agree<F, EF, PE>(
@@ -48,7 +48,7 @@ where
 }
 
 /// The packing made of the values that a list tells.
-fn from_values<F, EF, PE>(numbers: &[u32]) -> PE
+fn from_values<F, EF, PE>(numbers: &[u64]) -> PE
 where
     EF: PrimeCharacteristicRing + Numbered,
     PE: ExtensionLanes<F, EF>,

@@ -20,8 +20,6 @@ mod inverse_calls;
 #[cfg(test)]
 mod lane_calls;
 #[cfg(test)]
-mod numbered;
-#[cfg(test)]
 mod operation_calls;
 #[cfg(test)]
 mod own_field;
@@ -29,7 +27,5 @@ mod own_field;
 mod quadratic;
 #[cfg(test)]
 mod row_calls;
-#[cfg(test)]
-mod rows;
 #[cfg(test)]
 mod sequence_calls;

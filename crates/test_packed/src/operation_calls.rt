@@ -1,8 +1,8 @@
 //! Operations on packings of extension values, with each other, with packings of the base and with extension values.
 use crate::cases::{Case, MixedOperation, Operation};
-use crate::numbered::{Numbered, holds, value, values};
 use p3_ring::ring::{Algebra, PrimeCharacteristicRing};
 use std::alloc::{AllocError, Global};
+use test_values::numbered::{Numbered, holds, value, values};
 
 /// What an operation gives on two values, or on a value and a number.
 fn operation<R: PrimeCharacteristicRing>(operation: Operation, x: R, y: R, number: u64) -> R {

@@ -4,7 +4,6 @@ use crate::column_calls::{Rooms, packed_agree, unpacked_agree};
 use crate::columnwise_calls::columnwise_agree;
 use crate::inverse_calls::{half_agrees, inverse_agrees};
 use crate::lane_calls::lanes_agree;
-use crate::numbered::Numbered;
 use crate::operation_calls::{dot_product_agrees, mixed_operation_agrees, operation_agrees};
 use crate::sequence_calls::sequences_agree;
 use p3_extension_traits::extension_field::ExtensionField;
@@ -13,6 +12,7 @@ use p3_packing_traits::extension_lanes::PackedExtensionRing;
 use p3_packing_traits::packed_field_extension::PackedFieldExtension;
 use p3_ring::ring::{Algebra, PrimeCharacteristicRing};
 use std::alloc::{AllocError, Global};
+use test_values::numbered::Numbered;
 
 /// Whether a call on lanes or columns has its answer.
 fn lane_calls_agree<F, EF, PE>(

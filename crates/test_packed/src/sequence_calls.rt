@@ -1,12 +1,12 @@
 //! Powers of an extension value as packings, and the values of packings one after the other.
 use crate::cases::{Call, Case};
-use crate::numbered::{Numbered, holds_at, value, value_count, values};
 use p3_extension_traits::extension_field::ExtensionField;
 use p3_field_traits::field::Field;
 use p3_packing_traits::packed_field_extension::PackedFieldExtension;
 use p3_ring::powers::{BoundedPowers, Powers};
 use p3_ring::ring::PrimeCharacteristicRing;
 use std::alloc::{AllocError, Global};
+use test_values::numbered::{Numbered, holds_at, value, value_count, values};
 
 /// Whether the packings or the values that a call gives one after the other are the answer.
 pub(crate) fn sequences_agree<F, EF, PE>(
@@ -37,7 +37,7 @@ where
 /// Whether the next power is the one at an index of those that a list tells.
 fn next_holds<R: PrimeCharacteristicRing + Numbered>(
     powers: &mut Powers<R>,
-    answer: &[u32],
+    answer: &[u64],
     index: usize,
 ) -> bool {
     match powers.next() {
@@ -49,7 +49,7 @@ fn next_holds<R: PrimeCharacteristicRing + Numbered>(
 /// Whether the first powers are those that a list tells.
 fn are_powers<R: PrimeCharacteristicRing + Numbered>(
     mut powers: Powers<R>,
-    answer: &[u32],
+    answer: &[u64],
 ) -> bool {
     for index in 0..value_count::<R>(answer) {
         if !next_holds(&mut powers, answer, index) {
@@ -62,7 +62,7 @@ fn are_powers<R: PrimeCharacteristicRing + Numbered>(
 /// Whether powers are those that a list tells, and no more.
 fn are_all_powers<R: PrimeCharacteristicRing + Numbered>(
     mut powers: BoundedPowers<R>,
-    answer: &[u32],
+    answer: &[u64],
 ) -> bool {
     for index in 0..value_count::<R>(answer) {
         match powers.next() {
@@ -74,7 +74,7 @@ fn are_all_powers<R: PrimeCharacteristicRing + Numbered>(
 }
 
 /// Whether the values in the lanes of packings are those that a list tells.
-fn are_values<F, EF, PE>(packings: Vec<PE>, answer: &[u32]) -> bool
+fn are_values<F, EF, PE>(packings: Vec<PE>, answer: &[u64]) -> bool
 where
     F: Field,
     EF: ExtensionField<F> + Numbered,

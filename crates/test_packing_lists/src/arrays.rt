@@ -8,7 +8,6 @@ mod quotients;
 mod tables;
 
 use crate::fields::Rooms;
-use crate::numbered::Numbered;
 use crate::texts::{holds, packing, value_at};
 use brackets::assert_brackets;
 use calls::{Call, Operation, Row, Total};
@@ -23,6 +22,7 @@ use std::fmt;
 use std::process::Abort;
 use std::test::Fail;
 use tables::{OUTSIDE, WORKED};
+use test_values::canonical::Canonical;
 
 /// What an operation gives on two values, or on one and a scalar.
 fn operated<F: PrimeCharacteristicRing, A: Algebra<F>>(
@@ -63,7 +63,7 @@ fn quotient<F: Field + Inhabited, const N: usize>(
 
 /// The sum or the product of the values of a text: of arrays entry by entry, and of scalars in each entry. Nothing is
 /// read of `_array`.
-fn total<F: PrimeCharacteristicRing + Packable + Numbered, const N: usize>(
+fn total<F: PrimeCharacteristicRing + Packable + Canonical, const N: usize>(
     alloc: Global,
     total: Total,
     text: &str,
@@ -85,7 +85,7 @@ fn total<F: PrimeCharacteristicRing + Packable + Numbered, const N: usize>(
 
 /// Whether the call of a row has its answer for arrays of N entries; `Ok(None)` where it names none, or the divisor,
 /// which is two for a half, has no inverse. Nothing is read of `_array`.
-fn agrees<F: Field + Packable + Numbered, const N: usize>(
+fn agrees<F: Field + Packable + Canonical, const N: usize>(
     alloc: Global,
     row: Row<'_>,
     _array: Option<FieldArray<F, N>>,
@@ -110,7 +110,7 @@ fn agrees<F: Field + Packable + Numbered, const N: usize>(
 
 /// Whether the call of a line has its answer, for arrays of 3 and 4 entries; `Ok(None)` where the line can't be read,
 /// or names no call. Nothing is read of `_rooms`.
-fn line_agrees<F: Field + Packable + Numbered>(
+fn line_agrees<F: Field + Packable + Canonical>(
     alloc: Global,
     line: &str,
     _rooms: Rooms<F>,
@@ -126,7 +126,7 @@ fn line_agrees<F: Field + Packable + Numbered>(
 }
 
 /// Asserts that the call of each line has its answer. Nothing is read of `_rooms`.
-pub(crate) fn assert_calls<F: Field + Packable + Numbered>(
+pub(crate) fn assert_calls<F: Field + Packable + Canonical>(
     rt: &(impl Abort + AllocGlobal),
     _rooms: Rooms<F>,
 ) -> Result<(), Fail> {
@@ -143,7 +143,7 @@ pub(crate) fn assert_calls<F: Field + Packable + Numbered>(
 }
 
 /// Asserts arrays entry by entry, mapped ones and quotients. Nothing is read of `_rooms`.
-pub(crate) fn assert_entries<F: Field + Packable + Numbered + fmt::Debug>(
+pub(crate) fn assert_entries<F: Field + Packable + Canonical + fmt::Debug>(
     rt: &(impl Abort + AllocGlobal),
     _rooms: Rooms<F>,
 ) -> Result<(), Fail> {

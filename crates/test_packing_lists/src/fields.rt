@@ -4,7 +4,6 @@
 use crate::arrays::{assert_calls, assert_entries};
 use crate::iterators::assert_items;
 use crate::lanes::{assert_interleaves, assert_slices};
-use crate::numbered::Numbered;
 use crate::vector_values::assert_vectors;
 use p3_field_traits::field::Field;
 use p3_field_traits::packed_traits::Packable;
@@ -16,6 +15,7 @@ use p3_vectorized::vectorized::Vectorized;
 use std::fmt;
 use std::process::Abort;
 use std::test::Fail;
+use test_values::canonical::Canonical;
 
 /// No arrays and vectors: a function that names them knows that they have room.
 pub(crate) type Rooms<F> = Option<
@@ -41,7 +41,7 @@ enum Topic {
 }
 
 /// Asserts a topic of a field of 17 elements. Nothing is read of `_rooms`.
-fn assert_field<F: Field + Packable + Numbered + fmt::Debug>(
+fn assert_field<F: Field + Packable + Canonical + fmt::Debug>(
     rt: &(impl Abort + AllocGlobal),
     topic: Topic,
     _rooms: Rooms<F>,

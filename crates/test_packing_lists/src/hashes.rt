@@ -1,5 +1,4 @@
 //! Residues that differ hash apart.
-use crate::numbered::Numbered;
 use p3_prime_fields::baby_bear::BabyBearModulus;
 use p3_prime_fields::form::{Plain, ShortForm};
 use p3_prime_fields::fp::Fp;
@@ -9,6 +8,7 @@ use std::alloc::{AllocError, Global};
 use std::hash::{Hash, Hasher};
 use std::process::Abort;
 use std::test::Fail;
+use test_values::canonical::Canonical;
 
 /// A hash of bytes: they are digits in base 257 behind those that came before, modulo 2^64. Up to seven
 /// bytes behind a one have a hash of their own.
@@ -41,10 +41,10 @@ fn hash_of<T: Hash>(x: &T) -> u64 {
 }
 
 /// Whether the hash of each residue of the first so many numbers differs from those of the ones before it.
-fn are_apart<F: Numbered + Hash>(alloc: Global, count: u64) -> Result<bool, AllocError> {
+fn are_apart<F: Canonical + Hash>(alloc: Global, count: u64) -> Result<bool, AllocError> {
     let mut hashes = Vec::new(alloc);
     for n in 0..count {
-        let hash = hash_of(&F::of(n));
+        let hash = hash_of(&F::of_number(n));
         for other in &hashes {
             if hash == *other {
                 return Ok(false);

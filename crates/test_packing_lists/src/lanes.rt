@@ -2,7 +2,6 @@
 //! hand.
 ghost use Rattle.std.specs.Prelude.{◌≡◌, length};
 
-use crate::numbered::Numbered;
 use crate::texts::{holds, number_at, packing, part, value_at};
 use p3_field_traits::field::Field;
 use p3_field_traits::packed_traits::{PackedField, PackedFieldPow2};
@@ -10,6 +9,7 @@ use p3_helpers::helpers::{par_add_scaled_slice_in_place, par_scale_slice_in_plac
 use std::alloc::{AllocError, Global};
 use std::process::Abort;
 use std::test::Fail;
+use test_values::canonical::Canonical;
 
 /// The numbers of the left packing's entries.
 const LEFT: &str = "3,1,4,15,9,2,6,5";
@@ -44,7 +44,7 @@ fn interleaved<F: Field, P: PackedFieldPow2<F>>(x: P, y: P, block: usize) -> Opt
 }
 
 /// Whether both packings, interleaved, are those of a line; none where it can't be read.
-fn line_agrees<F: Field + Numbered, P: PackedFieldPow2<F>>(line: &str) -> Option<bool> {
+fn line_agrees<F: Field + Canonical, P: PackedFieldPow2<F>>(line: &str) -> Option<bool> {
     let block = part(line, 0).parse::<usize>().ok()?;
     let (x, y) = (packing::<F, P>(LEFT), packing::<F, P>(RIGHT));
     let (first, second) = interleaved::<F, P>(x, y, block)?;
@@ -52,14 +52,14 @@ fn line_agrees<F: Field + Numbered, P: PackedFieldPow2<F>>(line: &str) -> Option
 }
 
 /// Asserts the interleaves of packings of eight lanes.
-pub(crate) fn assert_interleaves<F: Field + Numbered, P: PackedFieldPow2<F>>(rt: &impl Abort) {
+pub(crate) fn assert_interleaves<F: Field + Canonical, P: PackedFieldPow2<F>>(rt: &impl Abort) {
     for line in INTERLEAVED.lines() {
         assert_eq!(rt; line_agrees::<F, P>(line), Some(true), "{line}");
     }
 }
 
 /// The values of a text.
-fn values<F: Numbered>(alloc: Global, text: &str) -> Result<Vec<F>, AllocError> {
+fn values<F: Canonical>(alloc: Global, text: &str) -> Result<Vec<F>, AllocError> {
     let mut values = Vec::new(alloc);
     for i in 0..6 {
         values.push(value_at::<F>(text, i))?;
@@ -68,9 +68,9 @@ fn values<F: Numbered>(alloc: Global, text: &str) -> Result<Vec<F>, AllocError> 
 }
 
 /// Whether the entries of a slice are those of a text.
-fn are_values<F: Numbered>(slice: &[F], text: &str) -> bool {
+fn are_values<F: Canonical>(slice: &[F], text: &str) -> bool {
     for i in 0..slice.len() {
-        if number_at(text, i) != Some(slice[i].number()) {
+        if number_at(text, i) != Some(slice[i].canonical()) {
             return false;
         }
     }
@@ -78,16 +78,16 @@ fn are_values<F: Numbered>(slice: &[F], text: &str) -> bool {
 }
 
 /// Asserts that a slice is scaled, and added to another one, by packings P.
-pub(crate) fn assert_slices<F: Field + Numbered, P: PackedField<F>>(
+pub(crate) fn assert_slices<F: Field + Canonical, P: PackedField<F>>(
     rt: &(impl Abort + AllocGlobal),
 ) -> Result<(), Fail> {
     let slice: Vec<F> = values(rt.alloc(), SLICE)?;
     let mut scaled: Vec<F> = values(rt.alloc(), SLICE)?;
     let mut sums: Vec<F> = values(rt.alloc(), ADDED_TO)?;
-    par_scale_slice_in_place::<F, P>(&mut scaled, F::of(3));
+    par_scale_slice_in_place::<F, P>(&mut scaled, F::of_number(3));
     assert!(rt; are_values(&scaled, SCALED));
     if sums.len() == slice.len() {
-        par_add_scaled_slice_in_place::<F, P>(&mut sums, &slice, F::of(3));
+        par_add_scaled_slice_in_place::<F, P>(&mut sums, &slice, F::of_number(3));
     }
     assert!(rt; are_values(&sums, SUMS));
     Ok(())

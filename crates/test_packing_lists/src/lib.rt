@@ -13,8 +13,6 @@ mod iterators;
 #[cfg(test)]
 mod lanes;
 #[cfg(test)]
-mod numbered;
-#[cfg(test)]
 mod texts;
 #[cfg(test)]
 mod vector_values;

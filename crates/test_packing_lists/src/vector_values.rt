@@ -1,6 +1,5 @@
 //! A row worked by hand, at the eight lanes of a vector of two arrays.
 use crate::fields::Rooms;
-use crate::numbered::Numbered;
 use crate::texts::{holds_from, value_at};
 use p3_field_traits::field::Field;
 use p3_field_traits::packed_traits::{Inhabited, Packable, PackedField, PackedValue};
@@ -9,6 +8,7 @@ use p3_vectorized::vectorized::Vectorized;
 use poly_eval::eval_vectorized;
 use std::process::Abort;
 use std::test::Fail;
+use test_values::canonical::Canonical;
 
 /// The coefficients of the polynomial.
 const COEFFICIENTS: &str = "1,2,3";
@@ -20,13 +20,13 @@ const VALUES: &str = "1,6,0,0,6,1,2,9";
 const LANES: usize = 8;
 
 /// The packing at an index of a vector whose lane i holds i.
-fn counted<F: Numbered, P: PackedValue<Value = F>>(index: usize) -> P {
+fn counted<F: Canonical, P: PackedValue<Value = F>>(index: usize) -> P {
     let start = index.wrapping_mul(P::WIDTH);
-    P::from_fn(|lane: usize| -> F { F::of(start.wrapping_add(lane) as u64) })
+    P::from_fn(|lane: usize| -> F { F::of_number(start.wrapping_add(lane) as u64) })
 }
 
 /// The vector whose lane i holds i.
-fn points<F: Numbered, P: PackedValue<Value = F> + Inhabited, const N: usize>() -> Vectorized<
+fn points<F: Canonical, P: PackedValue<Value = F> + Inhabited, const N: usize>() -> Vectorized<
     F,
     P,
     N,
@@ -35,7 +35,7 @@ fn points<F: Numbered, P: PackedValue<Value = F> + Inhabited, const N: usize>() 
 }
 
 /// Whether the lanes of a vector hold the values, and there are no other lanes.
-fn holds<F: Numbered, P: PackedValue<Value = F> + Inhabited, const N: usize>(
+fn holds<F: Canonical, P: PackedValue<Value = F> + Inhabited, const N: usize>(
     vector: Vectorized<F, P, N>,
 ) -> bool {
     let packings = vector.0;
@@ -49,7 +49,7 @@ fn holds<F: Numbered, P: PackedValue<Value = F> + Inhabited, const N: usize>(
 
 /// Whether the values at the lanes of a vector of N packings are those of the row. Nothing is read of
 /// `_points`: a function that names the vector knows that it has room.
-fn agrees<F: Field + Numbered, P: PackedField<F>, const N: usize>(
+fn agrees<F: Field + Canonical, P: PackedField<F>, const N: usize>(
     coeffs: &[F],
     _points: Option<Vectorized<F, P, N>>,
 ) -> bool {
@@ -58,7 +58,7 @@ fn agrees<F: Field + Numbered, P: PackedField<F>, const N: usize>(
 }
 
 /// Asserts that the vector agrees. Nothing is read of `_rooms`.
-pub(crate) fn assert_vectors<F: Field + Packable + Numbered>(
+pub(crate) fn assert_vectors<F: Field + Packable + Canonical>(
     rt: &(impl Abort + AllocGlobal),
     _rooms: Rooms<F>,
 ) -> Result<(), Fail> {

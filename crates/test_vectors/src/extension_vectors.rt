@@ -10,7 +10,8 @@ use p3_prime_fields::small::M17;
 use p3_ring::ring::{Algebra, PrimeCharacteristicRing};
 use p3_vectorized::vectorized::Vectorized;
 use p3_vectorized::vectorized_ext::VectorizedExt;
-use test_families::values::{Canonical, Listed, list_of_value};
+use test_families::values::{Listed, list_of_value};
+use test_values::canonical::Canonical;
 
 /// An operation on a vector and a vector of residues, or one residue.
 #[derive(Clone, Copy)]

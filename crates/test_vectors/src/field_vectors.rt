@@ -5,7 +5,7 @@ use p3_prime_fields::form::{Form, Plain};
 use p3_prime_fields::fp::Fp;
 use p3_prime_fields::small::{F17, M17};
 use p3_vectorized::vectorized::Vectorized;
-use test_families::values::Canonical;
+use test_values::canonical::Canonical;
 
 /// A vector of three residues.
 type Three<F> = Vectorized<F, F, 3>;

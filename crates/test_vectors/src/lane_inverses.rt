@@ -14,7 +14,8 @@ use p3_packed_extension::holds_scalar::HoldsScalar;
 use p3_packed_extension::packed_ext_field::PackedExtField;
 use p3_packing_traits::extension_lanes::{ExtensionLanes, PackedExtensionRing};
 use p3_ring::ring::PrimeCharacteristicRing;
-use test_families::values::{List, Listed, list_of_value};
+use test_families::values::{Listed, list_of_value};
+use test_values::lists::List;
 
 /// The lanes of a call's arguments, of which an inverse has the right one alone, and those of its answer: none where
 /// a lane of the right side has no inverse.

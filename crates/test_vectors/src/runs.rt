@@ -14,7 +14,8 @@ use p3_ring::ring::PrimeCharacteristicRing;
 use p3_vectorized::steps::run_lane_steps;
 use p3_vectorized::vectorized_ext::VectorizedExt;
 use std::alloc::{AllocError, Global};
-use test_families::values::{List, Listed, ZERO, list_of_value, of_list};
+use test_families::values::{Listed, list_of_value, of_list};
+use test_values::lists::{List, ZERO};
 
 /// A run, and what the registers hold before it and after it: the lists of the lanes, one register after the
 /// other.

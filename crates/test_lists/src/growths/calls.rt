@@ -1,7 +1,6 @@
 //! The calls of the table on values, limbs and extension values.
 use super::numbers::{Pair, Sequence, coefficient, coefficients, terms};
 use super::table::Call;
-use crate::canonical::Canonical;
 use crate::inverses::have_inverses;
 use p3_extension::extension::{Binomial, BinomiallyExtendable, ExtField, HasFrobenius};
 use p3_extension_traits::basis::{AlgebraIdentity, BasedVectorSpace};
@@ -15,6 +14,7 @@ use p3_helpers::splits::{
 use p3_ring::ring::PrimeCharacteristicRing;
 use std::alloc::{AllocError, Allocator};
 use std::marker::PhantomData;
+use test_values::canonical::Canonical;
 
 /// What has calls in the table.
 pub(crate) trait Callee: Copy {

@@ -1,5 +1,4 @@
 //! Arrays read and written by brackets, compared and printed.
-use crate::numbered::Numbered;
 use crate::texts::{number_at, packing};
 use p3_field_traits::packed_traits::{Inhabited, Packable};
 use p3_vectorized::array::FieldArray;
@@ -7,6 +6,7 @@ use std::alloc::{AllocError, Global};
 use std::fmt;
 use std::process::Abort;
 use std::test::Fail;
+use test_values::canonical::Canonical;
 
 /// The numbers of an array's entries, from the first on.
 const NUMBERS: &str = "3,5,7,9";
@@ -18,7 +18,7 @@ const TEXT: &str = "[3, 5, 7, 9]";
 const OTHER: u64 = 2;
 
 /// Whether the array, read by brackets, has this number at an index and the first N numbers at the others.
-fn holds<F: Numbered + Inhabited, const N: usize>(
+fn holds<F: Canonical + Inhabited, const N: usize>(
     array: &FieldArray<F, N>,
     index: usize,
     written: u64,
@@ -29,7 +29,7 @@ fn holds<F: Numbered + Inhabited, const N: usize>(
         } else {
             number_at(NUMBERS, i)
         };
-        if expected != Some(array[i].number()) {
+        if expected != Some(array[i].canonical()) {
             return false;
         }
     }
@@ -37,19 +37,19 @@ fn holds<F: Numbered + Inhabited, const N: usize>(
 }
 
 /// Whether a write by brackets at an index writes there and nowhere else.
-fn is_written<F: Numbered + Inhabited, const N: usize>(
+fn is_written<F: Canonical + Inhabited, const N: usize>(
     before: &FieldArray<F, N>,
     index: usize,
 ) -> bool {
     let mut array = *before;
     if index < N {
-        array[index] = F::of(OTHER);
+        array[index] = F::of_number(OTHER);
     }
     holds(&array, index, OTHER) && holds(before, N, OTHER)
 }
 
 /// Whether an array is equal to one of the same numbers, and to none that differs from it in one entry.
-fn is_compared<F: Numbered + Inhabited + PartialEq, const N: usize>(
+fn is_compared<F: Canonical + Inhabited + PartialEq, const N: usize>(
     array: &FieldArray<F, N>,
     same: &FieldArray<F, N>,
 ) -> bool {
@@ -58,7 +58,7 @@ fn is_compared<F: Numbered + Inhabited + PartialEq, const N: usize>(
     }
     for i in 0..N {
         let mut other = *array;
-        other[i] = F::of(OTHER);
+        other[i] = F::of_number(OTHER);
         if *array == other || other == *array {
             return false;
         }
@@ -67,9 +67,9 @@ fn is_compared<F: Numbered + Inhabited + PartialEq, const N: usize>(
 }
 
 /// Whether each entry is zero.
-fn is_zero<F: Numbered + Inhabited, const N: usize>(array: &FieldArray<F, N>) -> bool {
+fn is_zero<F: Canonical + Inhabited, const N: usize>(array: &FieldArray<F, N>) -> bool {
     for i in 0..N {
-        if array[i].number() != 0 {
+        if array[i].canonical() != 0 {
             return false;
         }
     }
@@ -86,7 +86,7 @@ fn is_printed<F: Inhabited + fmt::Debug, const N: usize>(
 }
 
 /// Asserts reads, writes, comparison and the text of the array of the first N numbers, and that the default is zero.
-pub(crate) fn assert_brackets<F: Numbered + Packable + fmt::Debug, const N: usize>(
+pub(crate) fn assert_brackets<F: Canonical + Packable + fmt::Debug, const N: usize>(
     rt: &(impl Abort + AllocGlobal),
     default: FieldArray<F, N>,
 ) -> Result<(), Fail> {

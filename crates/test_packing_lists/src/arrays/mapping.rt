@@ -1,11 +1,11 @@
 //! Arrays mapped by a closure, worked by hand.
 use crate::fields::Rooms;
-use crate::numbered::Numbered;
 use crate::texts::{holds, packing};
 use p3_field_traits::packed_traits::{Inhabited, Packable};
 use p3_ring::ring::PrimeCharacteristicRing;
 use p3_vectorized::array::FieldArray;
 use std::process::Abort;
+use test_values::canonical::Canonical;
 
 /// The square of each entry.
 fn squares<F: PrimeCharacteristicRing + Inhabited, const N: usize>(
@@ -25,7 +25,7 @@ fn shifted<F: PrimeCharacteristicRing + Inhabited, const N: usize>(x: FieldArray
 }
 
 /// Asserts the squares of an array's entries, and the entries before each. Nothing is read of `_rooms`.
-pub(crate) fn assert_mapped<F: PrimeCharacteristicRing + Packable + Numbered>(
+pub(crate) fn assert_mapped<F: PrimeCharacteristicRing + Packable + Canonical>(
     rt: &impl Abort,
     _rooms: Rooms<F>,
 ) {

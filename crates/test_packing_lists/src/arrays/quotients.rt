@@ -2,12 +2,12 @@
 ghost use Rattle.std.specs.Prelude.{◌<◌, ℕ, get_or, IsTrue};
 ghost use Rattle.p3_theory.specs.Rings.Ring.{Invertible};
 
-use crate::numbered::Numbered;
 use crate::texts::{holds, packing};
 use p3_field_traits::field::Field;
 use p3_field_traits::packed_traits::{Inhabited, Packable};
 use p3_vectorized::array::FieldArray;
 use std::process::Abort;
+use test_values::canonical::Canonical;
 
 /// What is divided, a divisor of each, and the quotients.
 const DIVIDED: &str = "1,2,3,4";
@@ -43,7 +43,7 @@ fn have_inverses<F: Field + Inhabited, const N: usize>(y: FieldArray<F, N>) -> b
 }
 
 /// Whether the quotients by a value are the halves, where the value is two.
-fn halves<F: Field + Packable + Numbered, const N: usize>(x: FieldArray<F, N>, scalar: F) -> bool {
+fn halves<F: Field + Packable + Canonical, const N: usize>(x: FieldArray<F, N>, scalar: F) -> bool {
     if !has_inverse(scalar) {
         return false;
     }
@@ -54,7 +54,7 @@ fn halves<F: Field + Packable + Numbered, const N: usize>(x: FieldArray<F, N>, s
 }
 
 /// Whether the quotients by the other array's entries are those that are told.
-fn divides<F: Field + Packable + Numbered, const N: usize>(
+fn divides<F: Field + Packable + Canonical, const N: usize>(
     x: FieldArray<F, N>,
     y: FieldArray<F, N>,
 ) -> bool {
@@ -69,12 +69,12 @@ fn divides<F: Field + Packable + Numbered, const N: usize>(
 }
 
 /// Asserts the quotients of four numbers. Nothing is read of `_array`.
-pub(crate) fn assert_quotients<F: Field + Packable + Numbered, const N: usize>(
+pub(crate) fn assert_quotients<F: Field + Packable + Canonical, const N: usize>(
     rt: &impl Abort,
     _array: Option<FieldArray<F, N>>,
 ) {
     let x = packing::<F, FieldArray<F, N>>(DIVIDED);
     let y = packing::<F, FieldArray<F, N>>(DIVISORS);
-    assert!(rt; halves(x, F::of(2)));
+    assert!(rt; halves(x, F::of_number(2)));
     assert!(rt; divides(x, y));
 }

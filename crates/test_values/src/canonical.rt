@@ -6,7 +6,7 @@ use p3_ring::ring::PrimeCharacteristicRing;
 
 /// A residue from and to its canonical number, and no more of a prime field: a function that is bounded by all of one
 /// takes seconds more to check.
-pub(crate) trait Canonical: Copy {
+pub trait Canonical: Copy {
     /// The residue of a number.
     fn of_number(number: u64) -> Self;
 

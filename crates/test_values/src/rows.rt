@@ -2,19 +2,19 @@
 
 /// A row of a table.
 #[derive(Clone, Copy)]
-pub(crate) struct Row<'a> {
+pub struct Row<'a> {
     /// The name of the field, or of the type of numbers.
-    pub(crate) field: &'a str,
+    pub field: &'a str,
     /// The number of lanes.
-    pub(crate) lanes: &'a str,
-    pub(crate) call: &'a str,
-    pub(crate) arguments: &'a str,
-    pub(crate) answer: &'a str,
+    pub lanes: &'a str,
+    pub call: &'a str,
+    pub arguments: &'a str,
+    pub answer: &'a str,
 }
 
 impl<'a> Row<'a> {
     /// The row of a line like `f17 4 add: 1,2,3,4|4,3,2,1 = 5,5,5,5`.
-    pub(crate) fn read(line: &'a str) -> Option<Row<'a>> {
+    pub fn read(line: &'a str) -> Option<Row<'a>> {
         let (head, sides) = line.split_once(':')?;
         let (arguments, answer) = sides.split_once('=')?;
         let (field, rest) = head.split_once(' ')?;
@@ -29,7 +29,7 @@ impl<'a> Row<'a> {
     }
 
     /// The arguments at an index, which stand between bars.
-    pub(crate) fn argument(self, index: usize) -> &'a str {
+    pub fn argument(self, index: usize) -> &'a str {
         self.arguments.split('|').nth(index).unwrap_or("")
     }
 }
