@@ -5,11 +5,11 @@
 //! out what is for the prover. A function's contract stands in its documentation, in the words of the prover.
 //!
 //! ```
-//! use p3_field_proved::{BabyBear, BabyBearx4, Field, batch_inverse};
+//! use p3_field_proved::{BabyBear, BabyBearx4, Field, batch_multiplicative_inverse};
 //!
 //! let x = BabyBearx4::new([1, 2, 3, 4].map(BabyBear::new));
 //! assert_eq!(x * x.inverse(), BabyBearx4::new([1, 0, 0, 0].map(BabyBear::new)));
-//! let inverses = batch_inverse(&[BabyBear::new(2), BabyBear::new(3)]);
+//! let inverses = batch_multiplicative_inverse(&[BabyBear::new(2), BabyBear::new(3)]);
 //! assert_eq!(inverses[1] * BabyBear::new(3), BabyBear::new(1));
 //! ```
 #![no_std]
@@ -24,11 +24,14 @@ mod by_upstream;
 mod proved;
 pub mod rattle;
 
-pub use by_upstream::*;
+pub use by_upstream::{
+    batch_multiplicative_inverse, split_32, split_pf_to_field_order_limbs, split_pf_to_packed_limbs,
+};
 pub use proved::p3_field::*;
 pub use proved::p3_fields::*;
 
 /// Values of polynomials at points, over cosets, and over vectors of values.
 pub mod poly_eval {
+    pub use crate::by_upstream::eval_coset;
     pub use crate::proved::poly_eval::*;
 }

@@ -1,7 +1,7 @@
 //! The calls of the crate against plain arithmetic of 128 bits, on values of a generator of our own.
 use p3_field_proved::{
     BabyBear, BabyBearx4, F17, Field, Goldilocks, KoalaBear, Packed, PackedValue, PrimeCharacteristicRing, PrimeField64,
-    TwoAdicField, batch_inverse,
+    TwoAdicField, batch_multiplicative_inverse,
 };
 
 /// A generator of words, by xorshift.
@@ -134,7 +134,7 @@ fn packings_lane_by_lane() {
 fn inverses_of_a_list() {
     let numbers = Words(5).below((1 << 31) - (1 << 24) + 1, 300);
     let values: Vec<KoalaBear> = numbers.into_iter().filter(|&n| n != 0).map(KoalaBear::from_u64).collect();
-    for (inverse, value) in batch_inverse(&values).into_iter().zip(values) {
+    for (inverse, value) in batch_multiplicative_inverse(&values).into_iter().zip(values) {
         assert_eq!(inverse * value, KoalaBear::one());
     }
 }
