@@ -1,6 +1,9 @@
 //! The calls at the values of each extension, implemented once for all markers of fields and all degrees.
 use crate::value_calls::{Call, agrees};
-use p3_extension::extension::{BinomialExtensionField, Cubic, ExtField, IntegerPolynomial, Modulo};
+use p3_extension::extension::{
+    Binomial, BinomialExtensionField, Cubic, ExtField, ExtensionShape, FrobeniusExtendable,
+    IntegerPolynomial, Modulo,
+};
 use p3_prime_fields::binomial_constants::BinomialConstants;
 use p3_prime_fields::form::{Form, OverModulus, Plain};
 use p3_prime_fields::fp::Fp;
@@ -9,6 +12,17 @@ use p3_prime_fields::small::{M15, M17b};
 use std::alloc::{AllocError, Global};
 use test_families::names::{Extension, Family};
 use test_families::residues::{M4, NilpotentM17, SplitM17, SplitM31, SplitM59};
+use test_families::values::Listed;
+
+/// Whether a call has its answer at an extension of F. Over every field the check passes that field's traits alone.
+/// Nothing is read of `_room`, which tells that a value has room.
+fn values_agree<F: FrobeniusExtendable<D, S> + Listed, S: ExtensionShape, const D: usize>(
+    alloc: Global,
+    _room: Option<ExtField<F, D, S, F>>,
+    call: &Call<'_>,
+) -> Result<bool, AllocError> {
+    agrees::<ExtField<F, D, S, F>>(alloc, call)
+}
 
 /// Whether a call has its answer at the extension by `X^D = W`. Nothing is read of `_room`, which tells that a value has
 /// room.
@@ -20,7 +34,7 @@ fn of_binomial<W: OverModulus<u32>, const D: usize>(
 where
     W::Modulus: BinomialConstants<D>,
 {
-    agrees::<BinomialExtensionField<Fp<W>, D>>(alloc, call)
+    values_agree::<Fp<W>, Binomial<Fp<W>>, D>(alloc, None, call)
 }
 
 /// The same at the extension by a polynomial with integer coefficients.
@@ -32,7 +46,7 @@ fn of_polynomial<W: OverModulus<u32>, S: IntegerPolynomial<D>, const D: usize>(
 where
     W::Modulus: PolynomialConstants<D, S>,
 {
-    agrees::<ExtField<Fp<W>, D, Modulo<S, D>, Fp<W>>>(alloc, call)
+    values_agree::<Fp<W>, Modulo<S, D>, D>(alloc, None, call)
 }
 
 /// The same at residues themselves.
