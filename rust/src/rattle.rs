@@ -198,9 +198,9 @@ impl<I: Iterator> Collect for I {}
 #[cfg(test)]
 mod in_tests;
 #[cfg(test)]
-pub use in_tests::{Abort, AllocGlobal, Fail, HostRuntime, String, made, shown};
+pub use in_tests::{Abort, AllocGlobal, Fail, HostRuntime, String, shown};
 #[cfg(test)]
-pub(crate) use in_tests::{format, vec};
+pub(crate) use in_tests::format;
 
 #[cfg(not(feature = "nightly"))]
 #[allow(non_camel_case_types, missing_docs)]

@@ -44,24 +44,10 @@ pub fn shown<A: Allocator>(alloc: A, value: &dyn fmt::Display) -> Result<String<
     Ok(String(Vec::from_slice(alloc, value.to_string().as_bytes())?))
 }
 
-/// A vector of these items.
-pub fn made<T, A: Allocator>(alloc: A, items: std::vec::Vec<T>) -> Result<Vec<T, A>, AllocError> {
-    let mut vector = Vec::with_capacity(alloc, items.len())?;
-    for item in items {
-        vector.push(item)?;
-    }
-    Ok(vector)
-}
-
 macro_rules! format {
     (in $alloc:expr; $($rest:tt)*) => { $crate::rattle::shown($alloc, &::core::format_args!($($rest)*)) };
 }
 pub(crate) use format;
-
-macro_rules! vec {
-    (in $alloc:expr; $($rest:tt)*) => { $crate::rattle::made($alloc, ::std::vec![$($rest)*]) };
-}
-pub(crate) use vec;
 
 /// What a test is handed.
 pub struct HostRuntime;
