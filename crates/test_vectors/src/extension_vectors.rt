@@ -1,5 +1,6 @@
 //! Vectors of two values of the extension of the residues modulo 17 by `X^2 = 3`, and of two residues. Expected
 //! values by hand.
+use crate::values::{Canonical, Listed};
 use p3_extension::extension::{Binomial, ExtField, ExtensionShape, FrobeniusExtendable};
 use p3_field_traits::field::Field;
 use p3_field_traits::packed_traits::{Inhabited, Packable};
@@ -10,8 +11,6 @@ use p3_prime_fields::small::M17;
 use p3_ring::ring::{Algebra, PrimeCharacteristicRing};
 use p3_vectorized::vectorized::Vectorized;
 use p3_vectorized::vectorized_ext::VectorizedExt;
-use test_families::values::{Listed, list_of_value};
-use test_values::canonical::Canonical;
 
 /// An operation on a vector and a vector of residues, or one residue.
 #[derive(Clone, Copy)]
@@ -57,11 +56,11 @@ fn start<F: FrobeniusExtendable<2, S> + Packable, S: ExtensionShape>() -> Two<F,
 }
 
 /// The canonical numbers of the coefficients of both values.
-fn numbers<F: FrobeniusExtendable<2, S> + Packable + Listed, S: ExtensionShape>(
+fn numbers<F: FrobeniusExtendable<2, S> + Packable + Canonical, S: ExtensionShape>(
     vector: Two<F, S>,
 ) -> Numbers {
     let [first, second] = vector.0;
-    let (a, b) = (list_of_value(&first), list_of_value(&second));
+    let (a, b) = (first.list(), second.list());
     ((a[0], a[1]), (b[0], b[1]))
 }
 
@@ -79,7 +78,7 @@ fn mixed<F: PrimeCharacteristicRing + Inhabited, EF: Field, PE: Inhabited + Alge
 }
 
 /// The values of `start`, and a vector of the residues 5 and 6 where there is an operation.
-fn of_values<F: FrobeniusExtendable<2, S> + Packable + Listed, S: ExtensionShape>(
+fn of_values<F: FrobeniusExtendable<2, S> + Packable + Canonical, S: ExtensionShape>(
     _vector: Option<Two<F, S>>,
     operation: Option<Operation>,
 ) -> Numbers {

@@ -1,8 +1,13 @@
-//! The calls over packings of the values of extensions: vectors are of three packings of one value, two of four, or one
-//! of eight. Each is implemented once for all markers of fields and all degrees: at a marker's own name it passes the
-//! field's constants alone.
-use crate::packings::{ExtensionCalls, ExtensionVector, Task};
-use p3_extension::extension::{Binomial, ExtensionShape, IntegerPolynomial, Modulo};
+//! The calls on the values of extensions, and runs over packings of 4 and 8 of them. Each is implemented once for all
+//! markers of fields: at a marker's own name it passes the field's constants alone.
+use crate::packings::{ExtensionRuns, ExtensionVectors};
+use crate::runs::Run;
+use crate::value_calls::{Call, agrees};
+use crate::values::Canonical;
+use p3_extension::extension::{
+    Binomial, Cubic, CubicTrinomial, ExtField, ExtensionShape, FrobeniusExtendable,
+    IntegerPolynomial, Modulo, Septic, SepticTrinomial,
+};
 use p3_packed_prime_fields::lanes::LaneCount;
 use p3_packed_prime_fields::packed::Packed;
 use p3_prime_fields::binomial_constants::BinomialConstants;
@@ -11,112 +16,158 @@ use p3_prime_fields::fp::Fp;
 use p3_prime_fields::polynomial_constants::PolynomialConstants;
 use std::alloc::{AllocError, Global};
 
-/// Vectors of K packings of N values of the extension of degree D over residues.
-type PackedVector<W, S, const D: usize, const N: usize, const K: usize> = ExtensionVector<
-    Fp<W>,
-    S,
-    Packed<Fp<W>, N>,
-    D,
-    K,
->;
+/// Whether a call on the values of an extension of F gives what is told. Nothing is read of `_room`.
+fn extension_agrees<F: FrobeniusExtendable<D, S> + Canonical, S: ExtensionShape, const D: usize>(
+    alloc: Global,
+    _room: Option<ExtField<F, D, S, F>>,
+    call: &Call<'_>,
+) -> Result<bool, AllocError> {
+    agrees::<ExtField<F, D, S, F>>(alloc, call)
+}
 
-/// The vectors of all lengths: where a signature names them, it is known that they have room.
-type Vectors<W, S, const D: usize> = (
-    PackedVector<W, S, D, 1, 3>,
-    PackedVector<W, S, D, 4, 2>,
-    PackedVector<W, S, D, 8, 1>,
-);
+/// The extension of degree D by the shape S, of all fields that have it.
+pub(crate) trait Extended<S: ExtensionShape, const D: usize>: Form<u32> {
+    /// A value. Of an associated type it is known that its values have room.
+    type Value: Copy;
 
-/// The calls over packings of the values of the extension of degree D by the shape S, of all fields that have it.
-pub(crate) trait ExtendedLanes<S: ExtensionShape, const D: usize, const K: usize>: Form<u32> {
-    /// Whether a call over packings P has its answer. Nothing is read of `vector`.
-    fn packings_agree<P: ExtensionCalls<Fp<Self>, S, D, K>>(
+    /// Whether a call on values gives what is told. Nothing is read of `room`.
+    fn agrees(
         alloc: Global,
-        vector: Option<P::Vector>,
-        task: &Task<'_>,
+        room: Option<Self::Value>,
+        call: &Call<'_>,
+    ) -> Result<bool, AllocError>;
+
+    /// Whether a run over packings P leaves what it has to. Nothing is read of `vectors`.
+    fn run_agrees<P: ExtensionRuns<Fp<Self>, S, D>>(
+        alloc: Global,
+        vectors: Option<P::Vectors>,
+        run: &Run<'_>,
     ) -> Result<bool, AllocError>;
 }
 
-impl<W: OverModulus<u32>, const D: usize, const K: usize> ExtendedLanes<Binomial<Fp<W>>, D, K> for W
+impl<W: OverModulus<u32>, const D: usize> Extended<Binomial<Fp<W>>, D> for W
 where
     W::Modulus: BinomialConstants<D>,
 {
-    fn packings_agree<P: ExtensionCalls<Fp<W>, Binomial<Fp<W>>, D, K>>(
+    type Value = ExtField<Fp<W>, D, Binomial<Fp<W>>, Fp<W>>;
+
+    fn agrees(
         alloc: Global,
-        vector: Option<P::Vector>,
-        task: &Task<'_>,
+        room: Option<ExtField<Fp<W>, D, Binomial<Fp<W>>, Fp<W>>>,
+        call: &Call<'_>,
     ) -> Result<bool, AllocError> {
-        P::agrees(alloc, vector, task)
+        extension_agrees::<Fp<W>, Binomial<Fp<W>>, D>(alloc, room, call)
+    }
+
+    fn run_agrees<P: ExtensionRuns<Fp<W>, Binomial<Fp<W>>, D>>(
+        alloc: Global,
+        vectors: Option<P::Vectors>,
+        run: &Run<'_>,
+    ) -> Result<bool, AllocError> {
+        P::run_agrees(alloc, vectors, run)
     }
 }
 
-impl<W: OverModulus<u32>, S: IntegerPolynomial<D>, const D: usize, const K: usize> ExtendedLanes<
-    Modulo<S, D>,
-    D,
-    K,
-> for W
+impl<W: OverModulus<u32>, S: IntegerPolynomial<D>, const D: usize> Extended<Modulo<S, D>, D> for W
 where
     W::Modulus: PolynomialConstants<D, S>,
 {
-    fn packings_agree<P: ExtensionCalls<Fp<W>, Modulo<S, D>, D, K>>(
+    type Value = ExtField<Fp<W>, D, Modulo<S, D>, Fp<W>>;
+
+    fn agrees(
         alloc: Global,
-        vector: Option<P::Vector>,
-        task: &Task<'_>,
+        room: Option<ExtField<Fp<W>, D, Modulo<S, D>, Fp<W>>>,
+        call: &Call<'_>,
     ) -> Result<bool, AllocError> {
-        P::agrees(alloc, vector, task)
+        extension_agrees::<Fp<W>, Modulo<S, D>, D>(alloc, room, call)
+    }
+
+    fn run_agrees<P: ExtensionRuns<Fp<W>, Modulo<S, D>, D>>(
+        alloc: Global,
+        vectors: Option<P::Vectors>,
+        run: &Run<'_>,
+    ) -> Result<bool, AllocError> {
+        P::run_agrees(alloc, vectors, run)
     }
 }
 
-/// Whether a call over packings of N values, and vectors of K of these, has its answer. That packings are named
-/// tells that they have room; nothing is read of them.
+/// Whether a run over packings of N values leaves what it has to. That packings are named tells that they have
+/// room; nothing is read of them.
 fn lanes_agree<
-    W: Form<u32> + LaneCount<N> + ExtendedLanes<S, D, K>,
+    W: Form<u32> + LaneCount<N> + Extended<S, D>,
     S: ExtensionShape,
     const D: usize,
     const N: usize,
-    const K: usize,
 >(
     alloc: Global,
     _packing: Option<Packed<Fp<W>, N>>,
-    vector: Option<PackedVector<W, S, D, N, K>>,
-    task: &Task<'_>,
+    vectors: Option<ExtensionVectors<Fp<W>, S, Packed<Fp<W>, N>, D>>,
+    run: &Run<'_>,
 ) -> Result<bool, AllocError> {
-    <W as ExtendedLanes<S, D, K>>::packings_agree::<Packed<Fp<W>, N>>(alloc, vector, task)
+    <W as Extended<S, D>>::run_agrees::<Packed<Fp<W>, N>>(alloc, vectors, run)
 }
 
-/// Whether a call over packings of so many values has its answer at the extension by `X^D = W`; false where there are
-/// no such packings here. Nothing is read of `_vectors`.
-pub(crate) fn of_binomial<W: OverModulus<u32>, const D: usize>(
+/// The same of the extension by `X^2 = W`, of packings of 4 or 8 values; false where there are no such packings
+/// here.
+pub(crate) fn over_quadratic<W: OverModulus<u32>>(
     alloc: Global,
-    _vectors: Option<Vectors<W, Binomial<Fp<W>>, D>>,
     lanes: usize,
-    task: &Task<'_>,
+    run: &Run<'_>,
 ) -> Result<bool, AllocError>
 where
-    W::Modulus: BinomialConstants<D>,
+    W::Modulus: BinomialConstants<2>,
 {
     match lanes {
-        1 => lanes_agree::<W, Binomial<Fp<W>>, D, 1, 3>(alloc, None, None, task),
-        4 => lanes_agree::<W, Binomial<Fp<W>>, D, 4, 2>(alloc, None, None, task),
-        8 => lanes_agree::<W, Binomial<Fp<W>>, D, 8, 1>(alloc, None, None, task),
+        4 => lanes_agree::<W, Binomial<Fp<W>>, 2, 4>(alloc, None, None, run),
+        8 => lanes_agree::<W, Binomial<Fp<W>>, 2, 8>(alloc, None, None, run),
         _ => Ok(false),
     }
 }
 
-/// The same at the extension by a polynomial with integer coefficients.
-pub(crate) fn of_polynomial<W: OverModulus<u32>, S: IntegerPolynomial<D>, const D: usize>(
+/// The same of the extension by `X^4 = W`.
+pub(crate) fn over_quartic<W: OverModulus<u32>>(
     alloc: Global,
-    _vectors: Option<Vectors<W, Modulo<S, D>, D>>,
     lanes: usize,
-    task: &Task<'_>,
+    run: &Run<'_>,
 ) -> Result<bool, AllocError>
 where
-    W::Modulus: PolynomialConstants<D, S>,
+    W::Modulus: BinomialConstants<4>,
 {
     match lanes {
-        1 => lanes_agree::<W, Modulo<S, D>, D, 1, 3>(alloc, None, None, task),
-        4 => lanes_agree::<W, Modulo<S, D>, D, 4, 2>(alloc, None, None, task),
-        8 => lanes_agree::<W, Modulo<S, D>, D, 8, 1>(alloc, None, None, task),
+        4 => lanes_agree::<W, Binomial<Fp<W>>, 4, 4>(alloc, None, None, run),
+        8 => lanes_agree::<W, Binomial<Fp<W>>, 4, 8>(alloc, None, None, run),
+        _ => Ok(false),
+    }
+}
+
+/// The same of the extension by `X^3 = X + 1`.
+pub(crate) fn over_cubic<W: OverModulus<u32>>(
+    alloc: Global,
+    lanes: usize,
+    run: &Run<'_>,
+) -> Result<bool, AllocError>
+where
+    W::Modulus: PolynomialConstants<3, Cubic>,
+{
+    match lanes {
+        4 => lanes_agree::<W, CubicTrinomial, 3, 4>(alloc, None, None, run),
+        8 => lanes_agree::<W, CubicTrinomial, 3, 8>(alloc, None, None, run),
+        _ => Ok(false),
+    }
+}
+
+/// The same of the extension by `X^7 = X + 1`.
+pub(crate) fn over_septic<W: OverModulus<u32>>(
+    alloc: Global,
+    lanes: usize,
+    run: &Run<'_>,
+) -> Result<bool, AllocError>
+where
+    W::Modulus: PolynomialConstants<7, Septic>,
+{
+    match lanes {
+        4 => lanes_agree::<W, SepticTrinomial, 7, 4>(alloc, None, None, run),
+        8 => lanes_agree::<W, SepticTrinomial, 7, 8>(alloc, None, None, run),
         _ => Ok(false),
     }
 }

@@ -1,5 +1,6 @@
-//! Tests of vectors of packings and of packed extension values, of runs of steps over them, and of the inverses and
-//! quotients of packed values, at every extension of the bench and at some that are no fields.
+//! Tests of vectors of packings and of packed extension values, and of runs of steps over them; and of inverses in
+//! extensions that are no fields. The polynomials of these are products of factors `X - root`, so that some values
+//! other than zero have no inverse, and products of nonzero values are zero.
 #![tactic(auto)]
 
 #[cfg(test)]
@@ -7,22 +8,24 @@ mod extension_vectors;
 #[cfg(test)]
 mod extensions;
 #[cfg(test)]
-mod families;
-#[cfg(test)]
 mod field_vectors;
-#[cfg(test)]
-mod lane_inverses;
-#[cfg(test)]
-mod lane_tables;
 #[cfg(test)]
 mod packings;
 #[cfg(test)]
-mod residue_calls;
+mod residues;
 #[cfg(test)]
 mod run_tables;
 #[cfg(test)]
 mod runs;
 #[cfg(test)]
-mod towers;
+mod split_tables;
+#[cfg(test)]
+mod splits;
+#[cfg(test)]
+mod texts;
+#[cfg(test)]
+mod value_calls;
+#[cfg(test)]
+mod values;
 #[cfg(test)]
 mod vector_runs;

@@ -6,16 +6,14 @@ ghost use Rattle.p3_theory.specs.Polynomials.Polynomial.{quotient_ops};
 ghost use Rattle.p3_extension.specs.Values.{ext_ops};
 ghost use Rattle.p3_helpers.specs.Runs.{Fit, run};
 
+use crate::values::{Canonical, List, Listed, ZERO};
 use p3_extension::extension::{ExtField, ExtensionShape, FrobeniusExtendable};
 use p3_field::laws::run_lane_steps_by_coefficients;
 use p3_helpers::steps::{Step, run_steps, steps_fit};
 use p3_packing_traits::extension_lanes::PackedExtensionRing;
 use p3_ring::ring::PrimeCharacteristicRing;
-use p3_vectorized::steps::run_lane_steps;
 use p3_vectorized::vectorized_ext::VectorizedExt;
 use std::alloc::{AllocError, Global};
-use test_families::values::{Listed, list_of_value, of_list};
-use test_values::lists::{List, ZERO};
 
 /// A run, and what the registers hold before it and after it: the lists of the lanes, one register after the
 /// other.
@@ -28,42 +26,51 @@ pub(crate) struct Run<'a> {
     pub(crate) after: &'a [List],
 }
 
+/// Vectors of one to three packings.
+pub(crate) type Vectors<F, EF, PE> = (
+    VectorizedExt<F, EF, PE, 1>,
+    VectorizedExt<F, EF, PE, 2>,
+    VectorizedExt<F, EF, PE, 3>,
+);
+
+/// Whether a run leaves what it has to, over vectors of so many packings as it says. Nothing is read of
+/// `_vectors`.
+pub(crate) fn run_agrees<F, PE, S, const D: usize>(
+    alloc: Global,
+    _vectors: Option<Vectors<F, ExtField<F, D, S, F>, PE>>,
+    run: &Run<'_>,
+) -> Result<bool, AllocError>
+where
+    F: FrobeniusExtendable<D, S> + Canonical,
+    PE: PackedExtensionRing<F, ExtField<F, D, S, F>>,
+    S: ExtensionShape,
+{
+    match run.packings {
+        1 => vectors_agree::<F, PE, S, D, 1>(alloc, None, run),
+        2 => vectors_agree::<F, PE, S, D, 2>(alloc, None, run),
+        3 => vectors_agree::<F, PE, S, D, 3>(alloc, None, run),
+        _ => Ok(false),
+    }
+}
+
 /// Whether a run leaves what it has to, over vectors of N packings and over the values of each lane alone. That
 /// a vector is named tells that it has room; nothing is read of it.
-pub(crate) fn run_agrees<F, PE, S, const D: usize, const N: usize>(
+fn vectors_agree<F, PE, S, const D: usize, const N: usize>(
     alloc: Global,
     _vector: Option<VectorizedExt<F, ExtField<F, D, S, F>, PE, N>>,
     run: &Run<'_>,
 ) -> Result<bool, AllocError>
 where
-    F: FrobeniusExtendable<D, S> + Listed,
+    F: FrobeniusExtendable<D, S> + Canonical,
     PE: PackedExtensionRing<F, ExtField<F, D, S, F>>,
     S: ExtensionShape,
 {
     let mut registers = registers::<F, ExtField<F, D, S, F>, PE, N>(alloc, run.before)?;
-    if run.packings != N || !steps_fit(run.steps, registers.len()) {
+    if !steps_fit(run.steps, registers.len()) {
         return Ok(false);
     }
     run_by_coefficients::<F, PE, S, D, N>(&mut registers, run.steps);
     lanes_agree::<F, ExtField<F, D, S, F>, PE, N>(alloc, &registers, run)
-}
-
-/// The same over vectors of packings of the values of F, which is an extension of itself.
-pub(crate) fn base_run_agrees<F, P, const N: usize>(
-    alloc: Global,
-    _vector: Option<VectorizedExt<F, F, P, N>>,
-    run: &Run<'_>,
-) -> Result<bool, AllocError>
-where
-    F: PrimeCharacteristicRing + Listed,
-    P: PackedExtensionRing<F, F>,
-{
-    let mut registers = registers::<F, F, P, N>(alloc, run.before)?;
-    if run.packings != N || !steps_fit(run.steps, registers.len()) {
-        return Ok(false);
-    }
-    run_lane_steps::<F, F, P, N>(&mut registers, run.steps);
-    lanes_agree::<F, F, P, N>(alloc, &registers, run)
 }
 
 /// The theorem that the library is for: after the run, each register read at lane i, as a list of D
@@ -94,7 +101,7 @@ fn list_at(lists: &[List], index: usize) -> List {
 }
 
 /// The packing whose lanes are those from a first one on.
-pub(crate) fn packing<F, EF, PE>(lists: &[List], first: usize) -> PE
+fn packing<F, EF, PE>(lists: &[List], first: usize) -> PE
 where
     F: Copy,
     EF: PrimeCharacteristicRing + Listed,
@@ -102,7 +109,7 @@ where
 {
     PE::from_ext_fn(|lane: usize| -> EF {
         let list = list_at(lists, first.wrapping_add(lane));
-        of_list::<EF>(&list)
+        EF::of_list(&list)
     })
 }
 
@@ -208,7 +215,7 @@ where
         let Some(value) = at_lane(register, lane) else {
             return false;
         };
-        if list_of_value(&value) != *list {
+        if value.list() != *list {
             return false;
         }
     }
@@ -224,14 +231,14 @@ fn makes<EF: PrimeCharacteristicRing + Listed>(
 ) -> Result<bool, AllocError> {
     let mut values: Vec<EF> = Vec::new(alloc);
     for list in before {
-        values.push(of_list::<EF>(list))?;
+        values.push(EF::of_list(list))?;
     }
     if !steps_fit(steps, values.len()) {
         return Ok(false);
     }
     run_steps(&mut values, steps);
     for (value, list) in values.iter().zip(after) {
-        if list_of_value(value) != *list {
+        if value.list() != *list {
             return Ok(false);
         }
     }

@@ -1,17 +1,62 @@
-//! Runs over vectors of packings of the values of extensions, and inverses and quotients of these, told by the rows of
-//! tables.
-use crate::families::agrees_at;
-use crate::lane_inverses::Sides;
-use crate::lane_tables::{INVERSES, OUTSIDE_RUNS, QUOTIENTS, RUNS, WRONG_INVERSE};
-use crate::packings::Task;
+//! Runs over vectors of packings of the values of extensions, told by the rows of tables.
+use crate::extensions::{over_cubic, over_quadratic, over_quartic, over_septic};
+use crate::residues::SplitM17;
 use crate::run_tables as tables;
 use crate::runs::Run;
+use crate::texts::lists_of;
 use p3_helpers::steps::Step;
+use p3_prime_fields::baby_bear::BabyBearModulus;
+use p3_prime_fields::form::Plain;
+use p3_prime_fields::montgomery::Montgomery;
+use p3_prime_fields::small::{M2, M17, M31};
 use std::alloc::{AllocError, Global};
 use std::process::Abort;
 use std::test::Fail;
-use test_families::names::Extension;
-use test_families::texts::lists_of;
+
+/// The extensions.
+#[derive(Clone, Copy)]
+enum Extension {
+    F17x2,
+    BbX4,
+    F31t3,
+    F2t7,
+    /// One that is no field.
+    F17sx2,
+}
+
+/// Their names.
+static NAMES: [(&str, Extension); 5] = [
+    ("f17x2", Extension::F17x2),
+    ("bbx4", Extension::BbX4),
+    ("f31t3", Extension::F31t3),
+    ("f2t7", Extension::F2t7),
+    ("f17sx2", Extension::F17sx2),
+];
+
+impl Extension {
+    /// The extension of a name.
+    fn of_name(name: &str) -> Option<Self> {
+        for row in NAMES {
+            let (known, extension) = row;
+            if known == name {
+                return Some(extension);
+            }
+        }
+        None
+    }
+
+    /// Whether a run leaves what it has to, over packings of so many values; false where there are no such
+    /// packings here.
+    fn run_agrees(self, alloc: Global, lanes: usize, run: &Run<'_>) -> Result<bool, AllocError> {
+        match self {
+            Self::F17x2 => over_quadratic::<Plain<M17>>(alloc, lanes, run),
+            Self::BbX4 => over_quartic::<Montgomery<BabyBearModulus>>(alloc, lanes, run),
+            Self::F31t3 => over_cubic::<Plain<M31>>(alloc, lanes, run),
+            Self::F2t7 => over_septic::<Plain<M2>>(alloc, lanes, run),
+            Self::F17sx2 => over_quadratic::<Plain<SplitM17>>(alloc, lanes, run),
+        }
+    }
+}
 
 /// What a step does.
 #[derive(Clone, Copy)]
@@ -102,89 +147,56 @@ struct Row<'a> {
     extension: Extension,
     /// The number of lanes of a packing.
     lanes: usize,
-    call: &'a str,
-    arguments: &'a str,
-    answer: &'a str,
+    /// The number of packings of a vector.
+    packings: usize,
+    before: &'a str,
+    steps: &'a str,
+    after: &'a str,
 }
 
 impl<'a> Row<'a> {
     /// The row of a line like `f17x2 4 run_lane_steps 1: 0,1 1,1 2,1 3,1|Neg:0:0 = 0,16 16,16 15,16 14,16`.
     fn read(line: &'a str) -> Option<Row<'a>> {
         let (head, sides) = line.split_once(':')?;
-        let (arguments, answer) = sides.split_once('=')?;
-        let (name, rest) = head.split_once(' ')?;
-        let (lanes, call) = rest.split_once(' ')?;
+        let (arguments, after) = sides.split_once('=')?;
+        let (before, steps) = arguments.split_once('|')?;
+        let mut words = head.split(' ');
         Some(Row {
-            extension: Extension::of_name(name)?,
-            lanes: lanes.parse::<usize>().ok()?,
-            call,
-            arguments,
-            answer,
+            extension: Extension::of_name(words.next()?)?,
+            lanes: words.next()?.parse::<usize>().ok()?,
+            packings: words.nth(1)?.parse::<usize>().ok()?,
+            before,
+            steps,
+            after,
         })
-    }
-
-    /// Whether a call over packings of the row's lanes has its answer.
-    fn agrees(self, alloc: Global, task: Task<'_>) -> Result<bool, AllocError> {
-        agrees_at(self.extension, alloc, self.lanes, &task)
-    }
-
-    /// Whether the run over vectors of so many packings leaves what it has to; `Ok(None)` where it can't be read.
-    fn run_agrees(self, alloc: Global, packings: usize) -> Result<Option<bool>, AllocError> {
-        let Some((before, words)) = self.arguments.split_once('|') else {
-            return Ok(None);
-        };
-        let Some(steps) = steps_of(alloc, words)? else {
-            return Ok(None);
-        };
-        let before = lists_of(alloc, before)?;
-        let after = lists_of(alloc, self.answer)?;
-        let run = Run {
-            packings,
-            steps: &steps,
-            before: &before,
-            after: &after,
-        };
-        Ok(Some(self.agrees(alloc, Task::Run(run))?))
-    }
-
-    /// Whether the inverse or the quotient at every lane is the answer; `Ok(None)` where the row names no call.
-    fn lanes_agree(self, alloc: Global) -> Result<Option<bool>, AllocError> {
-        let (left, right) = self
-            .arguments
-            .split_once('|')
-            .unwrap_or(("", self.arguments));
-        let left = lists_of(alloc, left)?;
-        let right = lists_of(alloc, right)?;
-        let answer = lists_of(alloc, self.answer)?;
-        let sides = Sides {
-            left: &left,
-            right: &right,
-            answer: &answer,
-        };
-        match self.call {
-            "invert_packed_extension" => Ok(Some(self.agrees(alloc, Task::Inverse(sides))?)),
-            "div" => Ok(Some(self.agrees(alloc, Task::Quotient(sides))?)),
-            _ => Ok(None),
-        }
     }
 }
 
-/// Whether the call of a line has its answer; `Ok(None)` where the line can't be read.
-fn line_agrees(alloc: Global, line: &str) -> Result<Option<bool>, AllocError> {
+/// Whether the run of a line has its registers after; `Ok(None)` where the line can't be read or there is
+/// none.
+fn run_agrees(alloc: Global, line: &str) -> Result<Option<bool>, AllocError> {
     let Some(row) = Row::read(line) else {
         return Ok(None);
     };
-    match row.call.strip_prefix("run_lane_steps ") {
-        Some(packings) => row.run_agrees(alloc, packings.parse::<usize>().unwrap_or(0)),
-        None => row.lanes_agree(alloc),
-    }
+    let Some(steps) = steps_of(alloc, row.steps)? else {
+        return Ok(None);
+    };
+    let before = lists_of(alloc, row.before)?;
+    let after = lists_of(alloc, row.after)?;
+    let run = Run {
+        packings: row.packings,
+        steps: &steps,
+        before: &before,
+        after: &after,
+    };
+    Ok(Some(row.extension.run_agrees(alloc, row.lanes, &run)?))
 }
 
-/// Every line of a table has its answer.
+/// Every line of a table has its registers after.
 fn assert_table(rt: &(impl Abort + AllocGlobal), table: &str) -> Result<(), Fail> {
     for line in table.lines() {
         if !line.is_empty() {
-            assert_eq!(rt; line_agrees(rt.alloc(), line)?, Some(true), "{line}");
+            assert_eq!(rt; run_agrees(rt.alloc(), line)?, Some(true), "{line}");
         }
     }
     Ok(())
@@ -201,22 +213,8 @@ fn runs_over_vectors(rt: HostRuntime) -> Result<(), Fail> {
 }
 
 #[test]
-fn runs_over_each_extension(rt: HostRuntime) -> Result<(), Fail> {
-    assert_table(&rt, OUTSIDE_RUNS)?;
-    assert_table(&rt, RUNS)
-}
-
-#[test]
-fn inverses_and_quotients_of_lanes(rt: HostRuntime) -> Result<(), Fail> {
-    assert_table(&rt, INVERSES)?;
-    assert_table(&rt, QUOTIENTS)
-}
-
-#[test]
 fn a_wrong_number_is_seen(rt: HostRuntime) -> Result<(), Fail> {
-    let run = line_agrees(rt.alloc(), tables::WRONG_RUN)?;
-    assert_eq!(rt; run, Some(false));
-    let inverse = line_agrees(rt.alloc(), WRONG_INVERSE)?;
-    assert_eq!(rt; inverse, Some(false));
+    let agrees = run_agrees(rt.alloc(), tables::WRONG_RUN)?;
+    assert_eq!(rt; agrees, Some(false));
     Ok(())
 }
