@@ -1,6 +1,6 @@
 //! Vectors of two values of the extension of the residues modulo 17 by `X^2 = 3`, and of two residues. Expected
 //! values by hand.
-use crate::values::{Canonical, Listed};
+use crate::values::Listed;
 use p3_extension::extension::{Binomial, ExtField, ExtensionShape, FrobeniusExtendable};
 use p3_field_traits::field::Field;
 use p3_field_traits::packed_traits::{Inhabited, Packable};
@@ -11,6 +11,7 @@ use p3_prime_fields::small::M17;
 use p3_ring::ring::{Algebra, PrimeCharacteristicRing};
 use p3_vectorized::vectorized::Vectorized;
 use p3_vectorized::vectorized_ext::VectorizedExt;
+use test_values::canonical::Canonical;
 
 /// An operation on a vector and a vector of residues, or one residue.
 #[derive(Clone, Copy)]

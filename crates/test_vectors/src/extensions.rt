@@ -1,12 +1,10 @@
-//! The calls on the values of extensions, and runs over packings of 4 and 8 of them. Each is implemented once for all
-//! markers of fields: at a marker's own name it passes the field's constants alone.
+//! Runs over packings of 4 and 8 values of extensions, implemented once for all markers of fields: at a marker's own
+//! name they pass the field's constants alone.
 use crate::packings::{ExtensionRuns, ExtensionVectors};
 use crate::runs::Run;
-use crate::value_calls::{Call, agrees};
-use crate::values::Canonical;
 use p3_extension::extension::{
-    Binomial, Cubic, CubicTrinomial, ExtField, ExtensionShape, FrobeniusExtendable,
-    IntegerPolynomial, Modulo, Septic, SepticTrinomial,
+    Binomial, Cubic, CubicTrinomial, ExtensionShape, IntegerPolynomial, Modulo, Septic,
+    SepticTrinomial,
 };
 use p3_packed_prime_fields::lanes::LaneCount;
 use p3_packed_prime_fields::packed::Packed;
@@ -16,27 +14,8 @@ use p3_prime_fields::fp::Fp;
 use p3_prime_fields::polynomial_constants::PolynomialConstants;
 use std::alloc::{AllocError, Global};
 
-/// Whether a call on the values of an extension of F gives what is told. Nothing is read of `_room`.
-fn extension_agrees<F: FrobeniusExtendable<D, S> + Canonical, S: ExtensionShape, const D: usize>(
-    alloc: Global,
-    _room: Option<ExtField<F, D, S, F>>,
-    call: &Call<'_>,
-) -> Result<bool, AllocError> {
-    agrees::<ExtField<F, D, S, F>>(alloc, call)
-}
-
 /// The extension of degree D by the shape S, of all fields that have it.
 pub(crate) trait Extended<S: ExtensionShape, const D: usize>: Form<u32> {
-    /// A value. Of an associated type it is known that its values have room.
-    type Value: Copy;
-
-    /// Whether a call on values gives what is told. Nothing is read of `room`.
-    fn agrees(
-        alloc: Global,
-        room: Option<Self::Value>,
-        call: &Call<'_>,
-    ) -> Result<bool, AllocError>;
-
     /// Whether a run over packings P leaves what it has to. Nothing is read of `vectors`.
     fn run_agrees<P: ExtensionRuns<Fp<Self>, S, D>>(
         alloc: Global,
@@ -49,16 +28,6 @@ impl<W: OverModulus<u32>, const D: usize> Extended<Binomial<Fp<W>>, D> for W
 where
     W::Modulus: BinomialConstants<D>,
 {
-    type Value = ExtField<Fp<W>, D, Binomial<Fp<W>>, Fp<W>>;
-
-    fn agrees(
-        alloc: Global,
-        room: Option<ExtField<Fp<W>, D, Binomial<Fp<W>>, Fp<W>>>,
-        call: &Call<'_>,
-    ) -> Result<bool, AllocError> {
-        extension_agrees::<Fp<W>, Binomial<Fp<W>>, D>(alloc, room, call)
-    }
-
     fn run_agrees<P: ExtensionRuns<Fp<W>, Binomial<Fp<W>>, D>>(
         alloc: Global,
         vectors: Option<P::Vectors>,
@@ -72,16 +41,6 @@ impl<W: OverModulus<u32>, S: IntegerPolynomial<D>, const D: usize> Extended<Modu
 where
     W::Modulus: PolynomialConstants<D, S>,
 {
-    type Value = ExtField<Fp<W>, D, Modulo<S, D>, Fp<W>>;
-
-    fn agrees(
-        alloc: Global,
-        room: Option<ExtField<Fp<W>, D, Modulo<S, D>, Fp<W>>>,
-        call: &Call<'_>,
-    ) -> Result<bool, AllocError> {
-        extension_agrees::<Fp<W>, Modulo<S, D>, D>(alloc, room, call)
-    }
-
     fn run_agrees<P: ExtensionRuns<Fp<W>, Modulo<S, D>, D>>(
         alloc: Global,
         vectors: Option<P::Vectors>,

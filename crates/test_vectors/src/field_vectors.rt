@@ -1,11 +1,11 @@
 //! Vectors of three residues modulo 17, each a packing of one lane.
-use crate::values::Canonical;
 use p3_field_traits::field::Field;
 use p3_field_traits::packed_traits::{Packable, PackedValue};
 use p3_prime_fields::form::{Form, Plain};
 use p3_prime_fields::fp::Fp;
 use p3_prime_fields::small::{F17, M17};
 use p3_vectorized::vectorized::Vectorized;
+use test_values::canonical::Canonical;
 
 /// A vector of three residues.
 type Three<F> = Vectorized<F, F, 3>;

@@ -1,6 +1,5 @@
 //! Runs over vectors of packings of an extension's values, implemented once for all packings.
 use crate::runs::{Run, Vectors, run_agrees};
-use crate::values::Canonical;
 use p3_extension::extension::{
     ExtField, ExtensionOverAlgebra, ExtensionShape, FrobeniusExtendable,
 };
@@ -10,6 +9,7 @@ use p3_packed_extension::packed_ext_field::{PackedExtField, Packing};
 use p3_ring::packed_ring::PackedRing;
 use p3_ring::ring::{Algebra, PrimeCharacteristicRing};
 use std::alloc::{AllocError, Global};
+use test_values::canonical::Canonical;
 
 /// Vectors of packings P of values of an extension of F.
 pub(crate) type ExtensionVectors<F, S, P, const D: usize> = Vectors<

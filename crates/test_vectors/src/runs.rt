@@ -6,7 +6,7 @@ ghost use Rattle.p3_theory.specs.Polynomials.Polynomial.{quotient_ops};
 ghost use Rattle.p3_extension.specs.Values.{ext_ops};
 ghost use Rattle.p3_helpers.specs.Runs.{Fit, run};
 
-use crate::values::{Canonical, List, Listed, ZERO};
+use crate::values::Listed;
 use p3_extension::extension::{ExtField, ExtensionShape, FrobeniusExtendable};
 use p3_field::laws::run_lane_steps_by_coefficients;
 use p3_helpers::steps::{Step, run_steps, steps_fit};
@@ -14,6 +14,8 @@ use p3_packing_traits::extension_lanes::PackedExtensionRing;
 use p3_ring::ring::PrimeCharacteristicRing;
 use p3_vectorized::vectorized_ext::VectorizedExt;
 use std::alloc::{AllocError, Global};
+use test_values::canonical::Canonical;
+use test_values::lists::{List, ZERO};
 
 /// A run, and what the registers hold before it and after it: the lists of the lanes, one register after the
 /// other.

@@ -1,34 +1,7 @@
 //! Extension values by their coefficient lists.
-use p3_extension::extension::{ExtField, ExtensionShape, FrobeniusExtendable, HasFrobenius};
-use p3_field_traits::field::PrimeField64;
-use p3_prime_fields::form::{Form, Word};
-use p3_prime_fields::fp::Fp;
-
-/// The greatest degree of the extensions.
-pub(crate) const MOST: usize = 8;
-
-/// The coefficients of a value, from the constant one upward, and zeros from the degree on.
-pub(crate) type List = [u64; MOST];
-
-/// The coefficient list of zero.
-pub(crate) const ZERO: List = [0; MOST];
-
-/// The number at an index, zero past the end.
-fn at(list: &List, index: usize) -> u64 {
-    list.get(index).copied().unwrap_or(0)
-}
-
-/// The canonical number of a residue, and no more of a prime field.
-pub(crate) trait Canonical: Copy {
-    /// The number, which is below the order.
-    fn canonical(self) -> u64;
-}
-
-impl<W: Form<T>, T: Word> Canonical for Fp<W, T> {
-    fn canonical(self) -> u64 {
-        self.as_canonical_u64()
-    }
-}
+use p3_extension::extension::{ExtField, ExtensionShape, FrobeniusExtendable};
+use test_values::canonical::Canonical;
+use test_values::lists::{List, MOST, ZERO, at};
 
 /// Values that coefficient lists tell.
 pub(crate) trait Listed: Copy {
@@ -37,9 +10,6 @@ pub(crate) trait Listed: Copy {
 
     /// The canonical numbers of the coefficients.
     fn list(&self) -> List;
-
-    /// The inverse, or zero where there is none.
-    fn inverse_or_zero(&self) -> Self;
 }
 
 impl<F: FrobeniusExtendable<D, S> + Canonical, const D: usize, S: ExtensionShape> Listed
@@ -61,9 +31,5 @@ impl<F: FrobeniusExtendable<D, S> + Canonical, const D: usize, S: ExtensionShape
             }
         }
         list
-    }
-
-    fn inverse_or_zero(&self) -> Self {
-        self.pseudo_inv()
     }
 }

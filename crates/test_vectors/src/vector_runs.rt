@@ -1,9 +1,7 @@
 //! Runs over vectors of packings of the values of extensions, told by the rows of tables.
 use crate::extensions::{over_cubic, over_quadratic, over_quartic, over_septic};
-use crate::residues::SplitM17;
 use crate::run_tables as tables;
 use crate::runs::Run;
-use crate::texts::lists_of;
 use p3_helpers::steps::Step;
 use p3_prime_fields::baby_bear::BabyBearModulus;
 use p3_prime_fields::form::Plain;
@@ -12,6 +10,8 @@ use p3_prime_fields::small::{M2, M17, M31};
 use std::alloc::{AllocError, Global};
 use std::process::Abort;
 use std::test::Fail;
+use test_families::residues::SplitM17;
+use test_families::texts::lists_of;
 
 /// The extensions.
 #[derive(Clone, Copy)]
